@@ -1,0 +1,28 @@
+-- Document 01, 'Numbers and domain': each rule as a test. Assumes nothing.
+use Prim.Native.Nat.{ℕ, _%_}
+use mathlib.Core.Bool.{Bool, true, false, _&&_, _||_}
+use lib.Dec.{leb, eqb}
+
+-- depth 8, 10, 12
+abbrev pub depthOk : ℕ → Bool
+depthOk bits = eqb bits 8 || eqb bits 10 || eqb bits 12
+
+-- block side n is 4, 8, 16 or 32
+abbrev pub sizeOk : ℕ → Bool
+sizeOk n = eqb n 4 || eqb n 8 || eqb n 16 || eqb n 32
+
+-- modes 0 (planar), 1 (DC), 2..34
+abbrev pub modeOk : ℕ → Bool
+modeOk mode = leb mode 34
+
+-- picture sides: multiples of 8 from 8 to 4096
+abbrev pub sideOk : ℕ → Bool
+sideOk side = leb 8 side && leb side 4096 && eqb (side % 8) 0
+
+-- CTU 16, 32 or 64
+abbrev pub ctuOk : ℕ → Bool
+ctuOk ctu = eqb ctu 16 || eqb ctu 32 || eqb ctu 64
+
+-- least unit 4 or 8
+abbrev pub unitOk : ℕ → Bool
+unitOk unit = eqb unit 4 || eqb unit 8

@@ -1,0 +1,3 @@
+-- Domain: the tests of document 01's domain. Facts: what a test that holds says of the numbers.
+pub mod Domain
+pub mod Facts

@@ -1,0 +1,45 @@
+// Document 01's domain: which depths, sizes, modes, sides, CTUs and units there are, each told by one test.
+// Every door asks these and no other. Rests on the laws alone.
+ghost use mathlib.Core.Path.{_≡_};
+ghost use Rattle.domain.specs.Domain.{depthOk, sizeOk, modeOk, sideOk, ctuOk, unitOk};
+
+// Number 1: a depth of 8, 10 or 12 bits.
+pub fn depth_ok(bits: u32) -> bool
+    ensures { λ r. ⌜ r ≡ depthOk bits ⌝ }
+{
+    (bits == 8) | (bits == 10) | (bits == 12)
+}
+
+// Number 2: a block's side of 4, 8, 16 or 32.
+pub fn size_ok(n: usize) -> bool
+    ensures { λ r. ⌜ r ≡ sizeOk n ⌝ }
+{
+    (n == 4) | (n == 8) | (n == 16) | (n == 32)
+}
+
+// Number 3: a mode of 0 to 34.
+pub fn mode_ok(mode: u8) -> bool
+    ensures { λ r. ⌜ r ≡ modeOk mode ⌝ }
+{
+    mode <= 34
+}
+
+// Number 4: a picture's side, a multiple of 8 from 8 to 4096, and a CTU of 16, 32 or 64.
+pub fn side_ok(side: u32) -> bool
+    ensures { λ r. ⌜ r ≡ sideOk side ⌝ }
+{
+    (side >= 8) & (side <= 4096) & (side % 8 == 0)
+}
+
+pub fn ctu_ok(ctu: u32) -> bool
+    ensures { λ r. ⌜ r ≡ ctuOk ctu ⌝ }
+{
+    (ctu == 16) | (ctu == 32) | (ctu == 64)
+}
+
+// Number 6: a least unit of 4 or 8.
+pub fn unit_ok(unit: u32) -> bool
+    ensures { λ r. ⌜ r ≡ unitOk unit ⌝ }
+{
+    (unit == 4) | (unit == 8)
+}
