@@ -26,3 +26,10 @@ ctuOk ctu = eqb ctu 16 || eqb ctu 32 || eqb ctu 64
 -- least unit 4 or 8
 abbrev pub unitOk : ℕ → Bool
 unitOk unit = eqb unit 4 || eqb unit 8
+
+-- least entries of a reference row, at a predictor for side n and at the smoothing functions
+abbrev pub predictorRow : ℕ → ℕ
+predictorRow n = 65
+
+abbrev pub smoothingRow : ℕ
+smoothingRow = 65

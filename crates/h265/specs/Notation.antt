@@ -1,7 +1,9 @@
 -- The notation of H.265, clauses 5 and 8.4.4.2: shifts that round down, Log2, Clip1, and the neighbours p[x][y] of a block. Assumes nothing.
 use Prim.Native.Nat.{ℕ, zero, suc, _-_, _/_, _%_, _^_, min}
 use mathlib.Core.Bool.{Bool, true, false, cond}
+use mathlib.Core.List.{List}
 use lib.Dec.{ltb}
+use lib.ListN.{getD}
 use lib.IntN.{ℤ, pos, negsuc}
 use lib.Signed.{shrZ}
 
@@ -17,6 +19,10 @@ near nb (negsuc x) (negsuc y) = nb .corner
 near nb (pos x) (negsuc y) = nb .above x
 near nb (negsuc x) (pos y) = nb .left y
 near nb (pos x) (pos y) = 0
+
+-- the neighbours that a corner and two rows of samples give; past a row's end is 0
+abbrev pub fromRows : ℕ → List ℕ → List ℕ → Neighbours
+fromRows corner above left = record { corner = corner; above = λ x. getD above x 0; left = λ y. getD left y 0 }
 
 -- z >> k of a whole number, and of a natural one
 infixl 5 _>>_
