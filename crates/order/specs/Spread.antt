@@ -1,0 +1,84 @@
+-- 6.5.2's inner sum, one coordinate at a time: the bits of a number, each at twice its place. Assumes nothing.
+use mathlib.Core.Path.{_≡_, refl, sym, ap, ap₂, _∙_}
+use Prim.Native.Nat.{ℕ, zero, suc, _+_, _-_, _*_, _/_, _%_, _^_, _≤_, _<_}
+use native.Mathlib.Nat.{div-eq-of-lt, pow-suc, add-suc, add-zero, mod-lt, div-add-mod'}
+use native.Mathlib.Omega.{arith}
+use lib.Arith.{mod-mul}
+use lib.Pow.{pow-pos}
+use Rattle.h265.specs.Notation.{_>>ℕ_}
+use Rattle.h265.specs.Order.{interleaved, zScan}
+use Rattle.order.specs.Cells.{half-half, quad, dbl}
+
+unfoldable pub spread : ℕ → ℕ → ℕ
+spread zero v = 0
+spread (suc i) v = spread i v + v / 2 ^ i % 2 * 4 ^ i
+
+pub interleaved-spread : (k x y : ℕ) → interleaved k x y ≡ spread k x + 2 * spread k y
+unfolding interleaved spread
+interleaved-spread zero x y = refl
+interleaved-spread (suc k) x y = omega (arith, interleaved-spread k x y)
+
+-- bits above the number's own are 0
+top : (j v : ℕ) → v < 2 ^ j → spread (suc j) v ≡ spread j v
+unfolding spread
+top j v l = rw (div-eq-of-lt l) (omega arith)
+
+pub spread-more : (k v d : ℕ) → v < 2 ^ k → spread (k + d) v ≡ spread k v
+spread-more k v zero h = ap (λ (j : ℕ). spread j v) (add-zero k)
+spread-more k v (suc d) h =
+    ap (λ (j : ℕ). spread j v) (add-suc k d) ∙ top (k + d) v (below d) ∙ spread-more k v d h
+  where
+    below : (e : ℕ) → v < 2 ^ (k + e)
+    below zero = rw (add-zero k) h
+    below (suc e) = rw (add-suc k e, pow-suc 2 (k + e)) (omega (arith, below e))
+
+-- only the last k bits count
+spread-half : (k v : ℕ) → spread (suc k) v ≡ 4 * spread k (v / 2) + v % 2
+unfolding spread
+spread-half zero v = omega arith
+spread-half (suc k) v =
+    let b : v / 2 ^ suc k % 2 * 4 ^ suc k ≡ 4 * (v / 2 / 2 ^ k % 2 * 4 ^ k) = quad (v / 2 ^ suc k % 2) k ∙ ap (λ (u : ℕ). 4 * (u % 2 * 4 ^ k)) (sym (half-half k v)) in
+    omega (arith, spread-half k v)
+
+half-mod : (k v : ℕ) → v % 2 ^ suc k / 2 ≡ v / 2 % 2 ^ k
+half-mod k v =
+    let m = mod-mul v {m = 2 ^ k} {c = 2} (pow-pos k) (omega arith) in
+    let e : 2 ^ suc k ≡ 2 ^ k * 2 = omega arith in
+    ap (λ (u : ℕ). v % u / 2) e ∙ omega (arith, m)
+
+low-mod : (k v : ℕ) → v % 2 ^ suc k % 2 ≡ v % 2
+low-mod k v =
+    let m = mod-mul v {m = 2 ^ k} {c = 2} (pow-pos k) (omega arith) in
+    let e : 2 ^ suc k ≡ 2 ^ k * 2 = omega arith in
+    ap (λ (u : ℕ). v % u % 2) e ∙ omega (arith, m)
+
+pub spread-mod : (k v : ℕ) → spread k (v % 2 ^ k) ≡ spread k v
+spread-mod zero v = unfold spread in refl
+spread-mod (suc k) v =
+    let a = spread-half k (v % 2 ^ suc k) in
+    let b = ap (spread k) (half-mod k v) ∙ spread-mod k (v / 2) in
+    omega (arith, a, b, spread-half k v, low-mod k v)
+
+-- four bits are enough for the cell's place in its CTU
+pub spread-four : (k v : ℕ) → k ≤ 4 → spread 4 (v % 2 ^ k) ≡ spread k v
+spread-four k v h =
+    let e : k + (4 - k) ≡ 4 = omega arith in
+    ap (λ (j : ℕ). spread j (v % 2 ^ k)) (sym e) ∙ spread-more k (v % 2 ^ k) (4 - k) (mod-lt v (pow-pos k)) ∙ spread-mod k v
+
+pub square-pow : (k : ℕ) → 2 ^ k * 2 ^ k ≡ 4 ^ k
+square-pow zero = refl
+square-pow (suc k) = rw (pow-suc 2 k, pow-suc 4 k) (omega (arith, square-pow k))
+
+-- what is left of a cell's coordinate in its CTU
+pub rest : (k v cells : ℕ) → cells ≡ 2 ^ k → v - v / 2 ^ k * cells ≡ v % 2 ^ k
+rest k v cells e = rw e (omega (arith, div-add-mod' v (2 ^ k)))
+
+-- the number as the code makes it
+pub number-is : (k w x y cells a b : ℕ) → k ≤ 4 → cells ≡ 2 ^ k → a ≡ spread 4 (y - y / 2 ^ k * cells) → b ≡ spread 4 (x - x / 2 ^ k * cells)
+    → (y / 2 ^ k * w + x / 2 ^ k) * (cells * cells) + 2 * a + b ≡ zScan k w x y
+unfolding zScan
+number-is k w x y cells a b h e p q =
+    let c : cells * cells ≡ 4 ^ k = rw e (square-pow k) in
+    let r : a ≡ spread k y = p ∙ ap (spread 4) (rest k y cells e) ∙ spread-four k y h in
+    let s : b ≡ spread k x = q ∙ ap (spread 4) (rest k x cells e) ∙ spread-four k x h in
+    rw (c, r, s, interleaved-spread k x y) (omega arith)

@@ -1,0 +1,169 @@
+// Decode order of a picture's cells (H.265 6.5.2) and which luma neighbours are available (document 01, module 2).
+// Rests on the domain's tests and on the kinds of places.
+ghost use mathlib.Core.Path.{_≡_};
+ghost use Prim.Native.Nat.{ℕ, _+_, _-_, _*_, _/_, _^_, _≤_, _<_};
+ghost use Rattle.h265.specs.Notation.{log2};
+ghost use Rattle.h265.specs.Order.{zScan, widthInCtbs};
+ghost use Rattle.order.specs.Order.{gridOf, numberAt, orderNo, orderDoor, before, availDoor};
+ghost use Rattle.order.specs.Good.{Good, Power, Small, shiftsOf};
+ghost use Rattle.order.specs.Spread.{spread};
+
+use fmt::{LumaCol, LumaRow};
+
+// A picture as the order sees it: its luma sides, its CTU and its least unit.
+pub struct Picture {
+    pub width: u32,
+    pub height: u32,
+    pub ctu: u32,
+    pub unit: u32,
+}
+
+// A luma neighbour's place, which may lie outside the picture.
+pub struct LumaNeighbour {
+    pub row: i64,
+    pub col: i64,
+}
+
+// A call's number, 0 for done, and its value, 0 where it is refused.
+pub struct Numbered {
+    pub no: u32,
+    pub value: u32,
+}
+
+// A call's number, and its flag, false where it is refused.
+pub struct Flagged {
+    pub no: u32,
+    pub yes: bool,
+}
+
+// The picture's grid as the code goes by it: shifts from samples to cells and from cells to CTUs, the cells along a CTU,
+// and the CTUs in a row.
+struct Shifts {
+    unit: u32,
+    levels: u32,
+    cells: usize,
+    ctus: usize,
+}
+
+// Log2 of a CTU or a unit.
+fn log2_of(side: u32) -> u32
+    requires { ⌜ Power side ⌝ }
+    ensures { λ r. ⌜ r ≡ log2 side ⌝ }
+{
+    match side {
+        4 => 2,
+        8 => 3,
+        16 => 4,
+        32 => 5,
+        _ => 6,
+    }
+}
+
+fn shifts_of(p: Picture) -> Shifts
+    requires { ⌜ Good p ⌝ }
+    ensures { λ r. ⌜ r ≡ shiftsOf p ⌝ }
+{
+    let unit = log2_of(p.unit);
+    let ctb = log2_of(p.ctu);
+    Shifts {
+        unit,
+        levels: ctb - unit,
+        cells: (p.ctu as usize) >> unit,
+        ctus: ((p.width as usize) + (p.ctu as usize) - 1) >> ctb,
+    }
+}
+
+// The last four bits of a number, each at twice its place.
+fn spread_of(v: usize) -> usize
+    requires { ⌜ v < 16 ⌝ }
+    ensures { λ r. ⌜ (r ≡ spread 4 v) × (r < 256) ⌝ }
+{
+    v % 2 + 4 * (v / 2 % 2) + 16 * (v / 4 % 2) + 64 * (v / 8 % 2)
+}
+
+// The number of the cell that holds the sample at (row, col): its CTU in raster order, and its place in the CTU.
+fn number(s: Shifts, row: usize, col: usize) -> usize
+    requires { ⌜ Small s × (row < 8192) × (col < 8192) ⌝ }
+    ensures { λ r. ⌜ r ≡ zScan (s .levels) (s .ctus) (col / 2 ^ s .unit) (row / 2 ^ s .unit) ⌝ }
+{
+    let y = row >> s.unit;
+    let x = col >> s.unit;
+    let ctu_y = y >> s.levels;
+    let ctu_x = x >> s.levels;
+    let in_y = spread_of(y - ctu_y * s.cells);
+    let in_x = spread_of(x - ctu_x * s.cells);
+    (ctu_y * s.ctus + ctu_x) * (s.cells * s.cells) + 2 * in_y + in_x
+}
+
+// The number that refuses a place, or 0.
+fn order_no(p: Picture, row: LumaRow, col: LumaCol) -> u32
+    ensures { λ r. ⌜ r ≡ orderNo p row col ⌝ }
+{
+    if !(domain::side_ok(p.width) & domain::side_ok(p.height) & domain::ctu_ok(p.ctu)) {
+        return 4;
+    }
+    if !(domain::unit_ok(p.unit) & (row.0 < p.height) & (col.0 < p.width)) {
+        return 6;
+    }
+    0
+}
+
+pub fn decode_order(r: LumaRow, c: LumaCol, picture: Picture) -> Numbered
+    ensures { λ a. ⌜ a ≡ orderDoor picture r c ⌝ }
+{
+    let no = order_no(picture, r, c);
+    if no != 0 {
+        return Numbered { no, value: 0 };
+    }
+    let s = shifts_of(picture);
+    let value = number(s, r.0 as usize, c.0 as usize);
+    Numbered {
+        no: 0,
+        value: value as u32,
+    }
+}
+
+// Whether a place is in the picture and has a number below limit.
+fn comes_before(p: Picture, limit: usize, at: LumaNeighbour) -> bool
+    requires { ⌜ Good p ⌝ }
+    ensures { λ r. ⌜ r ≡ before p limit (at .row) (at .col) ⌝ }
+{
+    if at.row < 0 {
+        return false;
+    }
+    if at.col < 0 {
+        return false;
+    }
+    let row = at.row as usize;
+    let col = at.col as usize;
+    if row >= (p.height as usize) {
+        return false;
+    }
+    if col >= (p.width as usize) {
+        return false;
+    }
+    number(shifts_of(p), row, col) < limit
+}
+
+pub fn is_available(
+    neighbour: LumaNeighbour,
+    block_row: LumaRow,
+    block_col: LumaCol,
+    picture: Picture,
+) -> Flagged
+    ensures { λ a. ⌜ a ≡ availDoor picture neighbour «block_row» «block_col» ⌝ }
+{
+    let no = order_no(picture, block_row, block_col);
+    if no != 0 {
+        return Flagged { no, yes: false };
+    }
+    let cur = number(
+        shifts_of(picture),
+        block_row.0 as usize,
+        block_col.0 as usize,
+    );
+    Flagged {
+        no: 0,
+        yes: comes_before(picture, cur, neighbour),
+    }
+}
