@@ -3,7 +3,7 @@ use mathlib.Core.Path.{_≡_, refl, sym, ap, ap₂, _∙_, subst}
 use mathlib.Core.Bool.{Bool, true, false, _&&_}
 use mathlib.Core.Logic.{⊎-elim, _⊎_, inl, inr}
 use Prim.Native.Nat.{ℕ, zero, suc, _+_, _-_, _*_, _/_, _%_, _^_, _≤_, _<_}
-use native.Mathlib.Nat.{lt-div-mul-add, div-lt-iff-lt-mul, le-div-iff-mul-le, mul-le-mul, pow-le-pow-right}
+use native.Mathlib.Nat.{lt-div-mul-add, div-lt-iff-lt-mul, le-div-iff-mul-le, div-eq-of-eq-mul-left, mul-comm, mul-le-mul, pow-le-pow-right}
 use native.Mathlib.Omega.{arith}
 use lib.Dec.{ltb}
 use borrow.Author.Tests.{ltb-true}
@@ -134,6 +134,22 @@ number-small {p} g {row} {col} hr hc =
 abbrev pub shiftsOf : Picture → Shifts
 shiftsOf p = record { unit = log2 (p .unit); levels = levels p; cells = 2 ^ levels p; ctus = ctusIn p }
 
+-- the code's own way to them
+pub shifts-are : {p : Picture} → Good p → (a b : ℕ) → a ≡ log2 (p .unit) → b ≡ log2 (p .ctu)
+    → _≡_ {A = Shifts} (record { unit = a; levels = b - a; cells = p .ctu / 2 ^ a; ctus = (p .width + p .ctu - 1) / 2 ^ b }) (shiftsOf p)
+shifts-are {p} g a b ea eb =
+    let s = sized g in
+    let pos : 0 < p .unit = omega arith in
+    let cells : p .ctu / 2 ^ a ≡ 2 ^ levels p = ap (λ (k : ℕ). p .ctu / 2 ^ k) ea ∙ ap (λ (u : ℕ). p .ctu / u) (s .unit-is) ∙ div-eq-of-eq-mul-left pos (sym (s .split) ∙ mul-comm (p .unit) (2 ^ levels p)) in
+    let ctus : (p .width + p .ctu - 1) / 2 ^ b ≡ ctusIn p = ap (λ (k : ℕ). (p .width + p .ctu - 1) / 2 ^ k) eb ∙ ap (λ (u : ℕ). (p .width + u - 1) / 2 ^ log2 (p .ctu)) (sym (s .ctu-is)) in
+    let levels : b - a ≡ log2 (p .ctu) - log2 (p .unit) = ap₂ (λ (x y : ℕ). x - y) eb ea in
+    λ i. record { unit = ea i; levels = levels i; cells = cells i; ctus = ctus i }
+
+-- a number found by the shifts is the place's own
+pub number-of : (p : Picture) (s : Shifts) (v row col : ℕ) → s ≡ shiftsOf p → v ≡ zScan (s .levels) (s .ctus) (col / 2 ^ s .unit) (row / 2 ^ s .unit) → v ≡ numberAt p row col
+unfolding numberAt minTbAddrZs
+number-of p s v row col e h = h ∙ ap (λ (t : Shifts). zScan (t .levels) (t .ctus) (col / 2 ^ t .unit) (row / 2 ^ t .unit)) e
+
 -- bounds that these keep
 pub record Small (s : Shifts) : Type 0 where
   pub unit : s .unit ≤ 3
@@ -146,3 +162,6 @@ small {p} g =
     let s = sized g in
     let v = ctus-cover g in
     record { unit = s .bounds .7; levels = s .bounds .0; cells = refl; ctus = v .1 }
+
+pub small-of : {p : Picture} → Good p → (s : Shifts) → s ≡ shiftsOf p → Small s
+small-of g s e = subst Small (sym e) (small g)

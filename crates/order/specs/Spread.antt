@@ -1,7 +1,7 @@
 -- 6.5.2's inner sum, one coordinate at a time: the bits of a number, each at twice its place. Assumes nothing.
 use mathlib.Core.Path.{_≡_, refl, sym, ap, ap₂, _∙_}
 use Prim.Native.Nat.{ℕ, zero, suc, _+_, _-_, _*_, _/_, _%_, _^_, _≤_, _<_}
-use native.Mathlib.Nat.{div-eq-of-lt, pow-suc, add-suc, add-zero, mod-lt, div-add-mod'}
+use native.Mathlib.Nat.{div-eq-of-lt, pow-suc, add-suc, add-zero, mod-lt, div-add-mod', div-le-self, mul-le-mul, pow-le-pow-right}
 use native.Mathlib.Omega.{arith}
 use lib.Arith.{mod-mul}
 use lib.Pow.{pow-pos}
@@ -74,11 +74,24 @@ pub rest : (k v cells : ℕ) → cells ≡ 2 ^ k → v - v / 2 ^ k * cells ≡ v
 rest k v cells e = rw e (omega (arith, div-add-mod' v (2 ^ k)))
 
 -- the number as the code makes it
-pub number-is : (k w x y cells a b : ℕ) → k ≤ 4 → cells ≡ 2 ^ k → a ≡ spread 4 (y - y / 2 ^ k * cells) → b ≡ spread 4 (x - x / 2 ^ k * cells)
-    → (y / 2 ^ k * w + x / 2 ^ k) * (cells * cells) + 2 * a + b ≡ zScan k w x y
+pub number-is : (k w x y cells a b : ℕ) → cells ≡ 2 ^ k → a ≡ spread k y → b ≡ spread k x → (y / 2 ^ k * w + x / 2 ^ k) * (cells * cells) + 2 * a + b ≡ zScan k w x y
 unfolding zScan
-number-is k w x y cells a b h e p q =
+number-is k w x y cells a b e p q =
     let c : cells * cells ≡ 4 ^ k = rw e (square-pow k) in
-    let r : a ≡ spread k y = p ∙ ap (spread 4) (rest k y cells e) ∙ spread-four k y h in
-    let s : b ≡ spread k x = q ∙ ap (spread 4) (rest k x cells e) ∙ spread-four k x h in
-    rw (c, r, s, interleaved-spread k x y) (omega arith)
+    rw (c, p, q, interleaved-spread k x y) (omega arith)
+
+-- and its bounds
+pub record Room (k w x y cells : ℕ) : Type 0 where
+  pub row : y / 2 ^ k * w ≤ 1048576
+  pub square : cells * cells ≤ 256
+  pub all : (y / 2 ^ k * w + x / 2 ^ k) * (cells * cells) ≤ 269484032
+
+pub room : (k w x y cells : ℕ) → k ≤ 4 → cells ≡ 2 ^ k → y < 4096 → x < 4096 → w ≤ 256 → Room k w x y cells
+room k w x y cells h e hy hx hw =
+    let d : cells ≤ 16 = rw e (pow-le-pow-right (omega arith) h) in
+    let a : y / 2 ^ k ≤ 4096 = omega (arith, div-le-self y (2 ^ k)) in
+    let b : x / 2 ^ k ≤ 4096 = omega (arith, div-le-self x (2 ^ k)) in
+    let r : y / 2 ^ k * w ≤ 4096 * 256 = mul-le-mul a hw in
+    let c : cells * cells ≤ 16 * 16 = mul-le-mul d d in
+    let s : y / 2 ^ k * w + x / 2 ^ k ≤ 1052672 = omega arith in
+    record { row = omega arith; square = omega arith; all = omega (arith, mul-le-mul s c) }

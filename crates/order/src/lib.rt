@@ -2,6 +2,7 @@
 // Rests on the domain's tests and on the kinds of places.
 ghost use mathlib.Core.Path.{_≡_};
 ghost use Prim.Native.Nat.{ℕ, _+_, _-_, _*_, _/_, _^_, _≤_, _<_};
+ghost use lib.IntN.{pos};
 ghost use Rattle.h265.specs.Notation.{log2};
 ghost use Rattle.h265.specs.Order.{zScan, widthInCtbs};
 ghost use Rattle.order.specs.Order.{gridOf, numberAt, orderNo, orderDoor, before, availDoor};
@@ -81,18 +82,30 @@ fn spread_of(v: usize) -> usize
     v % 2 + 4 * (v / 2 % 2) + 16 * (v / 4 % 2) + 64 * (v / 8 % 2)
 }
 
-// The number of the cell that holds the sample at (row, col): its CTU in raster order, and its place in the CTU.
+// The last k bits of a number, each at twice its place.
+fn inner(v: usize, k: u32, cells: usize) -> usize
+    requires { ⌜ (k ≤ 4) × (cells ≡ 2 ^ k) × (v < 65536) ⌝ }
+    ensures { λ r. ⌜ (r ≡ spread k v) × (r < 256) ⌝ }
+{
+    spread_of(v - (v >> k) * cells)
+}
+
+// The number of the cell in row y and column x of cells: its CTU in raster order, and its place in the CTU.
+fn cell_number(y: usize, x: usize, k: u32, cells: usize, ctus: usize) -> usize
+    requires { ⌜ (k ≤ 4) × (cells ≡ 2 ^ k) × (y < 4096) × (x < 4096) × (ctus ≤ 256) ⌝ }
+    ensures { λ r. ⌜ r ≡ zScan k ctus x y ⌝ }
+{
+    let ctu = (y >> k) * ctus + (x >> k);
+    ctu * (cells * cells) + 2 * inner(y, k, cells) + inner(x, k, cells)
+}
+
+// The number of the cell that holds the sample at (row, col).
 fn number(s: Shifts, row: usize, col: usize) -> usize
-    requires { ⌜ Small s × (row < 8192) × (col < 8192) ⌝ }
+    requires { ⌜ Small s × (row < 4096) × (col < 4096) ⌝ }
     ensures { λ r. ⌜ r ≡ zScan (s .levels) (s .ctus) (col / 2 ^ s .unit) (row / 2 ^ s .unit) ⌝ }
 {
-    let y = row >> s.unit;
-    let x = col >> s.unit;
-    let ctu_y = y >> s.levels;
-    let ctu_x = x >> s.levels;
-    let in_y = spread_of(y - ctu_y * s.cells);
-    let in_x = spread_of(x - ctu_x * s.cells);
-    (ctu_y * s.ctus + ctu_x) * (s.cells * s.cells) + 2 * in_y + in_x
+    let unit = s.unit;
+    cell_number(row >> unit, col >> unit, s.levels, s.cells, s.ctus)
 }
 
 // The number that refuses a place, or 0.
@@ -124,18 +137,10 @@ pub fn decode_order(r: LumaRow, c: LumaCol, picture: Picture) -> Numbered
 }
 
 // Whether a place is in the picture and has a number below limit.
-fn comes_before(p: Picture, limit: usize, at: LumaNeighbour) -> bool
+fn inside_before(p: Picture, limit: usize, row: usize, col: usize) -> bool
     requires { ⌜ Good p ⌝ }
-    ensures { λ r. ⌜ r ≡ before p limit (at .row) (at .col) ⌝ }
+    ensures { λ r. ⌜ r ≡ before p limit (pos row) (pos col) ⌝ }
 {
-    if at.row < 0 {
-        return false;
-    }
-    if at.col < 0 {
-        return false;
-    }
-    let row = at.row as usize;
-    let col = at.col as usize;
     if row >= (p.height as usize) {
         return false;
     }
@@ -143,6 +148,20 @@ fn comes_before(p: Picture, limit: usize, at: LumaNeighbour) -> bool
         return false;
     }
     number(shifts_of(p), row, col) < limit
+}
+
+// The same of a place that may have a number below 0.
+fn comes_before(p: Picture, limit: usize, row: i64, col: i64) -> bool
+    requires { ⌜ Good p ⌝ }
+    ensures { λ r. ⌜ r ≡ before p limit row col ⌝ }
+{
+    if row < 0 {
+        return false;
+    }
+    if col < 0 {
+        return false;
+    }
+    inside_before(p, limit, row as usize, col as usize)
 }
 
 pub fn is_available(
@@ -164,6 +183,6 @@ pub fn is_available(
     );
     Flagged {
         no: 0,
-        yes: comes_before(picture, cur, neighbour),
+        yes: comes_before(picture, cur, neighbour.row, neighbour.col),
     }
 }

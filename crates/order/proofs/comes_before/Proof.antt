@@ -1,54 +1,30 @@
+-- `order::comes_before` meets its contract: a coordinate below 0, or natural ones.
+use mathlib.Core.Path.{_≡_, ap₂, _∙_}
+use mir.ValLaws.{toZ-ofZ}
+use mir.Syntax.{w64}
+use Rattle.order.specs.Order.{before}
+use Rattle.order.specs.Signs.{low-row, low-col, natural, casts}
 use borrow.Author.Needs.{needs}
 use Rattle.order.proofs.comes_before.Statement.{statement}
 use Rattle.order.proofs.comes_before.Tie as tie
-use Rattle.order.proofs.comes_before.Reads as reads
-use Rattle.order.proofs.comes_before.Lts as lts
-use Rattle.order.proofs.number.Reads as number-reads
-use Rattle.order.proofs.shifts_of.Reads as shifts-of-reads
 
--- src/lib.rt:132:9
 returns : tie.Need-returns
-returns c = ?
+returns c = low-row _ _ _ _ _ (toZ-ofZ w64 (c .before .args .row) (c .before .fits .row)) (c .if1 .taken)
 
--- src/lib.rt:135:9
 returns-2 : tie.Need-returns-2
-returns-2 c = ?
+returns-2 c = low-col _ _ _ _ _ (toZ-ofZ w64 (c .before .before .args .col) (c .before .before .fits .col)) (c .if2 .taken)
 
--- src/lib.rt:137:15
-cast-row : tie.Need-cast-row
-cast-row c = ?
+cast-inside-before : tie.Need-cast-inside-before
+cast-inside-before c = casts _ _ (toZ-ofZ w64 (c .before .before .args .row) (c .before .before .fits .row)) (c .before .if1 .left) (c .before .before .fits .row)
 
--- src/lib.rt:138:15
-cast-col : tie.Need-cast-col
-cast-col c = ?
+cast-inside-before-2 : tie.Need-cast-inside-before-2
+cast-inside-before-2 c = casts _ _ (toZ-ofZ w64 (c .before .before .args .col) (c .before .before .fits .col)) (c .if2 .left) (c .before .before .fits .col)
 
--- src/lib.rt:139:16
-cast-if3 : tie.Need-cast-if3
-cast-if3 c = search needs
+inside-before-requires : tie.Need-inside-before-requires
+inside-before-requires c κs = search needs
 
--- src/lib.rt:140:9
 returns-3 : tie.Need-returns-3
-returns-3 c = ?
-
--- src/lib.rt:142:16
-cast-if4 : tie.Need-cast-if4
-cast-if4 c = search needs
-
--- src/lib.rt:143:9
-returns-4 : tie.Need-returns-4
-returns-4 c = ?
-
--- src/lib.rt:145:12
-shifts-of-requires : tie.Need-shifts-of-requires
-shifts-of-requires c κs = search needs
-
--- src/lib.rt:145:5
-number-requires : tie.Need-number-requires
-number-requires c κs = ?
-
--- src/lib.rt:127:1
-returns-5 : tie.Need-returns-5
-returns-5 c = ?
+returns-3 c = c .inside-before .ensures ∙ ap₂ (before (c .before .before .before .args .p) (c .before .before .before .args .limit)) (natural _ _ (toZ-ofZ w64 (c .before .before .before .args .row) (c .before .before .before .fits .row)) (c .before .before .if1 .left)) (natural _ _ (toZ-ofZ w64 (c .before .before .before .args .col) (c .before .before .before .fits .col)) (c .before .if2 .left))
 
 pub comes-before-spec : {M : Type 1} → statement M
 comes-before-spec =
@@ -56,12 +32,7 @@ comes-before-spec =
     (tie.spec
     returns
     returns-2
-    cast-row
-    cast-col
-    cast-if3
-    returns-3
-    cast-if4
-    returns-4
-    shifts-of-requires
-    number-requires
-    returns-5)
+    cast-inside-before
+    cast-inside-before-2
+    inside-before-requires
+    returns-3)

@@ -1,44 +1,48 @@
+-- `order::is_available` meets its contract: refused by its number, or the neighbour held against the block's own number.
+use mir.ValLaws.{toZ-ofZ}
+use mir.Syntax.{w64}
+use Rattle.order.specs.Signs.{avail-is}
+use mathlib.Core.Path.{_≡_, sym, _∙_}
+use native.Mathlib.Omega.{arith}
+use borrow.Author.Tests.{ne-eqb}
+use Rattle.order.specs.Order.{availDoor}
+use Rattle.order.specs.Good.{Good, good-of, small-of, number-of, number-small}
 use borrow.Author.Needs.{needs}
 use Rattle.order.proofs.is_available.Statement.{statement}
 use Rattle.order.proofs.is_available.Tie as tie
-use Rattle.order.proofs.is_available.Reads as reads
-use Rattle.order.proofs.is_available.Lts as lts
-use Rattle.order.proofs.comes_before.Reads as comes-before-reads
-use Rattle.order.proofs.number.Reads as number-reads
-use Rattle.order.proofs.order_no.Reads as order-no-reads
-use Rattle.order.proofs.shifts_of.Reads as shifts-of-reads
 
--- src/lib.rt:156:9
 order-no-requires : tie.Need-order-no-requires
 order-no-requires c κs = search needs
 
--- src/lib.rt:158:9
 returns : tie.Need-returns
-returns c = ?
+unfolding availDoor
+returns c = simp (← c .before .order-no .ensures, ne-eqb _ _ (c .if1 .taken))
 
--- src/lib.rt:161:9
 shifts-of-requires : tie.Need-shifts-of-requires
-shifts-of-requires c κs = ?
+shifts-of-requires c κs = good-of _ _ _ (sym (c .before .order-no .ensures) ∙ c .if1 .left) .0
 
--- src/lib.rt:162:9
 cast-number : tie.Need-cast-number
 cast-number c = search needs
 
--- src/lib.rt:163:9
 cast-number-2 : tie.Need-cast-number-2
 cast-number-2 c = search needs
 
--- src/lib.rt:160:9
 number-requires : tie.Need-number-requires
-number-requires c κs = ?
+number-requires c κs = 
+    let g = good-of _ _ _ (sym (c .before .before .before .before .order-no .ensures) ∙ c .before .before .before .if1 .left) in
+    (small-of (g .0) _ (c .before .before .shifts-of .ensures), omega (arith, g .0 .tall .high), omega (arith, g .0 .wide .high))
 
--- src/lib.rt:167:14
 comes-before-requires : tie.Need-comes-before-requires
-comes-before-requires c κs = ?
+comes-before-requires c κs = good-of _ _ _ (sym (c .before .before .before .before .before .before .before .order-no .ensures) ∙ c .before .before .before .before .before .before .if1 .left) .0
 
--- src/lib.rt:148:1
 returns-2 : tie.Need-returns-2
-returns-2 c = ?
+returns-2 c = 
+    let a = c .before .before .before .before .before .before .before .before .before .args in
+    avail-is (a .picture) (a .neighbour) (a .block-row) (a .block-col) _ _ _ _ (sym (c .before .before .before .before .before .before .before .before .order-no .ensures) ∙ c .before .before .before .before .before .before .before .if1 .left)
+    (number-of (c .before .before .before .before .before .before .before .before .before .args .picture) _ _ (c .before .before .before .before .before .before .before .before .before .args .block-row .0) (c .before .before .before .before .before .before .before .before .before .args .block-col .0) (c .before .before .before .before .before .before .shifts-of .ensures) (c .before .before .before .number .ensures))
+    (toZ-ofZ w64 (a .neighbour .row) (record { sfits = c .before .before .struct-told .given .0 .1 }))
+    (toZ-ofZ w64 (a .neighbour .col) (record { sfits = c .before .struct-told2 .given .1 .0 .1 }))
+    (c .comes-before .ensures)
 
 pub is-available-spec : {M : Type 1} → statement M
 is-available-spec =

@@ -1,27 +1,36 @@
+-- `order::log2_of` meets its contract: at each side the logarithm computes.
+use mathlib.Core.Path.{_≡_, refl, sym, subst}
+use mathlib.Core.Logic.{⊎-elim}
+use Prim.Native.Nat.{ℕ}
+use native.Mathlib.Omega.{arith}
+use Rattle.h265.specs.Notation.{log2, halvings}
+use Rattle.order.specs.Good.{Power}
 use Rattle.order.proofs.log2_of.Statement.{statement}
 use Rattle.order.proofs.log2_of.Tie as tie
-use Rattle.order.proofs.log2_of.Reads as reads
-use Rattle.order.proofs.log2_of.Lts as lts
 
--- src/lib.rt:49:1
 returns : tie.Need-returns
-returns c = ?
+unfolding halvings
+returns c = rw (c .match .keys1)
 
--- src/lib.rt:49:1
 returns-2 : tie.Need-returns-2
-returns-2 c = ?
+unfolding halvings
+returns-2 c = rw (c .match .keys2)
 
--- src/lib.rt:49:1
 returns-3 : tie.Need-returns-3
-returns-3 c = ?
+unfolding halvings
+returns-3 c = rw (c .match .keys3)
 
--- src/lib.rt:49:1
 returns-4 : tie.Need-returns-4
-returns-4 c = ?
+unfolding halvings
+returns-4 c = rw (c .match .keys4)
 
--- src/lib.rt:49:1
 returns-5 : tie.Need-returns-5
-returns-5 c = ?
+unfolding halvings
+returns-5 c = 
+    let x = c .before .args .side in
+    let r = c .match .rest in
+    let e : x ≡ 64 = ⊎-elim (λ h. ⊎-elim (λ k. absurd (r .0 .1 k)) (λ k. ⊎-elim (λ l. absurd (r .1 l)) (λ l. l) k) h) (λ h. ⊎-elim (λ k. absurd (r .0 .0 .0 .1 k)) (λ k. absurd (r .0 .0 .1 k)) h) (c .before .pre) in
+    rw e
 
 pub log2-of-spec : {M : Type 1} → statement M
 log2-of-spec = tie.close (tie.spec returns returns-2 returns-3 returns-4 returns-5)

@@ -1,39 +1,39 @@
+-- `order::order_no` meets its contract, test by test.
+use mathlib.Core.Path.{_≡_, refl, sym, ap, ap₂, _∙_}
+use mathlib.Core.Bool.{Bool, true, false, not, _&&_}
+use borrow.Author.Tests.{not-true, not-false}
+use Rattle.laws.specs.Choose.{if-yes, if-no}
+use Rattle.order.specs.Order.{pictureOk, placeOk, orderNo}
 use borrow.Author.Needs.{needs}
 use Rattle.order.proofs.order_no.Statement.{statement}
 use Rattle.order.proofs.order_no.Tie as tie
-use Rattle.order.proofs.order_no.Reads as reads
-use Rattle.order.proofs.order_no.Lts as lts
-use Rattle.domain.proofs.ctu_ok.Reads as ctu-ok-reads
-use Rattle.domain.proofs.side_ok.Reads as side-ok-reads
-use Rattle.domain.proofs.unit_ok.Reads as unit-ok-reads
 
--- src/lib.rt:102:10
+joined : {a b c x y z : Bool} → a ≡ x → b ≡ y → c ≡ z → (a && b && c) ≡ (x && y && z)
+joined p q r = ap₂ (λ (u v : Bool). u && v) (ap₂ (λ (u v : Bool). u && v) p q) r
+
 side-ok-requires : tie.Need-side-ok-requires
 side-ok-requires c κs = search needs
 
--- src/lib.rt:102:37
 side-ok-requires-2 : tie.Need-side-ok-requires-2
 side-ok-requires-2 c κs = search needs
 
--- src/lib.rt:102:65
 ctu-ok-requires : tie.Need-ctu-ok-requires
 ctu-ok-requires c κs = search needs
 
--- src/lib.rt:103:9
 returns : tie.Need-returns
-returns c = ?
+unfolding orderNo
+returns c = if-no (pictureOk (c .before .before .before .before .args .p)) _ 4 4 (sym (joined (c .before .before .before .side-ok .ensures) (c .before .before .side-ok2 .ensures) (c .before .ctu-ok .ensures)) ∙ not-true _ (c .if1 .taken)) refl
 
--- src/lib.rt:105:10
 unit-ok-requires : tie.Need-unit-ok-requires
 unit-ok-requires c κs = search needs
 
--- src/lib.rt:106:9
 returns-2 : tie.Need-returns-2
-returns-2 c = ?
+unfolding orderNo
+returns-2 c = if-yes (pictureOk (c .before .before .before .before .before .before .before .before .before .before .args .p)) _ 4 6 (sym (joined (c .before .before .before .before .before .before .before .before .before .side-ok .ensures) (c .before .before .before .before .before .before .before .before .side-ok2 .ensures) (c .before .before .before .before .before .before .before .ctu-ok .ensures)) ∙ not-false _ (c .before .before .before .before .before .before .if1 .left)) (if-no (placeOk (c .before .before .before .before .before .before .before .before .before .before .args .p) (c .before .before .before .before .before .before .before .before .before .before .args .row .0) (c .before .before .before .before .before .before .before .before .before .before .args .col .0)) 0 6 6 (sym (joined (c .before .before .before .before .before .unit-ok .ensures) refl refl) ∙ not-true _ (c .if2 .taken)) refl)
 
--- src/lib.rt:99:1
 returns-3 : tie.Need-returns-3
-returns-3 c = ?
+unfolding orderNo
+returns-3 c = if-yes (pictureOk (c .before .before .before .before .before .before .before .before .before .before .args .p)) _ 4 0 (sym (joined (c .before .before .before .before .before .before .before .before .before .side-ok .ensures) (c .before .before .before .before .before .before .before .before .side-ok2 .ensures) (c .before .before .before .before .before .before .before .ctu-ok .ensures)) ∙ not-false _ (c .before .before .before .before .before .before .if1 .left)) (if-yes (placeOk (c .before .before .before .before .before .before .before .before .before .before .args .p) (c .before .before .before .before .before .before .before .before .before .before .args .row .0) (c .before .before .before .before .before .before .before .before .before .before .args .col .0)) 0 6 0 (sym (joined (c .before .before .before .before .before .unit-ok .ensures) refl refl) ∙ not-false _ (c .if2 .left)) refl)
 
 pub order-no-spec : {M : Type 1} → statement M
 order-no-spec =
