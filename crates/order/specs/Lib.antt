@@ -4,3 +4,5 @@ pub mod Cells
 pub mod Good
 pub mod Spread
 pub mod Signs
+pub mod Laws
+pub mod Figures
