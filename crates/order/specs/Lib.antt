@@ -5,4 +5,5 @@ pub mod Good
 pub mod Spread
 pub mod Signs
 pub mod Laws
+pub mod Reach
 pub mod Figures
