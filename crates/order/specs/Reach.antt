@@ -83,12 +83,12 @@ colour Yuv420 = true
 colour Yuv422 = true
 colour Yuv444 = true
 
--- number 6: the block in its plane, the unit, and the current luma place in the luma picture; n is counted in chroma samples
+-- number 6: the block in its plane and no wider than a CTU there, the unit, and the current luma place in the luma picture
 abbrev pub chromaPlaceOk : ChromaBlock → Bool
 chromaPlaceOk b =
     let p = b .picture in
     inPlane (chromaHeight b) (chromaWidth b) (b .row .0) (b .col .0) (b .n)
-    && leb (b .n) (p .ctu) && unitOk (p .unit) && ltb (b .«cur_luma_row» .0) (p .height) && ltb (b .«cur_luma_col» .0) (p .width)
+    && leb (b .n) (p .ctu / subWidth (b .format)) && unitOk (p .unit) && ltb (b .«cur_luma_row» .0) (p .height) && ltb (b .«cur_luma_col» .0) (p .width)
 
 unfoldable pub chromaReachNo : ChromaBlock → ℕ
 chromaReachNo b = firstFail ((2 unless sizeOk (b .n)) ∷ (4 unless pictureOk (b .picture) && colour (b .format)) ∷ (6 unless chromaPlaceOk b) ∷ [])
