@@ -2,3 +2,4 @@
 pub mod Substitution
 pub mod Gather
 pub mod Door
+pub mod Shorter
