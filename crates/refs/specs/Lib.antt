@@ -3,3 +3,4 @@ pub mod Substitution
 pub mod Gather
 pub mod Door
 pub mod Shorter
+pub mod Standard

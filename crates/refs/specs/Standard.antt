@@ -1,0 +1,127 @@
+-- The luma gather of document 01 against H.265 6.4.1 and 8.4.4.2.2: for a call that is not refused the two agree on all the neighbours
+-- that the standard has, so what entry 2n of a row holds matters to no other entry. Assumes nothing.
+use mathlib.Core.Path.{_≡_, refl, sym, ap, ap₂, _∙_, subst}
+use mathlib.Core.Bool.{Bool, true, false, cond, _&&_, false≢true}
+use mathlib.Core.List.{List}
+use mathlib.Core.Logic.{_⊎_, inl, inr, ⊎-elim}
+use Prim.Native.Nat.{ℕ, zero, suc, _+_, _-_, _*_, _%_, _^_, _≤_, _<_}
+use native.Mathlib.Nat.{mul-one}
+use native.Mathlib.Omega.{arith}
+use native.Mathlib.Decide.{decLt, ℕ-discrete}
+use lib.Dec.{leb, ltb, eqb}
+use lib.IntN.{ℤ, pos, negsuc, natAbs, _+ℤ_, _-ℤ_, _*ℤ_}
+use lib.ListN.{length, getD, replicate, length-replicate, getD-replicate}
+use borrow.Author.Tests.{lt-ltb, le-ltb, le-leb, lt-leb, eq-eqb, ne-eqb, leb-true, eqb-true}
+use Rattle.laws.specs.Choose.{both-true, passed}
+use Rattle.laws.specs.Fill.{fill}
+use Rattle.laws.specs.FillLaws.{fill-at, length-fill}
+use Rattle.h265.specs.Notation.{Neighbours}
+use Rattle.h265.specs.Setting.{Grid, lumaAt}
+use Rattle.h265.specs.Availability.{available}
+use Rattle.h265.specs.Substitution.{placeX, placeY, firstMarked, settled, substitutedAt, fromPlaces, marked, neighbours}
+use Rattle.domain.specs.Domain.{depthOk, sizeOk, sideOk, ctuOk, unitOk}
+use Rattle.domain.specs.Facts.{Size, size-of, size-small, side-of, ctu-of, unit-of}
+use Rattle.fmt.specs.declared.LumaRow.{LumaRow}
+use Rattle.fmt.specs.declared.LumaCol.{LumaCol}
+use Rattle.order.specs.declared.Picture.{Picture}
+use Rattle.order.specs.Order.{gridOf, numberAt, before, availableTo, pictureOk}
+use Rattle.order.specs.Good.{Good}
+use Rattle.order.specs.Laws.{standard-agrees, own-cell-apart, before-up, before-left}
+use Rattle.order.specs.Reach.{cornerHas, aboveHas, leftHas, lumaHas, lumaPlaceOk}
+use Rattle.rows.specs.declared.Rows.{Rows}
+use Rattle.rows.specs.Neighbours.{neighboursOf}
+use Rattle.refs.specs.declared.Flags.{Flags}
+use Rattle.refs.specs.declared.LumaRefGeometry.{LumaRefGeometry}
+use Rattle.refs.specs.Substitution.{onLine, flagsOn, samplesOn, levelRows, fromLine, substituted}
+use Rattle.refs.specs.Gather.{flagsBy, samplesBy, gatheredBy, sampleOf}
+use Rattle.refs.specs.Door.{neutralAt, lumaBlock, lumaNo, lumaRows}
+use Rattle.refs.specs.Shorter.{Shared, shorter}
+
+-- two blocks of side n have the same neighbours: the corner and entries 0 to 2n - 1 of both rows
+pub record Agree (n : ℕ) (a b : Neighbours) : Type 0 where
+  pub corner : a .corner ≡ b .corner
+  pub above : (i : ℕ) → i < 2 * n → a .above i ≡ b .above i
+  pub left : (i : ℕ) → i < 2 * n → a .left i ≡ b .left i
+
+-- the places of our line
+module _ {A : Type 0} (l : ℕ → A) (c : A) (u : ℕ → A) (e : ℕ) where
+  on-left : (k i : ℕ) → k + i ≡ e → onLine l c u e k ≡ l i
+  unfolding onLine
+  on-left k i h = simp (le-leb k e (omega arith)) (ap l (omega arith))
+
+  on-corner : (k : ℕ) → k ≡ e + 1 → onLine l c u e k ≡ c
+  unfolding onLine
+  on-corner k h = simp (lt-leb k e (omega arith), eq-eqb k (e + 1) h)
+
+  on-above : (k i : ℕ) → k ≡ e + 2 + i → onLine l c u e k ≡ u i
+  unfolding onLine
+  on-above k i h = simp (lt-leb k e (omega arith), ne-eqb k (e + 1) (λ q. omega (arith, q))) (ap u (omega arith))
+
+-- place k of the standard's line is place k + 1 of ours
+on-line : {A : Type 0} (f : ℤ → ℤ → A) (n : ℕ) (l : ℕ → A) (c : A) (u : ℕ → A) → ((i : ℕ) → i < 2 * n → l i ≡ f (negsuc 0) (pos i))
+    → c ≡ f (negsuc 0) (negsuc 0) → ((i : ℕ) → i < 2 * n → u i ≡ f (pos i) (negsuc 0))
+    → (k : ℕ) → k < 4 * n + 1 → onLine l c u (2 * n) (suc k) ≡ f (placeX n k) (placeY n k)
+on-line f n l c u hl hc hu k h = go (decLt k (2 * n)) (ℕ-discrete k (2 * n))
+  where
+    go : Dec (k < 2 * n) → Dec (k ≡ 2 * n) → onLine l c u (2 * n) (suc k) ≡ f (placeX n k) (placeY n k)
+    go (yes p) _ =
+        simp (le-leb k (2 * n) (omega arith), lt-ltb k (2 * n) p)
+        (on-left l c u (2 * n) (suc k) (2 * n - 1 - k) (omega arith) ∙ hl (2 * n - 1 - k) (omega arith))
+    go (no p) (yes q) = simp (le-leb k (2 * n) (omega arith), le-ltb k (2 * n) (omega arith)) (on-corner l c u (2 * n) (suc k) (omega arith) ∙ hc)
+    go (no p) (no q) =
+        simp (lt-leb k (2 * n) (omega arith), le-ltb k (2 * n) (omega arith))
+        (on-above l c u (2 * n) (suc k) (k - (2 * n + 1)) (omega arith) ∙ hu (k - (2 * n + 1)) (omega arith))
+
+-- the rows that a line gives, at the standard's places
+rows-at : (b : Bool) (n neutral : ℕ) (f : ℕ → ℕ) (rows : Rows) → n ≤ 32 → length (rows .above) ≡ 65 → length (rows .left) ≡ 65
+    → Agree n (neighboursOf (cond b (fromLine (2 * n) f rows) (levelRows neutral))) (fromPlaces n (λ k. cond b (f (suc k)) neutral))
+rows-at true n neutral f rows h ha hl =
+    record {
+      corner = ap f (omega arith);
+      above = λ i l. fill-at _ (2 * n + 1) (rows .above) i 0 (omega arith) (omega arith) ∙ ap f (omega arith);
+      left = λ i l. fill-at _ (2 * n + 1) (rows .left) i 0 (omega arith) (omega arith) ∙ ap f (omega arith);
+    }
+rows-at false n neutral f rows h ha hl =
+    record { corner = refl; above = λ i l. getD-replicate 65 i neutral 0 (omega arith); left = λ i l. getD-replicate 65 i neutral 0 (omega arith) }
+
+-- Substitution, by any rows and flags: entry 2n of a row is there only if entry 2n - 1 is.
+pub record Closed (n : ℕ) (flags : Flags) : Type 0 where
+  pub above : getD (flags .above) (2 * n) false ≡ true → getD (flags .above) (2 * n - 1) false ≡ true
+  pub left : getD (flags .left) (2 * n) false ≡ true → getD (flags .left) (2 * n - 1) false ≡ true
+
+module _ (n neutral : ℕ) (flags : Flags) (rows : Rows) (size : (4 ≤ n) × (n ≤ 32)) (la : length (rows .above) ≡ 65) (ll : length (rows .left) ≡ 65) (closed : Closed n flags) where
+  shared : (b : ℕ → Bool) (w : ℕ → ℕ) → ((k : ℕ) → k < 4 * n + 1 → flagsOn flags (2 * n) (suc k) ≡ b k)
+      → ((k : ℕ) → k < 4 * n + 1 → b k ≡ true → w k ≡ samplesOn rows (2 * n) (suc k))
+      → Shared (flagsOn flags (2 * n)) b (samplesOn rows (2 * n)) w (4 * n + 1)
+  shared b w same value =
+      let l : ℕ → Bool = λ i. getD (flags .left) i false in
+      let u : ℕ → Bool = λ i. getD (flags .above) i false in
+      let c = flags .corner in
+      let e = 2 * n in
+      record {
+        some = omega arith;
+        same = λ k h. sym (same k h);
+        value = value;
+        low = λ h.
+            on-left l c u e 1 (e - 1) (omega arith) ∙ closed .left (sym (on-left l c u e 0 e (omega arith)) ∙ h);
+        high = λ h.
+            on-above l c u e (4 * n + 1) (e - 1) (omega arith) ∙ closed .above (sym (on-above l c u e (suc (4 * n + 1)) e (omega arith)) ∙ h);
+      }
+
+  -- the corner and entries 0 to 2n - 1 are those of 8.4.4.2.2, over any line that has the same places marked and the same samples there
+  pub substituted-standard : (bits : ℕ) (b : ℕ → Bool) (w : ℕ → ℕ) → ((k : ℕ) → k < 4 * n + 1 → flagsOn flags (2 * n) (suc k) ≡ b k)
+      → ((k : ℕ) → k < 4 * n + 1 → b k ≡ true → w k ≡ samplesOn rows (2 * n) (suc k))
+      → Agree n (neighboursOf (substituted n (neutralAt bits) flags rows)) (fromPlaces n (substitutedAt bits n b w))
+  unfolding substituted substitutedAt
+  substituted-standard bits b w same value =
+      let m = suc (suc (4 * n + 1)) in
+      let count : 2 * (2 * n) + 3 ≡ m = omega arith in
+      let found = firstMarked (flagsOn flags (2 * n)) 0 m in
+      let r = rows-at (ltb found m) n (neutralAt bits) (settled (flagsOn flags (2 * n)) (samplesOn rows (2 * n)) found) rows (size .1) la ll in
+      let s = shorter (shared b w same value) (neutralAt bits) in
+      rw count
+      (record {
+        corner = r .corner ∙ s (2 * n) (omega arith);
+        above = λ i l. r .above i l ∙ s (2 * n + 1 + i) (omega arith);
+        left = λ i l. r .left i l ∙ s (2 * n - 1 - i) (omega arith);
+      })
