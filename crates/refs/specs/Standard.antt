@@ -9,7 +9,7 @@ use native.Mathlib.Nat.{mul-one}
 use native.Mathlib.Omega.{arith}
 use native.Mathlib.Decide.{decLt, ℕ-discrete}
 use lib.Dec.{leb, ltb, eqb}
-use lib.IntN.{ℤ, pos, negsuc, natAbs, _+ℤ_, _-ℤ_, _*ℤ_}
+use lib.IntN.{ℤ, pos, negsuc, natAbs, one, _+ℤ_, _-ℤ_, _*ℤ_, -ℤ-one, *ℤ-one}
 use lib.ListN.{length, getD, replicate, length-replicate, getD-replicate}
 use borrow.Author.Tests.{lt-ltb, le-ltb, le-leb, lt-leb, eq-eqb, ne-eqb, leb-true, eqb-true}
 use Rattle.laws.specs.Choose.{both-true, passed}
@@ -89,7 +89,7 @@ pub record Closed (n : ℕ) (flags : Flags) : Type 0 where
   pub above : getD (flags .above) (2 * n) false ≡ true → getD (flags .above) (2 * n - 1) false ≡ true
   pub left : getD (flags .left) (2 * n) false ≡ true → getD (flags .left) (2 * n - 1) false ≡ true
 
-module _ (n neutral : ℕ) (flags : Flags) (rows : Rows) (size : (4 ≤ n) × (n ≤ 32)) (la : length (rows .above) ≡ 65) (ll : length (rows .left) ≡ 65) (closed : Closed n flags) where
+module _ (n : ℕ) (flags : Flags) (rows : Rows) (size : (4 ≤ n) × (n ≤ 32)) (la : length (rows .above) ≡ 65) (ll : length (rows .left) ≡ 65) (closed : Closed n flags) where
   shared : (b : ℕ → Bool) (w : ℕ → ℕ) → ((k : ℕ) → k < 4 * n + 1 → flagsOn flags (2 * n) (suc k) ≡ b k)
       → ((k : ℕ) → k < 4 * n + 1 → b k ≡ true → w k ≡ samplesOn rows (2 * n) (suc k))
       → Shared (flagsOn flags (2 * n)) b (samplesOn rows (2 * n)) w (4 * n + 1)
@@ -125,3 +125,54 @@ module _ (n neutral : ℕ) (flags : Flags) (rows : Rows) (size : (4 ≤ n) × (n
         above = λ i l. r .above i l ∙ s (2 * n + 1 + i) (omega arith);
         left = λ i l. r .left i l ∙ s (2 * n - 1 - i) (omega arith);
       })
+
+-- Places next to a block. One less than m, where that is no less than 0:
+one-less : (m r : ℕ) → pos m -ℤ pos 1 ≡ pos r → suc r ≡ m
+one-less zero r h = let q : _≡_ {A = ℕ} 0 1 = cc in absurd (omega arith)
+one-less (suc m) r h = omega (arith, ap natAbs (sym (-ℤ-one (pos (suc m))) ∙ h))
+
+times-one : (z : ℤ) → z *ℤ pos 1 ≡ z
+unfolding one
+times-one z = *ℤ-one z
+
+-- what is there lies in the picture
+there : (p : Picture) (limit : ℕ) (r c : ℤ) → before p limit r c ≡ true → (r ≡ pos (natAbs r)) × (c ≡ pos (natAbs c))
+unfolding before
+there p limit (pos r) (pos c) h = (refl, refl)
+there p limit (pos r) (negsuc c) h = absurd (false≢true h)
+there p limit (negsuc r) c h = absurd (false≢true h)
+
+-- a missing sample's value is looked at nowhere
+if-there : (b : Bool) (x y : ℕ) → (b ≡ true → x ≡ y) → cond b x 0 ≡ cond b y 0
+if-there true x y h = h refl
+if-there false x y h = refl
+
+-- availability up a column and back a row, at a place whose other coordinate may lie outside
+module _ {p : Picture} (good : Good p) (limit : ℕ) where
+  has-up : (row row′ : ℕ) (c : ℤ) → row ≤ row′ → before p limit (pos row′) c ≡ true → before p limit (pos row) c ≡ true
+  unfolding before
+  has-up row row′ (pos c) h e = before-up good limit c row row′ h e
+  has-up row row′ (negsuc c) h e = e
+
+  has-back : (r : ℤ) (col col′ : ℕ) → col ≤ col′ → before p limit r (pos col′) ≡ true → before p limit r (pos col) ≡ true
+  unfolding before
+  has-back (pos r) col col′ h e = before-left good limit r col col′ h e
+  has-back (negsuc r) col col′ h e = e
+
+-- A luma block that no gather refuses: its place is a multiple of the unit.
+module _ {p : Picture} (good : Good p) (row : LumaRow) (col : LumaCol) (row-at : row .0 % p .unit ≡ 0) (col-at : col .0 % p .unit ≡ 0) (inside : col .0 < p .width) where
+  -- 6.4.1 is 01's availability above the block and left of it
+  available-is : (r c : ℤ) → ((nr nc : ℕ) → r ≡ pos nr → c ≡ pos nc → (nr < row .0) ⊎ (nc < col .0)) → available (gridOf p) (col .0) (row .0) c r ≡ availableTo p row col r c
+  unfolding available before
+  available-is (pos nr) (pos nc) near = go (decLt nc (p .width))
+    where
+      go : Dec (nc < p .width) → available (gridOf p) (col .0) (row .0) (pos nc) (pos nr) ≡ availableTo p row col (pos nr) (pos nc)
+      go (yes l) = standard-agrees good row col nr nc (own-cell-apart good (row .0) (col .0) nr nc row-at col-at inside l (near nr nc refl refl))
+      go (no n) = simp (le-ltb nc (p .width) (omega arith)) (never (ltb nr (p .height)))
+        where
+          never : (b : Bool) → false ≡ b && false && ltb (numberAt p nr nc) (numberAt p (row .0) (col .0))
+          never true = refl
+          never false = refl
+  available-is (pos nr) (negsuc nc) near = refl
+  available-is (negsuc nr) (pos nc) near = refl
+  available-is (negsuc nr) (negsuc nc) near = refl
