@@ -142,6 +142,12 @@ there p limit (pos r) (pos c) h = (refl, refl)
 there p limit (pos r) (negsuc c) h = absurd (false≢true h)
 there p limit (negsuc r) c h = absurd (false≢true h)
 
+back : (m : ℕ) → pos m -ℤ pos 1 ≡ pos (natAbs (pos m -ℤ pos 1)) → m - 1 ≡ natAbs (pos m -ℤ pos 1)
+back m h = omega (arith, one-less m (natAbs (pos m -ℤ pos 1)) h)
+
+filled : {A : Type 0} (f : ℕ → A) (z : A) (n i : ℕ) → n ≤ 32 → i ≤ 2 * n → getD (fill f (2 * n + 1) (replicate 65 z)) i z ≡ f i
+filled f z n i h l = fill-at f (2 * n + 1) (replicate 65 z) i z (omega arith) (omega (arith, length-replicate 65 z))
+
 -- a missing sample's value is looked at nowhere
 if-there : (b : Bool) (x y : ℕ) → (b ≡ true → x ≡ y) → cond b x 0 ≡ cond b y 0
 if-there true x y h = h refl
@@ -176,3 +182,70 @@ module _ {p : Picture} (good : Good p) (row : LumaRow) (col : LumaCol) (row-at :
   available-is (pos nr) (negsuc nc) near = refl
   available-is (negsuc nr) (pos nc) near = refl
   available-is (negsuc nr) (negsuc nc) near = refl
+
+  at-one : (x y : ℕ) (c r : ℤ) → available (gridOf p) x y c r ≡ available (gridOf p) (x * 1) (y * 1) (c *ℤ pos 1) (r *ℤ pos 1)
+  at-one x y c r = rw (mul-one x, mul-one y, times-one c, times-one r)
+
+  module _ (bits n : ℕ) (size : (4 ≤ n) × (n ≤ 32)) (sample : ℕ → ℕ → ℕ) where
+    abbrev has : ℤ → ℤ → Bool
+    has = availableTo p row col
+
+    abbrev flags : Flags
+    flags = flagsBy has (row .0) (col .0) n
+
+    abbrev rows : Rows
+    rows = samplesBy has sample (row .0) (col .0) n
+
+    -- the neighbour in column x and row y from the block's first sample
+    abbrev mark : ℤ → ℤ → Bool
+    mark = marked (gridOf p) (lumaAt bits) (col .0) (row .0)
+
+    abbrev read : ℤ → ℤ → ℕ
+    read x y = sample (natAbs (pos (row .0) +ℤ y)) (natAbs (pos (col .0) +ℤ x))
+
+    mark-is : (x y : ℤ) → (y ≡ negsuc 0) ⊎ (x ≡ negsuc 0) → has (pos (row .0) +ℤ y) (pos (col .0) +ℤ x) ≡ mark x y
+    unfolding marked
+    mark-is x y off = sym (available-is (pos (row .0) +ℤ y) (pos (col .0) +ℤ x) near) ∙ at-one (col .0) (row .0) (pos (col .0) +ℤ x) (pos (row .0) +ℤ y)
+      where
+        near : (nr nc : ℕ) → pos (row .0) +ℤ y ≡ pos nr → pos (col .0) +ℤ x ≡ pos nc → (nr < row .0) ⊎ (nc < col .0)
+        near nr nc hr hc =
+            ⊎-elim
+            (λ e. inl (omega (arith, one-less (row .0) nr (ap (λ (z : ℤ). pos (row .0) +ℤ z) (sym e) ∙ hr))))
+            (λ e. inr (omega (arith, one-less (col .0) nc (ap (λ (z : ℤ). pos (col .0) +ℤ z) (sym e) ∙ hc))))
+            off
+
+    mark-at : (k : ℕ) → k < 4 * n + 1 → flagsOn flags (2 * n) (suc k) ≡ mark (placeX n k) (placeY n k)
+    mark-at =
+        on-line mark n _ _ _
+        (λ i l. filled _ false n i (size .1) (omega arith) ∙ mark-is (negsuc 0) (pos i) (inr refl))
+        (mark-is (negsuc 0) (negsuc 0) (inl refl))
+        (λ i l. filled _ false n i (size .1) (omega arith) ∙ mark-is (pos i) (negsuc 0) (inl refl))
+
+    read-is : (x y : ℤ) (r c : ℕ) → (y ≡ negsuc 0) ⊎ (x ≡ negsuc 0)
+        → (pos (row .0) +ℤ y ≡ pos (natAbs (pos (row .0) +ℤ y)) → r ≡ natAbs (pos (row .0) +ℤ y))
+        → (pos (col .0) +ℤ x ≡ pos (natAbs (pos (col .0) +ℤ x)) → c ≡ natAbs (pos (col .0) +ℤ x))
+        → cond (has (pos (row .0) +ℤ y) (pos (col .0) +ℤ x)) (sample r c) 0 ≡ cond (mark x y) (read x y) 0
+    read-is x y r c off hr hc =
+        let R = pos (row .0) +ℤ y in
+        let C = pos (col .0) +ℤ x in
+        if-there (has R C) (sample r c) (read x y) (λ e. let t = there p (numberAt p (row .0) (col .0)) R C e in ap₂ sample (hr (t .0)) (hc (t .1)))
+        ∙ ap (λ (b : Bool). cond b (read x y) 0) (mark-is x y off)
+
+    read-at : (k : ℕ) → k < 4 * n + 1 → samplesOn rows (2 * n) (suc k) ≡ cond (mark (placeX n k) (placeY n k)) (read (placeX n k) (placeY n k)) 0
+    read-at =
+        on-line (λ (x y : ℤ). cond (mark x y) (read x y) 0) n _ _ _
+        (λ i l. filled _ 0 n i (size .1) (omega arith) ∙ read-is (negsuc 0) (pos i) (row .0 + i) (col .0 - 1) (inr refl) (λ e. refl) (back (col .0)))
+        (read-is (negsuc 0) (negsuc 0) (row .0 - 1) (col .0 - 1) (inl refl) (back (row .0)) (back (col .0)))
+        (λ i l. filled _ 0 n i (size .1) (omega arith) ∙ read-is (pos i) (negsuc 0) (row .0 - 1) (col .0 + i) (inl refl) (back (row .0)) (λ e. refl))
+
+    closed : Closed n flags
+    closed =
+        let cur = numberAt p (row .0) (col .0) in
+        record {
+          above = λ e.
+              filled _ false n (2 * n - 1) (size .1) (omega arith)
+              ∙ has-back good cur (pos (row .0) -ℤ pos 1) (col .0 + (2 * n - 1)) (col .0 + 2 * n) (omega arith) (sym (filled _ false n (2 * n) (size .1) (omega arith)) ∙ e);
+          left = λ e.
+              filled _ false n (2 * n - 1) (size .1) (omega arith)
+              ∙ has-up good cur (row .0 + (2 * n - 1)) (row .0 + 2 * n) (pos (col .0) -ℤ pos 1) (omega arith) (sym (filled _ false n (2 * n) (size .1) (omega arith)) ∙ e);
+        }
