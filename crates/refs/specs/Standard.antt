@@ -20,7 +20,7 @@ use Rattle.h265.specs.Setting.{Grid, lumaAt}
 use Rattle.h265.specs.Availability.{available}
 use Rattle.h265.specs.Substitution.{placeX, placeY, firstMarked, settled, substitutedAt, fromPlaces, marked, neighbours}
 use Rattle.domain.specs.Domain.{depthOk, sizeOk, sideOk, ctuOk, unitOk}
-use Rattle.domain.specs.Facts.{Size, size-of, size-small, side-of, ctu-of, unit-of}
+use Rattle.domain.specs.Facts.{Size, Unit, size-of, size-small, at-size, side-of, ctu-of, unit-of}
 use Rattle.fmt.specs.declared.LumaRow.{LumaRow}
 use Rattle.fmt.specs.declared.LumaCol.{LumaCol}
 use Rattle.order.specs.declared.Picture.{Picture}
@@ -148,6 +148,9 @@ back m h = omega (arith, one-less m (natAbs (pos m -ℤ pos 1)) h)
 filled : {A : Type 0} (f : ℕ → A) (z : A) (n i : ℕ) → n ≤ 32 → i ≤ 2 * n → getD (fill f (2 * n + 1) (replicate 65 z)) i z ≡ f i
 filled f z n i h l = fill-at f (2 * n + 1) (replicate 65 z) i z (omega arith) (omega (arith, length-replicate 65 z))
 
+filled-length : (f : ℕ → ℕ) (n : ℕ) → length (fill f n (replicate 65 0)) ≡ 65
+filled-length f n = length-fill f n (replicate 65 0) ∙ length-replicate {A = ℕ} 65 0
+
 -- a missing sample's value is looked at nowhere
 if-there : (b : Bool) (x y : ℕ) → (b ≡ true → x ≡ y) → cond b x 0 ≡ cond b y 0
 if-there true x y h = h refl
@@ -249,3 +252,50 @@ module _ {p : Picture} (good : Good p) (row : LumaRow) (col : LumaCol) (row-at :
               filled _ false n (2 * n - 1) (size .1) (omega arith)
               ∙ has-up good cur (row .0 + (2 * n - 1)) (row .0 + 2 * n) (pos (col .0) -ℤ pos 1) (omega arith) (sym (filled _ false n (2 * n) (size .1) (omega arith)) ∙ e);
         }
+
+    gathered-standard : Agree n (neighboursOf (gatheredBy has sample (row .0) (col .0) n (neutralAt bits)))
+        (neighbours (gridOf p) (lumaAt bits) n (col .0) (row .0) (λ x y. sample y x))
+    unfolding gatheredBy neighbours
+    gathered-standard =
+        substituted-standard n flags rows size (filled-length _ (2 * n + 1)) (filled-length _ (2 * n + 1)) closed bits _ _ mark-at
+        (λ k l e. sym (read-at k l ∙ ap (λ (b : Bool). cond b (read (placeX n k) (placeY n k)) 0) e))
+
+-- a multiple of the block's side is one of the unit
+aligned : (unit n v : ℕ) → Unit unit → Size n → unit ≤ n → v % n ≡ 0 → v % unit ≡ 0
+aligned unit n v u s l e = ⊎-elim (λ q. at 4 q (at-size (λ (m : ℕ). 4 ≤ m → v % m ≡ 0 → v % 4 ≡ 0) (λ a b. omega arith) (λ a b. omega arith) (λ a b. omega arith) (λ a b. omega arith) n s))
+    (λ q. at 8 q (at-size (λ (m : ℕ). 8 ≤ m → v % m ≡ 0 → v % 8 ≡ 0) (λ a b. omega arith) (λ a b. omega arith) (λ a b. omega arith) (λ a b. omega arith) n s)) u
+  where
+    at : (k : ℕ) → unit ≡ k → (k ≤ n → v % n ≡ 0 → v % k ≡ 0) → v % unit ≡ 0
+    at k q f = subst (λ (m : ℕ). v % m ≡ 0) (sym q) (f (omega arith) e)
+
+-- the luma gather gives the neighbours of 6.4.1 and 8.4.4.2.2
+pub luma-standard : (plane : List ℕ) (g : LumaRefGeometry) → lumaNo (length plane) g ≡ 0
+    → Agree (g .n) (neighboursOf (lumaRows plane g))
+    (neighbours (gridOf (g .picture)) (lumaAt (g .bits)) (g .n) (g .«block_col» .0) (g .«block_row» .0) (λ x y. sampleOf plane (g .picture .width) y x))
+unfolding lumaNo lumaRows
+luma-standard plane g e =
+    let p = g .picture in
+    let row = g .«block_row» .0 in
+    let col = g .«block_col» .0 in
+    let depth = passed (depthOk (g .bits)) _ 1 (omega arith) e in
+    let size = passed (sizeOk (g .n)) _ 2 (omega arith) (depth .1) in
+    let picture = passed (pictureOk p) _ 4 (omega arith) (size .1) in
+    let len = passed (eqb (length plane) (p .height * p .width)) _ 5 (omega arith) (picture .1) in
+    let place = passed (lumaPlaceOk (lumaBlock g)) _ 6 (omega arith) (len .1) in
+    let ctus = both-true (sideOk (p .width) && sideOk (p .height)) (ctuOk (p .ctu)) (picture .0) in
+    let sides = both-true (sideOk (p .width)) (sideOk (p .height)) (ctus .0) in
+    let small = both-true _ (leb (p .unit) (g .n)) (place .0) in
+    let units = both-true _ (unitOk (p .unit)) (small .0) in
+    let most = both-true _ (leb (g .n) (p .ctu)) (units .0) in
+    let wide = both-true _ (leb (col + g .n) (p .width)) (most .0) in
+    let tall = both-true _ (leb (row + g .n) (p .height)) (wide .0) in
+    let at = both-true (eqb (row % g .n) 0) (eqb (col % g .n) 0) (tall .0) in
+    let good : Good p = record { wide = side-of (p .width) (sides .0); tall = side-of (p .height) (sides .1); ctus = ctu-of (p .ctu) (ctus .1); units = unit-of (p .unit) (units .1) } in
+    let s = size-of (g .n) (size .0) in
+    let l = leb-true (p .unit) (g .n) (small .1) in
+    let room = size-small (g .n) s in
+    gathered-standard good (g .«block_row») (g .«block_col»)
+    (aligned (p .unit) (g .n) row (good .units) s l (eqb-true (row % g .n) 0 (at .0)))
+    (aligned (p .unit) (g .n) col (good .units) s l (eqb-true (col % g .n) 0 (at .1)))
+    (omega (arith, leb-true (col + g .n) (p .width) (wide .1)))
+    (g .bits) (g .n) room (sampleOf plane (p .width))
