@@ -4,7 +4,7 @@ use mathlib.Core.Path.{_≡_, refl, sym, ap, ap₂, _∙_, subst}
 use mathlib.Core.Bool.{Bool, true, false, cond, _&&_, false≢true}
 use mathlib.Core.List.{List}
 use mathlib.Core.Logic.{_⊎_, inl, inr, ⊎-elim}
-use Prim.Native.Nat.{ℕ, zero, suc, _+_, _-_, _*_, _%_, _^_, _≤_, _<_}
+use Prim.Native.Nat.{ℕ, zero, suc, _+_, _-_, _*_, _%_, _≤_, _<_}
 use native.Mathlib.Nat.{mul-one}
 use native.Mathlib.Omega.{arith}
 use native.Mathlib.Decide.{decLt, ℕ-discrete}
@@ -15,8 +15,8 @@ use borrow.Author.Tests.{lt-ltb, le-ltb, le-leb, lt-leb, eq-eqb, ne-eqb, leb-tru
 use Rattle.laws.specs.Choose.{both-true, passed}
 use Rattle.laws.specs.Fill.{fill}
 use Rattle.laws.specs.FillLaws.{fill-at, length-fill}
-use Rattle.h265.specs.Notation.{Neighbours}
-use Rattle.h265.specs.Setting.{Grid, lumaAt}
+use Rattle.h265.specs.Notation.{Neighbours, near}
+use Rattle.h265.specs.Setting.{lumaAt}
 use Rattle.h265.specs.Availability.{available}
 use Rattle.h265.specs.Substitution.{placeX, placeY, firstMarked, settled, substitutedAt, fromPlaces, marked, neighbours}
 use Rattle.domain.specs.Domain.{depthOk, sizeOk, sideOk, ctuOk, unitOk}
@@ -27,7 +27,7 @@ use Rattle.order.specs.declared.Picture.{Picture}
 use Rattle.order.specs.Order.{gridOf, numberAt, before, availableTo, pictureOk}
 use Rattle.order.specs.Good.{Good}
 use Rattle.order.specs.Laws.{standard-agrees, own-cell-apart, before-up, before-left}
-use Rattle.order.specs.Reach.{cornerHas, aboveHas, leftHas, lumaHas, lumaPlaceOk}
+use Rattle.order.specs.Reach.{lumaPlaceOk}
 use Rattle.rows.specs.declared.Rows.{Rows}
 use Rattle.rows.specs.Neighbours.{neighboursOf}
 use Rattle.refs.specs.declared.Flags.{Flags}
@@ -72,16 +72,21 @@ on-line f n l c u hl hc hu k h = go (decLt k (2 * n)) (ℕ-discrete k (2 * n))
         simp (lt-leb k (2 * n) (omega arith), le-ltb k (2 * n) (omega arith))
         (on-above l c u (2 * n) (suc k) (k - (2 * n + 1)) (omega arith) ∙ hu (k - (2 * n + 1)) (omega arith))
 
+-- rows have 65 entries
+pub record Full (rows : Rows) : Type 0 where
+  pub above : length (rows .above) ≡ 65
+  pub left : length (rows .left) ≡ 65
+
 -- the rows that a line gives, at the standard's places
-rows-at : (b : Bool) (n neutral : ℕ) (f : ℕ → ℕ) (rows : Rows) → n ≤ 32 → length (rows .above) ≡ 65 → length (rows .left) ≡ 65
+rows-at : (b : Bool) (n neutral : ℕ) (f : ℕ → ℕ) {rows : Rows} → n ≤ 32 → Full rows
     → Agree n (neighboursOf (cond b (fromLine (2 * n) f rows) (levelRows neutral))) (fromPlaces n (λ k. cond b (f (suc k)) neutral))
-rows-at true n neutral f rows h ha hl =
+rows-at true n neutral f {rows} h full =
     record {
       corner = ap f (omega arith);
       above = λ i l. fill-at _ (2 * n + 1) (rows .above) i 0 (omega arith) (omega arith) ∙ ap f (omega arith);
       left = λ i l. fill-at _ (2 * n + 1) (rows .left) i 0 (omega arith) (omega arith) ∙ ap f (omega arith);
     }
-rows-at false n neutral f rows h ha hl =
+rows-at false n neutral f h full =
     record { corner = refl; above = λ i l. getD-replicate 65 i neutral 0 (omega arith); left = λ i l. getD-replicate 65 i neutral 0 (omega arith) }
 
 -- Substitution, by any rows and flags: entry 2n of a row is there only if entry 2n - 1 is.
@@ -89,7 +94,7 @@ pub record Closed (n : ℕ) (flags : Flags) : Type 0 where
   pub above : getD (flags .above) (2 * n) false ≡ true → getD (flags .above) (2 * n - 1) false ≡ true
   pub left : getD (flags .left) (2 * n) false ≡ true → getD (flags .left) (2 * n - 1) false ≡ true
 
-module _ (n : ℕ) (flags : Flags) (rows : Rows) (size : (4 ≤ n) × (n ≤ 32)) (la : length (rows .above) ≡ 65) (ll : length (rows .left) ≡ 65) (closed : Closed n flags) where
+module _ (n : ℕ) (flags : Flags) (rows : Rows) (size : (4 ≤ n) × (n ≤ 32)) (full : Full rows) (closed : Closed n flags) where
   shared : (b : ℕ → Bool) (w : ℕ → ℕ) → ((k : ℕ) → k < 4 * n + 1 → flagsOn flags (2 * n) (suc k) ≡ b k)
       → ((k : ℕ) → k < 4 * n + 1 → b k ≡ true → w k ≡ samplesOn rows (2 * n) (suc k))
       → Shared (flagsOn flags (2 * n)) b (samplesOn rows (2 * n)) w (4 * n + 1)
@@ -117,7 +122,7 @@ module _ (n : ℕ) (flags : Flags) (rows : Rows) (size : (4 ≤ n) × (n ≤ 32)
       let m = suc (suc (4 * n + 1)) in
       let count : 2 * (2 * n) + 3 ≡ m = omega arith in
       let found = firstMarked (flagsOn flags (2 * n)) 0 m in
-      let r = rows-at (ltb found m) n (neutralAt bits) (settled (flagsOn flags (2 * n)) (samplesOn rows (2 * n)) found) rows (size .1) la ll in
+      let r = rows-at (ltb found m) n (neutralAt bits) (settled (flagsOn flags (2 * n)) (samplesOn rows (2 * n)) found) (size .1) full in
       let s = shorter (shared b w same value) (neutralAt bits) in
       rw count
       (record {
@@ -125,6 +130,22 @@ module _ (n : ℕ) (flags : Flags) (rows : Rows) (size : (4 ≤ n) × (n ≤ 32)
         above = λ i l. r .above i l ∙ s (2 * n + 1 + i) (omega arith);
         left = λ i l. r .left i l ∙ s (2 * n - 1 - i) (omega arith);
       })
+
+-- so what entry 2n held does not matter to the others
+pub last-free : (n bits : ℕ) (flags : Flags) (rows rows′ : Rows) → (4 ≤ n) × (n ≤ 32) → Full rows → Full rows′ → Closed n flags
+    → Agree n (neighboursOf rows) (neighboursOf rows′)
+    → Agree n (neighboursOf (substituted n (neutralAt bits) flags rows)) (neighboursOf (substituted n (neutralAt bits) flags rows′))
+last-free n bits flags rows rows′ size full full′ closed same =
+    let line : ℕ → ℕ = λ k. near (neighboursOf rows′) (placeX n k) (placeY n k) in
+    let a = substituted-standard n flags rows size full closed bits (λ k. flagsOn flags (2 * n) (suc k)) line (λ k l. refl)
+        (λ k l e. sym (on-line (near (neighboursOf rows′)) n _ _ _ (same .left) (same .corner) (same .above) k l)) in
+    let b = substituted-standard n flags rows′ size full′ closed bits (λ k. flagsOn flags (2 * n) (suc k)) line (λ k l. refl)
+        (λ k l e. sym (on-line (near (neighboursOf rows′)) n _ _ _ (λ i l. refl) refl (λ i l. refl) k l)) in
+    record {
+      corner = a .corner ∙ sym (b .corner);
+      above = λ i l. a .above i l ∙ sym (b .above i l);
+      left = λ i l. a .left i l ∙ sym (b .left i l);
+    }
 
 -- Places next to a block. One less than m, where that is no less than 0:
 one-less : (m r : ℕ) → pos m -ℤ pos 1 ≡ pos r → suc r ≡ m
@@ -257,7 +278,7 @@ module _ {p : Picture} (good : Good p) (row : LumaRow) (col : LumaCol) (row-at :
         (neighbours (gridOf p) (lumaAt bits) n (col .0) (row .0) (λ x y. sample y x))
     unfolding gatheredBy neighbours
     gathered-standard =
-        substituted-standard n flags rows size (filled-length _ (2 * n + 1)) (filled-length _ (2 * n + 1)) closed bits _ _ mark-at
+        substituted-standard n flags rows size (record { above = filled-length _ (2 * n + 1); left = filled-length _ (2 * n + 1) }) closed bits _ _ mark-at
         (λ k l e. sym (read-at k l ∙ ap (λ (b : Bool). cond b (read (placeX n k) (placeY n k)) 0) e))
 
 -- a multiple of the block's side is one of the unit
