@@ -72,7 +72,7 @@ on-line f n l c u hl hc hu k h = go (decLt k (2 * n)) (ℕ-discrete k (2 * n))
         simp (lt-leb k (2 * n) (omega arith), le-ltb k (2 * n) (omega arith))
         (on-above l c u (2 * n) (suc k) (k - (2 * n + 1)) (omega arith) ∙ hu (k - (2 * n + 1)) (omega arith))
 
--- rows have 65 entries
+-- rows as 01 has them, of 65 entries
 pub record Full (rows : Rows) : Type 0 where
   pub above : length (rows .above) ≡ 65
   pub left : length (rows .left) ≡ 65
@@ -131,16 +131,21 @@ module _ (n : ℕ) (flags : Flags) (rows : Rows) (size : (4 ≤ n) × (n ≤ 32)
         left = λ i l. r .left i l ∙ s (2 * n - 1 - i) (omega arith);
       })
 
+  -- the neighbours that the rows hold, on the standard's line
+  by-neighbours : (bits : ℕ) (nb : Neighbours) → Agree n (neighboursOf rows) nb
+      → Agree n (neighboursOf (substituted n (neutralAt bits) flags rows))
+      (fromPlaces n (substitutedAt bits n (λ k. flagsOn flags (2 * n) (suc k)) (λ k. near nb (placeX n k) (placeY n k))))
+  by-neighbours bits nb same =
+      substituted-standard bits _ _ (λ k l. refl) (λ k l e. sym (on-line (near nb) n _ _ _ (same .left) (same .corner) (same .above) k l))
+
 -- so what entry 2n held does not matter to the others
 pub last-free : (n bits : ℕ) (flags : Flags) (rows rows′ : Rows) → (4 ≤ n) × (n ≤ 32) → Full rows → Full rows′ → Closed n flags
     → Agree n (neighboursOf rows) (neighboursOf rows′)
     → Agree n (neighboursOf (substituted n (neutralAt bits) flags rows)) (neighboursOf (substituted n (neutralAt bits) flags rows′))
 last-free n bits flags rows rows′ size full full′ closed same =
-    let line : ℕ → ℕ = λ k. near (neighboursOf rows′) (placeX n k) (placeY n k) in
-    let a = substituted-standard n flags rows size full closed bits (λ k. flagsOn flags (2 * n) (suc k)) line (λ k l. refl)
-        (λ k l e. sym (on-line (near (neighboursOf rows′)) n _ _ _ (same .left) (same .corner) (same .above) k l)) in
-    let b = substituted-standard n flags rows′ size full′ closed bits (λ k. flagsOn flags (2 * n) (suc k)) line (λ k l. refl)
-        (λ k l e. sym (on-line (near (neighboursOf rows′)) n _ _ _ (λ i l. refl) refl (λ i l. refl) k l)) in
+    let own : Agree n (neighboursOf rows′) (neighboursOf rows′) = record { corner = refl; above = λ i l. refl; left = λ i l. refl } in
+    let a = by-neighbours n flags rows size full closed bits (neighboursOf rows′) same in
+    let b = by-neighbours n flags rows′ size full′ closed bits (neighboursOf rows′) own in
     record {
       corner = a .corner ∙ sym (b .corner);
       above = λ i l. a .above i l ∙ sym (b .above i l);
@@ -189,15 +194,22 @@ module _ {p : Picture} (good : Good p) (limit : ℕ) where
   has-back (pos r) col col′ h e = before-left good limit r col col′ h e
   has-back (negsuc r) col col′ h e = e
 
--- A luma block that no gather refuses: its place is a multiple of the unit.
-module _ {p : Picture} (good : Good p) (row : LumaRow) (col : LumaCol) (row-at : row .0 % p .unit ≡ 0) (col-at : col .0 % p .unit ≡ 0) (inside : col .0 < p .width) where
+-- a luma block that no gather refuses: it is in its picture, at a multiple of the unit, so that no neighbour shares its cell
+pub record Placed (p : Picture) (row : LumaRow) (col : LumaCol) (n : ℕ) : Type 0 where
+  pub good : Good p
+  pub size : (4 ≤ n) × (n ≤ 32)
+  pub row-at : row .0 % p .unit ≡ 0
+  pub col-at : col .0 % p .unit ≡ 0
+  pub inside : col .0 < p .width
+
+module _ {p : Picture} {row : LumaRow} {col : LumaCol} {n : ℕ} (placed : Placed p row col n) where
   -- 6.4.1 is 01's availability above the block and left of it
   available-is : (r c : ℤ) → ((nr nc : ℕ) → r ≡ pos nr → c ≡ pos nc → (nr < row .0) ⊎ (nc < col .0)) → available (gridOf p) (col .0) (row .0) c r ≡ availableTo p row col r c
   unfolding available before
   available-is (pos nr) (pos nc) near = go (decLt nc (p .width))
     where
       go : Dec (nc < p .width) → available (gridOf p) (col .0) (row .0) (pos nc) (pos nr) ≡ availableTo p row col (pos nr) (pos nc)
-      go (yes l) = standard-agrees good row col nr nc (own-cell-apart good (row .0) (col .0) nr nc row-at col-at inside l (near nr nc refl refl))
+      go (yes l) = standard-agrees (placed .good) row col nr nc (own-cell-apart (placed .good) (row .0) (col .0) nr nc (placed .row-at) (placed .col-at) (placed .inside) l (near nr nc refl refl))
       go (no n) = simp (le-ltb nc (p .width) (omega arith)) (never (ltb nr (p .height)))
         where
           never : (b : Bool) → false ≡ b && false && ltb (numberAt p nr nc) (numberAt p (row .0) (col .0))
@@ -210,7 +222,7 @@ module _ {p : Picture} (good : Good p) (row : LumaRow) (col : LumaCol) (row-at :
   at-one : (x y : ℕ) (c r : ℤ) → available (gridOf p) x y c r ≡ available (gridOf p) (x * 1) (y * 1) (c *ℤ pos 1) (r *ℤ pos 1)
   at-one x y c r = rw (mul-one x, mul-one y, times-one c, times-one r)
 
-  module _ (bits n : ℕ) (size : (4 ≤ n) × (n ≤ 32)) (sample : ℕ → ℕ → ℕ) where
+  module _ (bits : ℕ) (sample : ℕ → ℕ → ℕ) where
     abbrev has : ℤ → ℤ → Bool
     has = availableTo p row col
 
@@ -241,9 +253,9 @@ module _ {p : Picture} (good : Good p) (row : LumaRow) (col : LumaCol) (row-at :
     mark-at : (k : ℕ) → k < 4 * n + 1 → flagsOn flags (2 * n) (suc k) ≡ mark (placeX n k) (placeY n k)
     mark-at =
         on-line mark n _ _ _
-        (λ i l. filled _ false n i (size .1) (omega arith) ∙ mark-is (negsuc 0) (pos i) (inr refl))
+        (λ i l. filled _ false n i (placed .size .1) (omega arith) ∙ mark-is (negsuc 0) (pos i) (inr refl))
         (mark-is (negsuc 0) (negsuc 0) (inl refl))
-        (λ i l. filled _ false n i (size .1) (omega arith) ∙ mark-is (pos i) (negsuc 0) (inl refl))
+        (λ i l. filled _ false n i (placed .size .1) (omega arith) ∙ mark-is (pos i) (negsuc 0) (inl refl))
 
     read-is : (x y : ℤ) (r c : ℕ) → (y ≡ negsuc 0) ⊎ (x ≡ negsuc 0)
         → (pos (row .0) +ℤ y ≡ pos (natAbs (pos (row .0) +ℤ y)) → r ≡ natAbs (pos (row .0) +ℤ y))
@@ -258,51 +270,54 @@ module _ {p : Picture} (good : Good p) (row : LumaRow) (col : LumaCol) (row-at :
     read-at : (k : ℕ) → k < 4 * n + 1 → samplesOn rows (2 * n) (suc k) ≡ cond (mark (placeX n k) (placeY n k)) (read (placeX n k) (placeY n k)) 0
     read-at =
         on-line (λ (x y : ℤ). cond (mark x y) (read x y) 0) n _ _ _
-        (λ i l. filled _ 0 n i (size .1) (omega arith) ∙ read-is (negsuc 0) (pos i) (row .0 + i) (col .0 - 1) (inr refl) (λ e. refl) (back (col .0)))
+        (λ i l. filled _ 0 n i (placed .size .1) (omega arith) ∙ read-is (negsuc 0) (pos i) (row .0 + i) (col .0 - 1) (inr refl) (λ e. refl) (back (col .0)))
         (read-is (negsuc 0) (negsuc 0) (row .0 - 1) (col .0 - 1) (inl refl) (back (row .0)) (back (col .0)))
-        (λ i l. filled _ 0 n i (size .1) (omega arith) ∙ read-is (pos i) (negsuc 0) (row .0 - 1) (col .0 + i) (inl refl) (back (row .0)) (λ e. refl))
+        (λ i l. filled _ 0 n i (placed .size .1) (omega arith) ∙ read-is (pos i) (negsuc 0) (row .0 - 1) (col .0 + i) (inl refl) (back (row .0)) (λ e. refl))
 
     closed : Closed n flags
     closed =
         let cur = numberAt p (row .0) (col .0) in
         record {
           above = λ e.
-              filled _ false n (2 * n - 1) (size .1) (omega arith)
-              ∙ has-back good cur (pos (row .0) -ℤ pos 1) (col .0 + (2 * n - 1)) (col .0 + 2 * n) (omega arith) (sym (filled _ false n (2 * n) (size .1) (omega arith)) ∙ e);
+              filled _ false n (2 * n - 1) (placed .size .1) (omega arith)
+              ∙ has-back (placed .good) cur (pos (row .0) -ℤ pos 1) (col .0 + (2 * n - 1)) (col .0 + 2 * n) (omega arith) (sym (filled _ false n (2 * n) (placed .size .1) (omega arith)) ∙ e);
           left = λ e.
-              filled _ false n (2 * n - 1) (size .1) (omega arith)
-              ∙ has-up good cur (row .0 + (2 * n - 1)) (row .0 + 2 * n) (pos (col .0) -ℤ pos 1) (omega arith) (sym (filled _ false n (2 * n) (size .1) (omega arith)) ∙ e);
+              filled _ false n (2 * n - 1) (placed .size .1) (omega arith)
+              ∙ has-up (placed .good) cur (row .0 + (2 * n - 1)) (row .0 + 2 * n) (pos (col .0) -ℤ pos 1) (omega arith) (sym (filled _ false n (2 * n) (placed .size .1) (omega arith)) ∙ e);
         }
 
     gathered-standard : Agree n (neighboursOf (gatheredBy has sample (row .0) (col .0) n (neutralAt bits)))
         (neighbours (gridOf p) (lumaAt bits) n (col .0) (row .0) (λ x y. sample y x))
     unfolding gatheredBy neighbours
     gathered-standard =
-        substituted-standard n flags rows size (record { above = filled-length _ (2 * n + 1); left = filled-length _ (2 * n + 1) }) closed bits _ _ mark-at
+        substituted-standard n flags rows (placed .size) (record { above = filled-length _ (2 * n + 1); left = filled-length _ (2 * n + 1) }) closed bits _ _ mark-at
         (λ k l e. sym (read-at k l ∙ ap (λ (b : Bool). cond b (read (placeX n k) (placeY n k)) 0) e))
 
 -- a multiple of the block's side is one of the unit
 aligned : (unit n v : ℕ) → Unit unit → Size n → unit ≤ n → v % n ≡ 0 → v % unit ≡ 0
-aligned unit n v u s l e = ⊎-elim (λ q. at 4 q (at-size (λ (m : ℕ). 4 ≤ m → v % m ≡ 0 → v % 4 ≡ 0) (λ a b. omega arith) (λ a b. omega arith) (λ a b. omega arith) (λ a b. omega arith) n s))
-    (λ q. at 8 q (at-size (λ (m : ℕ). 8 ≤ m → v % m ≡ 0 → v % 8 ≡ 0) (λ a b. omega arith) (λ a b. omega arith) (λ a b. omega arith) (λ a b. omega arith) n s)) u
+aligned unit n v u s l e = ⊎-elim (at 4 four) (at 8 eight) u
   where
-    at : (k : ℕ) → unit ≡ k → (k ≤ n → v % n ≡ 0 → v % k ≡ 0) → v % unit ≡ 0
-    at k q f = subst (λ (m : ℕ). v % m ≡ 0) (sym q) (f (omega arith) e)
+    four : 4 ≤ n → v % n ≡ 0 → v % 4 ≡ 0
+    four = at-size (λ (m : ℕ). 4 ≤ m → v % m ≡ 0 → v % 4 ≡ 0) (λ a b. b) (λ a b. omega arith) (λ a b. omega arith) (λ a b. omega arith) n s
 
--- the luma gather gives the neighbours of 6.4.1 and 8.4.4.2.2
-pub luma-standard : (plane : List ℕ) (g : LumaRefGeometry) → lumaNo (length plane) g ≡ 0
-    → Agree (g .n) (neighboursOf (lumaRows plane g))
-    (neighbours (gridOf (g .picture)) (lumaAt (g .bits)) (g .n) (g .«block_col» .0) (g .«block_row» .0) (λ x y. sampleOf plane (g .picture .width) y x))
-unfolding lumaNo lumaRows
-luma-standard plane g e =
+    eight : 8 ≤ n → v % n ≡ 0 → v % 8 ≡ 0
+    eight = at-size (λ (m : ℕ). 8 ≤ m → v % m ≡ 0 → v % 8 ≡ 0) (λ a b. omega arith) (λ a b. b) (λ a b. omega arith) (λ a b. omega arith) n s
+
+    at : (k : ℕ) → (k ≤ n → v % n ≡ 0 → v % k ≡ 0) → unit ≡ k → v % unit ≡ 0
+    at k f q = subst (λ (m : ℕ). v % m ≡ 0) (sym q) (f (omega arith) e)
+
+-- what the gather's number 0 says
+placed-of : (len : ℕ) (g : LumaRefGeometry) → lumaNo len g ≡ 0 → Placed (g .picture) (g .«block_row») (g .«block_col») (g .n)
+unfolding lumaNo
+placed-of len g e =
     let p = g .picture in
     let row = g .«block_row» .0 in
     let col = g .«block_col» .0 in
     let depth = passed (depthOk (g .bits)) _ 1 (omega arith) e in
     let size = passed (sizeOk (g .n)) _ 2 (omega arith) (depth .1) in
     let picture = passed (pictureOk p) _ 4 (omega arith) (size .1) in
-    let len = passed (eqb (length plane) (p .height * p .width)) _ 5 (omega arith) (picture .1) in
-    let place = passed (lumaPlaceOk (lumaBlock g)) _ 6 (omega arith) (len .1) in
+    let long = passed (eqb len (p .height * p .width)) _ 5 (omega arith) (picture .1) in
+    let place = passed (lumaPlaceOk (lumaBlock g)) _ 6 (omega arith) (long .1) in
     let ctus = both-true (sideOk (p .width) && sideOk (p .height)) (ctuOk (p .ctu)) (picture .0) in
     let sides = both-true (sideOk (p .width)) (sideOk (p .height)) (ctus .0) in
     let small = both-true _ (leb (p .unit) (g .n)) (place .0) in
@@ -311,12 +326,21 @@ luma-standard plane g e =
     let wide = both-true _ (leb (col + g .n) (p .width)) (most .0) in
     let tall = both-true _ (leb (row + g .n) (p .height)) (wide .0) in
     let at = both-true (eqb (row % g .n) 0) (eqb (col % g .n) 0) (tall .0) in
-    let good : Good p = record { wide = side-of (p .width) (sides .0); tall = side-of (p .height) (sides .1); ctus = ctu-of (p .ctu) (ctus .1); units = unit-of (p .unit) (units .1) } in
-    let s = size-of (g .n) (size .0) in
+    let unit = unit-of (p .unit) (units .1) in
+    let side = size-of (g .n) (size .0) in
+    let room = size-small (g .n) side in
     let l = leb-true (p .unit) (g .n) (small .1) in
-    let room = size-small (g .n) s in
-    gathered-standard good (g .«block_row») (g .«block_col»)
-    (aligned (p .unit) (g .n) row (good .units) s l (eqb-true (row % g .n) 0 (at .0)))
-    (aligned (p .unit) (g .n) col (good .units) s l (eqb-true (col % g .n) 0 (at .1)))
-    (omega (arith, leb-true (col + g .n) (p .width) (wide .1)))
-    (g .bits) (g .n) room (sampleOf plane (p .width))
+    record {
+      good = record { wide = side-of (p .width) (sides .0); tall = side-of (p .height) (sides .1); ctus = ctu-of (p .ctu) (ctus .1); units = unit };
+      size = room;
+      row-at = aligned (p .unit) (g .n) row unit side l (eqb-true (row % g .n) 0 (at .0));
+      col-at = aligned (p .unit) (g .n) col unit side l (eqb-true (col % g .n) 0 (at .1));
+      inside = omega (arith, leb-true (col + g .n) (p .width) (wide .1));
+    }
+
+-- the luma gather gives the neighbours of 6.4.1 and 8.4.4.2.2
+pub luma-standard : (plane : List ℕ) (g : LumaRefGeometry) → lumaNo (length plane) g ≡ 0
+    → Agree (g .n) (neighboursOf (lumaRows plane g))
+    (neighbours (gridOf (g .picture)) (lumaAt (g .bits)) (g .n) (g .«block_col» .0) (g .«block_row» .0) (λ x y. sampleOf plane (g .picture .width) y x))
+unfolding lumaRows
+luma-standard plane g e = gathered-standard (placed-of (length plane) g e) (g .bits) (sampleOf plane (g .picture .width))
