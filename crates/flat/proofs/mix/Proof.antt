@@ -1,0 +1,23 @@
+use Rattle.flat.proofs.mix.Statement.{statement}
+use Rattle.flat.proofs.mix.Tie as tie
+use Rattle.flat.proofs.mix.Reads as reads
+use Rattle.flat.proofs.mix.Lts as lts
+
+-- src/lib.rt:45:5
+mul-result : tie.Need-mul-result
+mul-result c = ?
+
+-- src/lib.rt:45:22
+mul-result-2 : tie.Need-mul-result-2
+mul-result-2 c = ?
+
+-- src/lib.rt:45:5
+add-result : tie.Need-add-result
+add-result c = ?
+
+-- src/lib.rt:41:1
+returns : tie.Need-returns
+returns c = ?
+
+pub mix-spec : {M : Type 1} → statement M
+mix-spec = tie.close (tie.spec mul-result mul-result-2 add-result returns)

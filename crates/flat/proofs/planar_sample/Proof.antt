@@ -1,0 +1,81 @@
+use borrow.Author.Needs.{needs}
+use Rattle.flat.proofs.planar_sample.Statement.{statement}
+use Rattle.flat.proofs.planar_sample.Tie as tie
+use Rattle.flat.proofs.planar_sample.Reads as reads
+use Rattle.flat.proofs.planar_sample.Lts as lts
+use Rattle.flat.proofs.mix.Reads as mix-reads
+
+-- src/lib.rt:60:17
+sub-mix : tie.Need-sub-mix
+sub-mix c = search needs
+
+-- src/lib.rt:60:17
+sub-mix-2 : tie.Need-sub-mix-2
+sub-mix-2 c = search needs
+
+-- src/lib.rt:60:36
+add-mix : tie.Need-add-mix
+add-mix c = search needs
+
+-- src/lib.rt:60:9
+mix-requires : tie.Need-mix-requires
+mix-requires c κs = search needs
+
+-- src/lib.rt:61:17
+sub-mix-3 : tie.Need-sub-mix-3
+sub-mix-3 c = search needs
+
+-- src/lib.rt:61:17
+sub-mix-4 : tie.Need-sub-mix-4
+sub-mix-4 c = search needs
+
+-- src/lib.rt:61:35
+add-mix-2 : tie.Need-add-mix-2
+add-mix-2 c = search needs
+
+-- src/lib.rt:61:9
+mix-requires-2 : tie.Need-mix-requires-2
+mix-requires-2 c κs = search needs
+
+-- src/lib.rt:62:7
+add-result : tie.Need-add-result
+add-result c = search needs
+
+-- src/lib.rt:62:7
+add-result-2 : tie.Need-add-result-2
+add-result-2 c = search needs
+
+-- src/lib.rt:62:21
+mul-result : tie.Need-mul-result
+mul-result c = search needs
+
+-- src/lib.rt:62:6
+div-result : tie.Need-div-result
+div-result c = search needs
+
+-- src/lib.rt:62:5
+cast-result : tie.Need-cast-result
+cast-result c = ?
+
+-- src/lib.rt:48:1
+returns : tie.Need-returns
+returns c = ?
+
+pub planar-sample-spec : {M : Type 1} → statement M
+planar-sample-spec =
+    tie.close
+    (tie.spec
+    sub-mix
+    sub-mix-2
+    add-mix
+    mix-requires
+    sub-mix-3
+    sub-mix-4
+    add-mix-2
+    mix-requires-2
+    add-result
+    add-result-2
+    mul-result
+    div-result
+    cast-result
+    returns)

@@ -1,0 +1,51 @@
+-- The number of a planar or DC call, from document 01, and one sample of each predictor over the samples that it mixes. Rests on the domain.
+use Prim.Native.Nat.{ℕ, _+_, _-_, _*_, _/_, _≤_}
+use mathlib.Core.Path.{_≡_}
+use mathlib.Core.Bool.{Bool, true, false, _&&_}
+use mathlib.Core.List.{List, [], _∷_}
+use native.Mathlib.Omega.{arith}
+use lib.Dec.{leb}
+use borrow.Author.Tests.{leb-true}
+use Rattle.laws.specs.Choose.{Check, _unless_, firstFail, passed, both-true}
+use Rattle.domain.specs.Domain.{sizeOk, predictorRow}
+use Rattle.domain.specs.Facts.{Size, size-of, at-size}
+
+-- the side is n, the rows have a and l entries, the block's buffer p
+unfoldable pub flatNo : ℕ → ℕ → ℕ → ℕ → ℕ
+flatNo n a l p =
+    firstFail ((2 unless sizeOk n) ∷ (5 unless (leb (predictorRow n) a && leb (predictorRow n) l && leb (n * n) p)) ∷ [])
+
+-- what the loops ask: planar reads entries 0 .. n, DC less
+pub record Ready (n a l p : ℕ) : Type 0 where
+  pub size : Size n
+  pub above : 2 * n ≤ a
+  pub left : 2 * n ≤ l
+  pub room : n * n ≤ p
+
+row-enough : (n : ℕ) → Size n → 2 * n ≤ predictorRow n
+row-enough n s = at-size (λ (m : ℕ). 2 * m ≤ predictorRow m) (omega arith) (omega arith) (omega arith) (omega arith) n s
+
+-- a call that is not refused
+pub ready : (n a l p : ℕ) → flatNo n a l p ≡ 0 → Ready n a l p
+unfolding flatNo
+ready n a l p e =
+    let s = passed (sizeOk n) _ 2 (omega arith) e in
+    let t = passed (leb (predictorRow n) a && leb (predictorRow n) l && leb (n * n) p) 0 5 (omega arith) (s .1) in
+    let u = both-true (leb (predictorRow n) a && leb (predictorRow n) l) (leb (n * n) p) (t .0) in
+    let v = both-true (leb (predictorRow n) a) (leb (predictorRow n) l) (u .0) in
+    let size = size-of n (s .0) in
+    let least = row-enough n size in
+    let ha = leb-true (predictorRow n) a (v .0) in
+    let hl = leb-true (predictorRow n) l (v .1) in
+    record { size = size; above = omega arith; left = omega arith; room = leb-true (n * n) p (u .1) }
+
+-- planar at row y and column x: l stands left of the row, tr right of the row above, t above the column, bl below the left column
+unfoldable pub planarMix : ℕ → ℕ → ℕ → ℕ → ℕ → ℕ → ℕ → ℕ
+planarMix n y x l tr t bl = ((n - 1 - x) * l + (x + 1) * tr + ((n - 1 - y) * t + (y + 1) * bl) + n) / (2 * n)
+
+-- the DC edge: a neighbour r and the value v, and at the corner both neighbours
+abbrev pub blended : ℕ → ℕ → ℕ
+blended r v = (r + 3 * v + 2) / 4
+
+abbrev pub cornered : ℕ → ℕ → ℕ → ℕ
+cornered l a v = (l + 2 * v + a + 2) / 4
