@@ -1,32 +1,35 @@
 -- The number of a planar or DC call, from document 01, and one sample of each predictor over the samples that it mixes. Rests on the domain.
-use Prim.Native.Nat.{ℕ, _+_, _-_, _*_, _/_, _≤_}
+use Prim.Native.Nat.{ℕ, _+_, _-_, _*_, _/_, _≤_, _<_}
 use mathlib.Core.Path.{_≡_}
 use mathlib.Core.Bool.{Bool, true, false, _&&_}
 use mathlib.Core.List.{List, [], _∷_}
+use mathlib.Core.Logic.{⊎-elim}
 use native.Mathlib.Omega.{arith}
 use lib.Dec.{leb}
 use borrow.Author.Tests.{leb-true}
 use Rattle.laws.specs.Choose.{Check, _unless_, firstFail, passed, both-true}
+use Rattle.laws.specs.Weigh.{row-room}
 use Rattle.domain.specs.Domain.{sizeOk, predictorRow}
-use Rattle.domain.specs.Facts.{Size, size-of, at-size}
+use Rattle.domain.specs.Facts.{Size, size-of, size-small, at-size}
 
 -- the side is n, the rows have a and l entries, the block's buffer p
 unfoldable pub flatNo : ℕ → ℕ → ℕ → ℕ → ℕ
 flatNo n a l p =
     firstFail ((2 unless sizeOk n) ∷ (5 unless (leb (predictorRow n) a && leb (predictorRow n) l && leb (n * n) p)) ∷ [])
 
--- what the loops ask: planar reads entries 0 .. n, DC less
-pub record Ready (n a l p : ℕ) : Type 0 where
+-- what the loops ask of the side and the rows: planar reads entries 0 .. n, DC less
+pub record Ready (n a l : ℕ) : Type 0 where
   pub size : Size n
+  pub some : 4 ≤ n
+  pub most : n ≤ 32
   pub above : 2 * n ≤ a
   pub left : 2 * n ≤ l
-  pub room : n * n ≤ p
 
 row-enough : (n : ℕ) → Size n → 2 * n ≤ predictorRow n
 row-enough n s = at-size (λ (m : ℕ). 2 * m ≤ predictorRow m) (omega arith) (omega arith) (omega arith) (omega arith) n s
 
 -- a call that is not refused
-pub ready : (n a l p : ℕ) → flatNo n a l p ≡ 0 → Ready n a l p
+pub ready : (n a l p : ℕ) → flatNo n a l p ≡ 0 → Ready n a l × (n * n ≤ p)
 unfolding flatNo
 ready n a l p e =
     let s = passed (sizeOk n) _ 2 (omega arith) e in
@@ -34,10 +37,22 @@ ready n a l p e =
     let u = both-true (leb (predictorRow n) a && leb (predictorRow n) l) (leb (n * n) p) (t .0) in
     let v = both-true (leb (predictorRow n) a) (leb (predictorRow n) l) (u .0) in
     let size = size-of n (s .0) in
+    let small = size-small n size in
     let least = row-enough n size in
     let ha = leb-true (predictorRow n) a (v .0) in
     let hl = leb-true (predictorRow n) l (v .1) in
-    record { size = size; above = omega arith; left = omega arith; room = leb-true (n * n) p (u .1) }
+    (record { size = size; some = small .0; most = small .1; above = omega arith; left = omega arith }, leb-true (n * n) p (u .1))
+
+-- the first row is within the block
+pub wide : (n p : ℕ) → 0 < n → n * n ≤ p → n ≤ p
+wide n p h l = omega (arith, row-room 0 n h)
+
+pub square : (n : ℕ) → Size n → n * n ≤ 1024
+square n s = at-size (λ (m : ℕ). m * m ≤ 1024) (omega arith) (omega arith) (omega arith) (omega arith) n s
+
+-- where n is none of the first three sizes
+pub last-size : (n : ℕ) → Size n → (n ≡ 4 → ⊥) → (n ≡ 8 → ⊥) → (n ≡ 16 → ⊥) → n ≡ 32
+last-size n s a b c = ⊎-elim (λ e. absurd (a e)) (λ r. ⊎-elim (λ e. absurd (b e)) (λ q. ⊎-elim (λ e. absurd (c e)) (λ e. e) q) r) s
 
 -- planar at row y and column x: l stands left of the row, tr right of the row above, t above the column, bl below the left column
 unfoldable pub planarMix : ℕ → ℕ → ℕ → ℕ → ℕ → ℕ → ℕ → ℕ

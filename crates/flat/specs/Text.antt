@@ -1,6 +1,7 @@
 -- The standard's shift by log2 n + 1 divides by 2n, so that planar and the DC value are quotients. Rests on the standard's clauses.
-use Prim.Native.Nat.{ℕ, _+_, _-_, _*_, _/_, _^_}
+use Prim.Native.Nat.{ℕ, _+_, _-_, _*_, _/_, _^_, _≤_}
 use mathlib.Core.Path.{_≡_, refl, ap, _∙_}
+use native.Mathlib.Numerals.{add-one}
 use native.Mathlib.Omega.{arith}
 use Rattle.domain.specs.Facts.{Size, at-size}
 use Rattle.h265.specs.Notation.{Neighbours, log2, halvings}
@@ -23,3 +24,15 @@ planar-mix n s nb y x =
 pub dc-mean : (n : ℕ) → Size n → (nb : Neighbours) → (sum (nb .above) n + sum (nb .left) n + n) / (2 * n) ≡ dcVal n nb
 unfolding dcVal
 dc-mean n s nb = rw (halves n s)
+
+-- a sum, as a loop makes it
+pub sum-none : (f : ℕ → ℕ) → 0 ≡ sum f 0
+unfolding sum
+sum-none f = refl
+
+pub sum-more : (f : ℕ → ℕ) {i s v : ℕ} → s ≡ sum f i → v ≡ f i → s + v ≡ sum f (i + 1)
+unfolding sum
+sum-more f p q = rw (add-one, p, q)
+
+pub sum-done : (f : ℕ → ℕ) {i k s : ℕ} → i ≤ k → k ≤ i → s ≡ sum f i → s ≡ sum f k
+sum-done f {i} {k} p q r = r ∙ ap (sum f) (omega arith)

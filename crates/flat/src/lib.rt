@@ -8,7 +8,6 @@ ghost use lib.ListN.{length, getD};
 ghost use Rattle.laws.specs.Fill.{fill, run, block};
 ghost use Rattle.laws.specs.Choose.{served};
 ghost use Rattle.domain.specs.Domain.{predictorRow};
-ghost use Rattle.domain.specs.Facts.{Size};
 ghost use Rattle.h265.specs.Notation.{fromRows};
 ghost use Rattle.h265.specs.Planar.{planar};
 ghost use Rattle.h265.specs.Dc.{sum, dcVal, dc};
@@ -117,7 +116,7 @@ fn planar_line(
 }
 
 fn planar_n(above: &[u16], left: &[u16], n: usize, pred: &mut [u16])
-    requires { ⌜ Ready n (length (now above)) (length (now left)) (length (now pred)) ⌝ }
+    requires { ⌜ Ready n (length (now above)) (length (now left)) × (n * n ≤ length (now pred)) ⌝ }
     ensures { λ _. ⌜ now (pred .exit) ≡ block (λ (y x : ℕ). planar n (fromRows 0 (now (above .entry)) (now (left .entry))) x y) n (now (pred .entry)) ⌝ }
 {
     let top_right = above[n];
@@ -137,7 +136,7 @@ fn planar_n(above: &[u16], left: &[u16], n: usize, pred: &mut [u16])
 }
 
 fn planar_block(above: &[u16], left: &[u16], n: usize, pred: &mut [u16])
-    requires { ⌜ Ready n (length (now above)) (length (now left)) (length (now pred)) ⌝ }
+    requires { ⌜ Ready n (length (now above)) (length (now left)) × (n * n ≤ length (now pred)) ⌝ }
     ensures { λ _. ⌜ now (pred .exit) ≡ block (λ (y x : ℕ). planar n (fromRows 0 (now (above .entry)) (now (left .entry))) x y) n (now (pred .entry)) ⌝ }
 {
     match n {
@@ -171,7 +170,7 @@ fn total(row: &[u16], n: usize) -> u32
 }
 
 fn dc_value(above: &[u16], left: &[u16], n: usize) -> u16
-    requires { ⌜ Size n × ((2 * n ≤ length (now above)) × (2 * n ≤ length (now left))) ⌝ }
+    requires { ⌜ Ready n (length (now above)) (length (now left)) ⌝ }
     ensures { λ r. ⌜ r ≡ dcVal n (fromRows 0 (now (above .entry)) (now (left .entry))) ⌝ }
 {
     ((total(above, n) + total(left, n) + n as u32) / (2 * n as u32)) as u16
@@ -228,7 +227,7 @@ fn edge_column(left: &[u16], dc: u16, n: usize, pred: &mut [u16])
 }
 
 fn edge(above: &[u16], left: &[u16], dc: u16, n: usize, pred: &mut [u16])
-    requires { ⌜ Ready n (length (now above)) (length (now left)) (length (now pred)) ⌝ }
+    requires { ⌜ Ready n (length (now above)) (length (now left)) × (n * n ≤ length (now pred)) ⌝ }
     ensures { λ _. ⌜ now (pred .exit) ≡ edges (λ (x : ℕ). getD (now (above .entry)) x 0) (λ (y : ℕ). getD (now (left .entry)) y 0) dc n (now (pred .entry)) ⌝ }
 {
     edge_row(above, dc, n, &mut *pred);
@@ -237,7 +236,7 @@ fn edge(above: &[u16], left: &[u16], dc: u16, n: usize, pred: &mut [u16])
 }
 
 fn dc_n(above: &[u16], left: &[u16], n: usize, filter_boundary: bool, pred: &mut [u16])
-    requires { ⌜ Ready n (length (now above)) (length (now left)) (length (now pred)) ⌝ }
+    requires { ⌜ Ready n (length (now above)) (length (now left)) × (n * n ≤ length (now pred)) ⌝ }
     ensures { λ _. ⌜ now (pred .exit) ≡ block (λ (y x : ℕ). dc «filter_boundary» n (fromRows 0 (now (above .entry)) (now (left .entry))) x y) n (now (pred .entry)) ⌝ }
 {
     let value = dc_value(above, left, n);
@@ -248,7 +247,7 @@ fn dc_n(above: &[u16], left: &[u16], n: usize, filter_boundary: bool, pred: &mut
 }
 
 fn dc_block(above: &[u16], left: &[u16], n: usize, filter_boundary: bool, pred: &mut [u16])
-    requires { ⌜ Ready n (length (now above)) (length (now left)) (length (now pred)) ⌝ }
+    requires { ⌜ Ready n (length (now above)) (length (now left)) × (n * n ≤ length (now pred)) ⌝ }
     ensures { λ _. ⌜ now (pred .exit) ≡ block (λ (y x : ℕ). dc «filter_boundary» n (fromRows 0 (now (above .entry)) (now (left .entry))) x y) n (now (pred .entry)) ⌝ }
 {
     match n {

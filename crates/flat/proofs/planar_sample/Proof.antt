@@ -1,3 +1,7 @@
+use Prim.Native.Nat.{_+_, _*_, _<_}
+use native.Mathlib.Omega.{arith}
+use Rattle.laws.specs.Weigh.{quotient}
+use Rattle.flat.specs.Flat.{planarMix}
 use borrow.Author.Needs.{needs}
 use Rattle.flat.proofs.planar_sample.Statement.{statement}
 use Rattle.flat.proofs.planar_sample.Tie as tie
@@ -55,11 +59,15 @@ div-result c = search needs
 
 -- src/lib.rt:62:5
 cast-result : tie.Need-cast-result
-cast-result c = ?
+cast-result c =
+    let n = c .before .before .args .n in
+    let h : c .before .mix .result + c .mix2 .result + n < 65536 * (2 * n) = omega arith in
+    record { fits = quotient _ _ 65536 (omega arith) h }
 
 -- src/lib.rt:48:1
 returns : tie.Need-returns
-returns c = ?
+unfolding planarMix
+returns c = rw (c .before .mix .ensures .0, c .mix2 .ensures .0)
 
 pub planar-sample-spec : {M : Type 1} → statement M
 planar-sample-spec =

@@ -1,0 +1,71 @@
+use borrow.Author.Needs.{needs}
+use Rattle.flat.proofs.dc_block.Statement.{statement}
+use Rattle.flat.proofs.dc_block.Tie as tie
+use Rattle.flat.proofs.dc_block.Reads as reads
+use Rattle.flat.proofs.dc_block.Lts as lts
+use Rattle.flat.proofs.dc_n.Reads as dc-n-reads
+
+-- src/lib.rt:254:14
+dc-n-requires : tie.Need-dc-n-requires
+dc-n-requires c κs = ?
+
+-- src/lib.rt:255:14
+dc-n-requires-2 : tie.Need-dc-n-requires-2
+dc-n-requires-2 c κs = ?
+
+-- src/lib.rt:256:15
+dc-n-requires-3 : tie.Need-dc-n-requires-3
+dc-n-requires-3 c κs = ?
+
+-- src/lib.rt:257:14
+dc-n-requires-4 : tie.Need-dc-n-requires-4
+dc-n-requires-4 c κs = ?
+
+-- src/lib.rt:249:1
+same-length : tie.Need-same-length
+same-length c = search needs
+
+-- src/lib.rt:249:1
+returns : tie.Need-returns
+returns c = ?
+
+-- src/lib.rt:249:1
+same-length-2 : tie.Need-same-length-2
+same-length-2 c = search needs
+
+-- src/lib.rt:249:1
+returns-2 : tie.Need-returns-2
+returns-2 c = ?
+
+-- src/lib.rt:249:1
+same-length-3 : tie.Need-same-length-3
+same-length-3 c = search needs
+
+-- src/lib.rt:249:1
+returns-3 : tie.Need-returns-3
+returns-3 c = ?
+
+-- src/lib.rt:249:1
+same-length-4 : tie.Need-same-length-4
+same-length-4 c = search needs
+
+-- src/lib.rt:249:1
+returns-4 : tie.Need-returns-4
+returns-4 c = ?
+
+pub dc-block-spec : {M : Type 1} → statement M
+dc-block-spec =
+    tie.close
+    (tie.spec
+    dc-n-requires
+    dc-n-requires-2
+    dc-n-requires-3
+    dc-n-requires-4
+    same-length
+    returns
+    same-length-2
+    returns-2
+    same-length-3
+    returns-3
+    same-length-4
+    returns-4)
