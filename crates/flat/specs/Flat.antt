@@ -1,6 +1,6 @@
 -- The number of a planar or DC call, from document 01, and one sample of each predictor over the samples that it mixes. Rests on the domain.
 use Prim.Native.Nat.{ℕ, _+_, _-_, _*_, _/_, _≤_, _<_}
-use mathlib.Core.Path.{_≡_}
+use mathlib.Core.Path.{_≡_, subst}
 use mathlib.Core.Bool.{Bool, true, false, _&&_}
 use mathlib.Core.List.{List, [], _∷_}
 use mathlib.Core.Logic.{⊎-elim}
@@ -53,6 +53,10 @@ square n s = at-size (λ (m : ℕ). m * m ≤ 1024) (omega arith) (omega arith) 
 -- where n is none of the first three sizes
 pub last-size : (n : ℕ) → Size n → (n ≡ 4 → ⊥) → (n ≡ 8 → ⊥) → (n ≡ 16 → ⊥) → n ≡ 32
 last-size n s a b c = ⊎-elim (λ e. absurd (a e)) (λ r. ⊎-elim (λ e. absurd (b e)) (λ q. ⊎-elim (λ e. absurd (c e)) (λ e. e) q) r) s
+
+-- what holds at n, at the number that n was found to be
+pub as-found : (n m a l p : ℕ) → n ≡ m → Ready n a l × (n * n ≤ p) → Ready m a l × (m * m ≤ p)
+as-found n m a l p e h = subst (λ (k : ℕ). Ready k a l × (k * k ≤ p)) e h
 
 -- planar at row y and column x: l stands left of the row, tr right of the row above, t above the column, bl below the left column
 unfoldable pub planarMix : ℕ → ℕ → ℕ → ℕ → ℕ → ℕ → ℕ → ℕ

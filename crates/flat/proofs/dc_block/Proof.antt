@@ -1,3 +1,5 @@
+use mathlib.Core.Path.{_≡_}
+use Rattle.flat.specs.Flat.{as-found, last-size}
 use borrow.Author.Needs.{needs}
 use Rattle.flat.proofs.dc_block.Statement.{statement}
 use Rattle.flat.proofs.dc_block.Tie as tie
@@ -5,21 +7,25 @@ use Rattle.flat.proofs.dc_block.Reads as reads
 use Rattle.flat.proofs.dc_block.Lts as lts
 use Rattle.flat.proofs.dc_n.Reads as dc-n-reads
 
+-- the last arm
+key : (c : tie.At-match-rest) → c .before .before .before .before .args .n ≡ 32
+key c = let r = c .match .rest in last-size _ (c .before .before .before .before .pre .0 .size) (r .0 .0 .1) (r .0 .1) (r .1)
+
 -- src/lib.rt:254:14
 dc-n-requires : tie.Need-dc-n-requires
-dc-n-requires c κs = ?
+dc-n-requires c κs = as-found _ _ _ _ _ (c .before .match .keys1) (c .before .before .before .before .before .pre)
 
 -- src/lib.rt:255:14
 dc-n-requires-2 : tie.Need-dc-n-requires-2
-dc-n-requires-2 c κs = ?
+dc-n-requires-2 c κs = as-found _ _ _ _ _ (c .before .match .keys2) (c .before .before .before .before .before .pre)
 
 -- src/lib.rt:256:15
 dc-n-requires-3 : tie.Need-dc-n-requires-3
-dc-n-requires-3 c κs = ?
+dc-n-requires-3 c κs = as-found _ _ _ _ _ (c .before .match .keys3) (c .before .before .before .before .before .pre)
 
 -- src/lib.rt:257:14
 dc-n-requires-4 : tie.Need-dc-n-requires-4
-dc-n-requires-4 c κs = ?
+dc-n-requires-4 c κs = as-found _ _ _ _ _ (key (c .before)) (c .before .before .before .before .before .pre)
 
 -- src/lib.rt:249:1
 same-length : tie.Need-same-length
@@ -27,7 +33,7 @@ same-length c = search needs
 
 -- src/lib.rt:249:1
 returns : tie.Need-returns
-returns c = ?
+returns c = rw (c .before .before .before .before .match .keys1) (c .before .before .dc-n .ensures)
 
 -- src/lib.rt:249:1
 same-length-2 : tie.Need-same-length-2
@@ -35,7 +41,7 @@ same-length-2 c = search needs
 
 -- src/lib.rt:249:1
 returns-2 : tie.Need-returns-2
-returns-2 c = ?
+returns-2 c = rw (c .before .before .before .before .match .keys2) (c .before .before .dc-n2 .ensures)
 
 -- src/lib.rt:249:1
 same-length-3 : tie.Need-same-length-3
@@ -43,7 +49,7 @@ same-length-3 c = search needs
 
 -- src/lib.rt:249:1
 returns-3 : tie.Need-returns-3
-returns-3 c = ?
+returns-3 c = rw (c .before .before .before .before .match .keys3) (c .before .before .dc-n3 .ensures)
 
 -- src/lib.rt:249:1
 same-length-4 : tie.Need-same-length-4
@@ -51,7 +57,7 @@ same-length-4 c = search needs
 
 -- src/lib.rt:249:1
 returns-4 : tie.Need-returns-4
-returns-4 c = ?
+returns-4 c = rw (key (c .before .before .before .before)) (c .before .before .dc-n4 .ensures)
 
 pub dc-block-spec : {M : Type 1} → statement M
 dc-block-spec =

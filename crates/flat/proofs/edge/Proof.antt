@@ -1,7 +1,8 @@
+use lib.ListN.{length-set}
+use borrow.Author.Needs.{needs}
 use native.Mathlib.Omega.{arith}
 use Rattle.flat.specs.Flat.{wide}
 use Rattle.flat.specs.Edge.{edges}
-use borrow.Author.Needs.{needs}
 use Rattle.flat.proofs.edge.Statement.{statement}
 use Rattle.flat.proofs.edge.Tie as tie
 use Rattle.flat.proofs.edge.Reads as reads
@@ -36,7 +37,7 @@ slice-write-pred c = omega (arith, wide (c .before .before .before .before .befo
 
 -- src/lib.rt:229:1
 same-length : tie.Need-same-length
-same-length c = ?
+same-length c = simp length-set (search needs)
 
 -- src/lib.rt:229:1
 returns : tie.Need-returns
