@@ -71,12 +71,12 @@ mean-value n s = record {
       let h = size-small n s in
       let p = sum-rises (a .above) (b .above) n (λ i l. u .above i (omega arith)) in
       let q = sum-rises (a .left) (b .left) n (λ i l. u .left i (omega arith)) in
-      rw (← dc-mean n s a, ← dc-mean n s b) (fewer (2 * n) _ _ (omega arith) (omega arith));
+      rw (← dc-mean n s a _ refl, ← dc-mean n s b _ refl) (fewer (2 * n) _ _ (omega arith) (omega arith));
   flat = λ v.
       let h = size-small n s in
       let t = twice n v in
       let p = sum-flat v n in
-      rw (← dc-mean n s (level v))
+      rw (← dc-mean n s (level v) _ refl)
       (ap (λ (k : ℕ). k / (2 * n)) (let e : sum (λ (i : ℕ). v) n + sum (λ (i : ℕ). v) n + n ≡ 2 * n * v + n = omega arith in e) ∙ weighed (2 * n) v n (omega arith));
 }
 

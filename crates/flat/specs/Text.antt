@@ -1,6 +1,6 @@
 -- The standard's shift by log2 n + 1 divides by 2n, so that planar and the DC value are quotients. Rests on the standard's clauses.
-use Prim.Native.Nat.{ℕ, _+_, _-_, _*_, _/_, _^_, _≤_}
-use mathlib.Core.Path.{_≡_, refl, ap, _∙_}
+use Prim.Native.Nat.{ℕ, _+_, _-_, _*_, _/_, _^_, _≤_, _<_}
+use mathlib.Core.Path.{_≡_, refl, ap, _∙_, subst}
 use native.Mathlib.Numerals.{add-one}
 use native.Mathlib.Omega.{arith}
 use Rattle.domain.specs.Facts.{Size, at-size}
@@ -21,18 +21,23 @@ planar-mix n s nb y x =
     (let e : (n - 1 - x) * nb .left y + (x + 1) * nb .above n + ((n - 1 - y) * nb .above x + (y + 1) * nb .left n) + n ≡ (n - 1 - x) * nb .left y + (x + 1) * nb .above n + (n - 1 - y) * nb .above x + (y + 1) * nb .left n + n = omega arith in
     e))
 
-pub dc-mean : (n : ℕ) → Size n → (nb : Neighbours) → (sum (nb .above) n + sum (nb .left) n + n) / (2 * n) ≡ dcVal n nb
+-- s is the sum of n samples of both rows
+pub record Total (nb : Neighbours) (n s : ℕ) : Type 0 where
+  pub is : s ≡ sum (nb .above) n + sum (nb .left) n
+  pub most : s ≤ 131070 * n
+
+-- the sum, as a loop makes it
+pub total-none : (nb : Neighbours) → Total nb 0 0
+unfolding sum
+total-none nb = record { is = refl; most = omega arith }
+
+pub total-more : (nb : Neighbours) (i s : ℕ) → Total nb i s → nb .above i < 65536 → nb .left i < 65536 → Total nb (i + 1) (s + (nb .above i + nb .left i))
+unfolding sum
+total-more nb i s t a l = record { is = let e = t .is in rw add-one (omega arith); most = let h = t .most in omega arith }
+
+pub total-done : (nb : Neighbours) {i k s : ℕ} → i ≤ k → k ≤ i → Total nb i s → Total nb k s
+total-done nb {i} {k} {s} p q t = subst (λ (m : ℕ). Total nb m s) (let e : i ≡ k = omega arith in e) t
+
+pub dc-mean : (n : ℕ) → Size n → (nb : Neighbours) (s : ℕ) → s ≡ sum (nb .above) n + sum (nb .left) n → (s + n) / (2 * n) ≡ dcVal n nb
 unfolding dcVal
-dc-mean n s nb = rw (halves n s)
-
--- a sum, as a loop makes it
-pub sum-none : (f : ℕ → ℕ) → 0 ≡ sum f 0
-unfolding sum
-sum-none f = refl
-
-pub sum-more : (f : ℕ → ℕ) {i s v : ℕ} → s ≡ sum f i → v ≡ f i → s + v ≡ sum f (i + 1)
-unfolding sum
-sum-more f p q = rw (add-one, p, q)
-
-pub sum-done : (f : ℕ → ℕ) {i k s : ℕ} → i ≤ k → k ≤ i → s ≡ sum f i → s ≡ sum f k
-sum-done f {i} {k} p q r = r ∙ ap (sum f) (omega arith)
+dc-mean n s nb all e = rw (e, halves n s)

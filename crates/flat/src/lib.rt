@@ -1,5 +1,5 @@
 // Planar and DC prediction, H.265 8.4.4.2.4 and 8.4.4.2.5. Rests on the domain's tests.
-// The loops run with a side that is a constant of each call, and a row that is read and written goes by way of a local array:
+// The stores run with a side that is a constant of each call, and a row that is read and written goes by way of a local array:
 // all reads then come before the first store, and the compiler can use wide ones.
 ghost use mathlib.Core.Bool.{Bool, true, _&&_};
 ghost use mathlib.Core.Path.{_≡_};
@@ -10,8 +10,9 @@ ghost use Rattle.laws.specs.Choose.{served};
 ghost use Rattle.domain.specs.Domain.{predictorRow};
 ghost use Rattle.h265.specs.Notation.{fromRows};
 ghost use Rattle.h265.specs.Planar.{planar};
-ghost use Rattle.h265.specs.Dc.{sum, dcVal, dc};
+ghost use Rattle.h265.specs.Dc.{dc};
 ghost use Rattle.flat.specs.Flat.{flatNo, Ready, planarMix, blended, cornered};
+ghost use Rattle.flat.specs.Text.{Total};
 ghost use Rattle.flat.specs.Stores.{heads};
 ghost use Rattle.flat.specs.Edge.{edges};
 
@@ -36,18 +37,18 @@ fn flat_no(n: usize, a: usize, l: usize, p: usize) -> u32
     5
 }
 
-// Two samples by weights.
-fn mix(a: u32, x: u16, b: u32, y: u16) -> u32
+// Two samples by weights. Products of 16 bits by 16 are what the compiler has wide instructions for.
+fn mix(a: u16, x: u16, b: u16, y: u16) -> u32
     requires { ⌜ a + b ≤ 32 ⌝ }
     ensures { λ r. ⌜ (r ≡ a * x + b * y) × (r ≤ (a + b) * 65535) ⌝ }
 {
-    a * (x as u32) + b * (y as u32)
+    (a as u32) * (x as u32) + (b as u32) * (y as u32)
 }
 
 fn planar_sample(
-    n: u32,
-    row: u32,
-    col: u32,
+    n: u16,
+    row: u16,
+    col: u16,
     left: u16,
     top_right: u16,
     top: u16,
@@ -58,7 +59,7 @@ fn planar_sample(
 {
     let h = mix(n - 1 - col, left, col + 1, top_right);
     let v = mix(n - 1 - row, top, row + 1, bottom_left);
-    ((h + v + n) / (2 * n)) as u16
+    ((h + v + n as u32) / (2 * n as u32)) as u16
 }
 
 // A row of samples, from entry 0 of a list on.
@@ -76,9 +77,9 @@ fn planar_row(
 {
     for col in 0..n {
         out[col] = planar_sample(
-            n as u32,
-            row as u32,
-            col as u32,
+            n as u16,
+            row as u16,
+            col as u16,
             left,
             top_right,
             above[col],
@@ -157,23 +158,23 @@ pub fn predict_planar_into(above: &[u16], left: &[u16], n: usize, pred: &mut [u1
     no
 }
 
-// The sum of n samples.
-fn total(row: &[u16], n: usize) -> u32
-    requires { ⌜ (n ≤ 32) × (n ≤ length (now row)) ⌝ }
-    ensures { λ r. ⌜ (r ≡ sum (λ (i : ℕ). getD (now (row .entry)) i 0) n) × (r ≤ 65535 * n) ⌝ }
+// The sum of n samples of both rows.
+fn total(above: &[u16], left: &[u16], n: usize) -> u32
+    requires { ⌜ (n ≤ 32) × ((n ≤ length (now above)) × (n ≤ length (now left))) ⌝ }
+    ensures { λ r. ⌜ Total (fromRows 0 (now (above .entry)) (now (left .entry))) n r ⌝ }
 {
     let mut all: u32 = 0;
     for i in 0..n {
-        all += row[i] as u32;
+        all += (above[i] as u32) + (left[i] as u32);
     }
     all
 }
 
-fn dc_value(above: &[u16], left: &[u16], n: usize) -> u16
-    requires { ⌜ Ready n (length (now above)) (length (now left)) ⌝ }
-    ensures { λ r. ⌜ r ≡ dcVal n (fromRows 0 (now (above .entry)) (now (left .entry))) ⌝ }
+fn mean(all: u32, n: usize) -> u16
+    requires { ⌜ (4 ≤ n) × ((n ≤ 32) × (all ≤ 131070 * n)) ⌝ }
+    ensures { λ r. ⌜ r ≡ (all + n) / (2 * n) ⌝ }
 {
-    ((total(above, n) + total(left, n) + n as u32) / (2 * n as u32)) as u16
+    ((all + n as u32) / (2 * n as u32)) as u16
 }
 
 // The value in the first count entries.
@@ -235,11 +236,11 @@ fn edge(above: &[u16], left: &[u16], dc: u16, n: usize, pred: &mut [u16])
     pred[0] = corner(left[0], above[0], dc);
 }
 
-fn dc_n(above: &[u16], left: &[u16], n: usize, filter_boundary: bool, pred: &mut [u16])
-    requires { ⌜ Ready n (length (now above)) (length (now left)) × (n * n ≤ length (now pred)) ⌝ }
+fn dc_n(above: &[u16], left: &[u16], all: u32, n: usize, filter_boundary: bool, pred: &mut [u16])
+    requires { ⌜ (Ready n (length (now above)) (length (now left)) × (n * n ≤ length (now pred))) × Total (fromRows 0 (now above) (now left)) n all ⌝ }
     ensures { λ _. ⌜ now (pred .exit) ≡ block (λ (y x : ℕ). dc «filter_boundary» n (fromRows 0 (now (above .entry)) (now (left .entry))) x y) n (now (pred .entry)) ⌝ }
 {
-    let value = dc_value(above, left, n);
+    let value = mean(all, n);
     flat_fill(value, n * n, &mut *pred);
     if filter_boundary & (n < 32) {
         edge(above, left, value, n, &mut *pred);
@@ -250,11 +251,12 @@ fn dc_block(above: &[u16], left: &[u16], n: usize, filter_boundary: bool, pred: 
     requires { ⌜ Ready n (length (now above)) (length (now left)) × (n * n ≤ length (now pred)) ⌝ }
     ensures { λ _. ⌜ now (pred .exit) ≡ block (λ (y x : ℕ). dc «filter_boundary» n (fromRows 0 (now (above .entry)) (now (left .entry))) x y) n (now (pred .entry)) ⌝ }
 {
+    let all = total(above, left, n);
     match n {
-        4 => dc_n(above, left, 4, filter_boundary, &mut *pred),
-        8 => dc_n(above, left, 8, filter_boundary, &mut *pred),
-        16 => dc_n(above, left, 16, filter_boundary, &mut *pred),
-        _ => dc_n(above, left, 32, filter_boundary, &mut *pred),
+        4 => dc_n(above, left, all, 4, filter_boundary, &mut *pred),
+        8 => dc_n(above, left, all, 8, filter_boundary, &mut *pred),
+        16 => dc_n(above, left, all, 16, filter_boundary, &mut *pred),
+        _ => dc_n(above, left, all, 32, filter_boundary, &mut *pred),
     }
 }
 
