@@ -37,18 +37,18 @@ fn flat_no(n: usize, a: usize, l: usize, p: usize) -> u32
     5
 }
 
-// Two samples by weights. Products of 16 bits by 16 are what the compiler has wide instructions for.
-fn mix(a: u16, x: u16, b: u16, y: u16) -> u32
+// Two samples by weights.
+fn mix(a: u32, x: u16, b: u32, y: u16) -> u32
     requires { ⌜ a + b ≤ 32 ⌝ }
     ensures { λ r. ⌜ (r ≡ a * x + b * y) × (r ≤ (a + b) * 65535) ⌝ }
 {
-    (a as u32) * (x as u32) + (b as u32) * (y as u32)
+    a * (x as u32) + b * (y as u32)
 }
 
 fn planar_sample(
-    n: u16,
-    row: u16,
-    col: u16,
+    n: u32,
+    row: u32,
+    col: u32,
     left: u16,
     top_right: u16,
     top: u16,
@@ -59,7 +59,7 @@ fn planar_sample(
 {
     let h = mix(n - 1 - col, left, col + 1, top_right);
     let v = mix(n - 1 - row, top, row + 1, bottom_left);
-    ((h + v + n as u32) / (2 * n as u32)) as u16
+    ((h + v + n) / (2 * n)) as u16
 }
 
 // A row of samples, from entry 0 of a list on.
@@ -77,9 +77,9 @@ fn planar_row(
 {
     for col in 0..n {
         out[col] = planar_sample(
-            n as u16,
-            row as u16,
-            col as u16,
+            n as u32,
+            row as u32,
+            col as u32,
             left,
             top_right,
             above[col],

@@ -1,6 +1,5 @@
 use native.Mathlib.Omega.{arith}
 use Rattle.laws.specs.Weigh.{most, weigh}
-use borrow.Author.Needs.{needs}
 use Rattle.flat.proofs.mix.Statement.{statement}
 use Rattle.flat.proofs.mix.Tie as tie
 use Rattle.flat.proofs.mix.Reads as reads
@@ -10,7 +9,7 @@ use Rattle.flat.proofs.mix.Lts as lts
 mul-result : tie.Need-mul-result
 mul-result c = omega (arith, most 65535 (c .args .a) (c .args .x) (omega arith))
 
--- src/lib.rt:45:31
+-- src/lib.rt:45:22
 mul-result-2 : tie.Need-mul-result-2
 mul-result-2 c = omega (arith, most 65535 (c .args .b) (c .args .y) (omega arith))
 

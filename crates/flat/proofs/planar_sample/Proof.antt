@@ -49,7 +49,7 @@ add-result c = search needs
 add-result-2 : tie.Need-add-result-2
 add-result-2 c = search needs
 
--- src/lib.rt:62:28
+-- src/lib.rt:62:21
 mul-result : tie.Need-mul-result
 mul-result c = search needs
 
