@@ -1,13 +1,13 @@
 -- The number of a planar or DC call, from document 01, and one sample of each predictor over the samples that it mixes. Rests on the domain.
 use Prim.Native.Nat.{ℕ, _+_, _-_, _*_, _/_, _≤_, _<_}
 use mathlib.Core.Path.{_≡_, subst}
-use mathlib.Core.Bool.{Bool, true, false, _&&_}
-use mathlib.Core.List.{List, [], _∷_}
+use mathlib.Core.Bool.{_&&_}
+use mathlib.Core.List.{[], _∷_}
 use mathlib.Core.Logic.{⊎-elim}
 use native.Mathlib.Omega.{arith}
 use lib.Dec.{leb}
 use borrow.Author.Tests.{leb-true}
-use Rattle.laws.specs.Choose.{Check, _unless_, firstFail, passed, both-true}
+use Rattle.laws.specs.Choose.{_unless_, firstFail, passed, both-true}
 use Rattle.laws.specs.Weigh.{row-room}
 use Rattle.domain.specs.Domain.{sizeOk, predictorRow}
 use Rattle.domain.specs.Facts.{Size, size-of, size-small, at-size}

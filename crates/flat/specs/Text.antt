@@ -1,6 +1,6 @@
 -- The standard's shift by log2 n + 1 divides by 2n, so that planar and the DC value are quotients. Rests on the standard's clauses.
 use Prim.Native.Nat.{ℕ, _+_, _-_, _*_, _/_, _^_, _≤_, _<_}
-use mathlib.Core.Path.{_≡_, refl, ap, _∙_, subst}
+use mathlib.Core.Path.{_≡_, refl, ap, subst}
 use native.Mathlib.Numerals.{add-one}
 use native.Mathlib.Omega.{arith}
 use Rattle.domain.specs.Facts.{Size, at-size}

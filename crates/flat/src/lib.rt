@@ -1,7 +1,6 @@
 // Planar and DC prediction, H.265 8.4.4.2.4 and 8.4.4.2.5. Rests on the domain's tests.
 // The stores run with a side that is a constant of each call, and a row that is read and written goes by way of a local array:
 // all reads then come before the first store, and the compiler can use wide ones.
-ghost use mathlib.Core.Bool.{Bool, true, _&&_};
 ghost use mathlib.Core.Path.{_≡_};
 ghost use Prim.Native.Nat.{ℕ, _+_, _*_, _/_, _≤_, _<_};
 ghost use lib.ListN.{length, getD};

@@ -1,16 +1,14 @@
+-- `flat::edge_column` meets its contract. The first column of the DC edge: the loop keeps an equation with `heads`.
 use Prim.Native.Nat.{ℕ, _+_, _*_, _-_, _≤_}
-use mathlib.Core.Path.{_≡_, _∙_}
-use lib.ListN.{length, getD}
+use mathlib.Core.Path.{_≡_}
 use native.Mathlib.Omega.{arith}
+use lib.ListN.{length, getD}
 use borrow.Author.Needs.{needs}
+use Rattle.laws.specs.Weigh.{row-room}
 use Rattle.flat.specs.Stores.{heads, heads-none, heads-more, heads-done}
 use Rattle.flat.specs.Flat.{blended}
-use Rattle.laws.specs.Weigh.{row-room}
 use Rattle.flat.proofs.edge_column.Statement.{statement}
 use Rattle.flat.proofs.edge_column.Tie as tie
-use Rattle.flat.proofs.edge_column.Reads as reads
-use Rattle.flat.proofs.edge_column.Lts as lts
-use Rattle.flat.proofs.blend.Reads as blend-reads
 
 abbrev Inv-loop : tie.InvT-loop
 Inv-loop left dc n pred₀ row₀ pred row =
@@ -19,7 +17,6 @@ Inv-loop left dc n pred₀ row₀ pred row =
 abbrev μ-loop : tie.MeasureT-loop
 μ-loop left dc n pred₀ row₀ pred row = n - row
 
--- src/lib.rt:225:5
 -- a row starts within the block
 room : (c : tie.In-loop Inv-loop μ-loop) → let n = c .before .before .before .before .args .n in c .before .loop .row * n + n ≤ n * n
 room c = row-room _ _ (c .loop-test .taken)
@@ -27,47 +24,36 @@ room c = row-room _ _ (c .loop-test .taken)
 loop-holds : tie.Need-loop-holds Inv-loop μ-loop
 loop-holds c = (search needs, (search needs, heads-none _ _ _))
 
--- src/lib.rt:226:31
 mul-blend : tie.Need-mul-blend Inv-loop μ-loop
 mul-blend c = search needs
 
--- src/lib.rt:226:31
 shared-slice-read-blend : tie.Need-shared-slice-read-blend Inv-loop μ-loop
 shared-slice-read-blend c = search needs
 
--- src/lib.rt:226:25
 blend-requires : tie.Need-blend-requires Inv-loop μ-loop
 blend-requires c κs = search needs
 
--- src/lib.rt:226:14
 mul-pred : tie.Need-mul-pred Inv-loop μ-loop
 mul-pred c = omega (arith, room (c .before .before))
 
--- src/lib.rt:226:9
 mul-pred-2 : tie.Need-mul-pred-2 Inv-loop μ-loop
 mul-pred-2 c = omega (arith, room (c .before .before))
 
--- src/lib.rt:226:9
 slice-write-pred : tie.Need-slice-write-pred Inv-loop μ-loop
 slice-write-pred c = omega (arith, room (c .before .before))
 
--- src/lib.rt:225:9
 add-row : tie.Need-add-row Inv-loop μ-loop
 add-row c = search needs
 
--- src/lib.rt:225:5
 loop-less : tie.Need-loop-less Inv-loop μ-loop
 loop-less c = search needs
 
--- src/lib.rt:225:5
 loop-again : tie.Need-loop-again Inv-loop μ-loop
 loop-again c = (search needs, (search needs, heads-more _ _ _ (c .before .before .before .loop .inv .1 .1) (c .blend .ensures)))
 
--- src/lib.rt:221:1
 same-length : tie.Need-same-length Inv-loop μ-loop
 same-length c = search needs
 
--- src/lib.rt:221:1
 returns : tie.Need-returns Inv-loop μ-loop
 returns c = heads-done _ _ _ (c .before .loop .inv .0) (c .loop-test .left) (c .before .loop .inv .1 .1)
 

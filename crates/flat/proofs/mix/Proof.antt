@@ -1,23 +1,18 @@
+-- `flat::mix` meets its contract. Two weights of at most 32 together times samples of 16 bits fit 32 bits.
 use native.Mathlib.Omega.{arith}
 use Rattle.laws.specs.Weigh.{most, weigh}
 use Rattle.flat.proofs.mix.Statement.{statement}
 use Rattle.flat.proofs.mix.Tie as tie
-use Rattle.flat.proofs.mix.Reads as reads
-use Rattle.flat.proofs.mix.Lts as lts
 
--- src/lib.rt:45:5
 mul-result : tie.Need-mul-result
 mul-result c = omega (arith, most 65535 (c .args .a) (c .args .x) (omega arith))
 
--- src/lib.rt:45:22
 mul-result-2 : tie.Need-mul-result-2
 mul-result-2 c = omega (arith, most 65535 (c .args .b) (c .args .y) (omega arith))
 
--- src/lib.rt:45:5
 add-result : tie.Need-add-result
 add-result c = omega (arith, weigh 65535 (c .args .a) (c .args .x) (c .args .b) (c .args .y) (omega arith) (omega arith))
 
--- src/lib.rt:41:1
 returns : tie.Need-returns
 returns c = omega (arith, weigh 65535 (c .args .a) (c .args .x) (c .args .b) (c .args .y) (omega arith) (omega arith))
 

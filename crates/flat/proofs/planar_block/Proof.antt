@@ -1,61 +1,47 @@
+-- `flat::planar_block` meets its contract. Planar at each size: an arm's call is the contract at the number that n is.
 use mathlib.Core.Path.{_≡_}
-use Rattle.flat.specs.Flat.{as-found, last-size}
 use borrow.Author.Needs.{needs}
+use Rattle.flat.specs.Flat.{as-found, last-size}
 use Rattle.flat.proofs.planar_block.Statement.{statement}
 use Rattle.flat.proofs.planar_block.Tie as tie
-use Rattle.flat.proofs.planar_block.Reads as reads
-use Rattle.flat.proofs.planar_block.Lts as lts
-use Rattle.flat.proofs.planar_n.Reads as planar-n-reads
 
 -- the last arm
 key : (c : tie.At-match-rest) → c .before .before .before .before .args .n ≡ 32
 key c = let r = c .match .rest in last-size _ (c .before .before .before .before .pre .0 .size) (r .0 .0 .1) (r .0 .1) (r .1)
 
--- src/lib.rt:143:14
 planar-n-requires : tie.Need-planar-n-requires
 planar-n-requires c κs = as-found _ _ _ _ _ (c .before .match .keys1) (c .before .before .before .before .before .pre)
 
--- src/lib.rt:144:14
 planar-n-requires-2 : tie.Need-planar-n-requires-2
 planar-n-requires-2 c κs = as-found _ _ _ _ _ (c .before .match .keys2) (c .before .before .before .before .before .pre)
 
--- src/lib.rt:145:15
 planar-n-requires-3 : tie.Need-planar-n-requires-3
 planar-n-requires-3 c κs = as-found _ _ _ _ _ (c .before .match .keys3) (c .before .before .before .before .before .pre)
 
--- src/lib.rt:146:14
 planar-n-requires-4 : tie.Need-planar-n-requires-4
 planar-n-requires-4 c κs = as-found _ _ _ _ _ (key (c .before)) (c .before .before .before .before .before .pre)
 
--- src/lib.rt:138:1
 same-length : tie.Need-same-length
 same-length c = search needs
 
--- src/lib.rt:138:1
 returns : tie.Need-returns
 returns c = rw (c .before .before .before .before .match .keys1) (c .before .before .planar-n .ensures)
 
--- src/lib.rt:138:1
 same-length-2 : tie.Need-same-length-2
 same-length-2 c = search needs
 
--- src/lib.rt:138:1
 returns-2 : tie.Need-returns-2
 returns-2 c = rw (c .before .before .before .before .match .keys2) (c .before .before .planar-n2 .ensures)
 
--- src/lib.rt:138:1
 same-length-3 : tie.Need-same-length-3
 same-length-3 c = search needs
 
--- src/lib.rt:138:1
 returns-3 : tie.Need-returns-3
 returns-3 c = rw (c .before .before .before .before .match .keys3) (c .before .before .planar-n3 .ensures)
 
--- src/lib.rt:138:1
 same-length-4 : tie.Need-same-length-4
 same-length-4 c = search needs
 
--- src/lib.rt:138:1
 returns-4 : tie.Need-returns-4
 returns-4 c = rw (key (c .before .before .before .before)) (c .before .before .planar-n4 .ensures)
 

@@ -1,37 +1,28 @@
+-- `flat::planar_line` meets its contract. A row by way of a local array, which changes nothing (`by-way`).
 use Prim.Native.Nat.{ℕ}
 use mathlib.Core.Path.{_∙_}
 use lib.ListN.{getD, replicate}
+use borrow.Author.Needs.{needs}
 use Rattle.flat.specs.Flat.{planarMix}
 use Rattle.flat.specs.Stores.{by-way}
-use borrow.Author.Needs.{needs}
 use Rattle.flat.proofs.planar_line.Statement.{statement}
 use Rattle.flat.proofs.planar_line.Tie as tie
-use Rattle.flat.proofs.planar_line.Reads as reads
-use Rattle.flat.proofs.planar_line.Lts as lts
-use Rattle.flat.proofs.planar_row.Reads as planar-row-reads
-use Rattle.flat.proofs.put_row.Reads as put-row-reads
 
--- src/lib.rt:115:61
 slice-aggregate-planar-row : tie.Need-slice-aggregate-planar-row
 slice-aggregate-planar-row c = search needs
 
--- src/lib.rt:115:5
 planar-row-requires : tie.Need-planar-row-requires
 planar-row-requires c κs = search needs
 
--- src/lib.rt:116:13
 slice-aggregate-put-row : tie.Need-slice-aggregate-put-row
 slice-aggregate-put-row c = search needs
 
--- src/lib.rt:116:5
 put-row-requires : tie.Need-put-row-requires
 put-row-requires c κs = search needs
 
--- src/lib.rt:101:1
 same-length : tie.Need-same-length
 same-length c = search needs
 
--- src/lib.rt:101:1
 returns : tie.Need-returns
 returns c =
     let a = c .before .before .before .before .before .before .before .before .before .before .args in

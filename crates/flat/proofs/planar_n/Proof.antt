@@ -1,7 +1,8 @@
+-- `flat::planar_n` meets its contract. The rows of planar: the loop keeps an equation with `rows`, whose samples are the standard's (`planar-mix`).
 use Prim.Native.Nat.{ℕ, _+_, _*_, _-_, _≤_}
 use mathlib.Core.Path.{_≡_, _∙_}
-use lib.ListN.{length, getD}
 use native.Mathlib.Omega.{arith}
+use lib.ListN.{length, getD}
 use borrow.Author.Needs.{needs}
 use Rattle.laws.specs.Fill.{rows}
 use Rattle.laws.specs.FillLaws.{rows-none, rows-more, rows-done, rows-same}
@@ -11,9 +12,6 @@ use Rattle.flat.specs.Flat.{planarMix}
 use Rattle.flat.specs.Text.{planar-mix}
 use Rattle.flat.proofs.planar_n.Statement.{statement}
 use Rattle.flat.proofs.planar_n.Tie as tie
-use Rattle.flat.proofs.planar_n.Reads as reads
-use Rattle.flat.proofs.planar_n.Lts as lts
-use Rattle.flat.proofs.planar_line.Reads as planar-line-reads
 
 abbrev Inv-loop : tie.InvT-loop
 Inv-loop above left n pred₀ top-right bottom-left row₀ pred row =
@@ -22,23 +20,18 @@ Inv-loop above left n pred₀ top-right bottom-left row₀ pred row =
 abbrev μ-loop : tie.MeasureT-loop
 μ-loop above left n pred₀ top-right bottom-left row₀ pred row = n - row
 
--- src/lib.rt:122:21
 mul-top-right : tie.Need-mul-top-right Inv-loop μ-loop
 mul-top-right c = search needs
 
--- src/lib.rt:122:21
 shared-slice-read-top-right : tie.Need-shared-slice-read-top-right Inv-loop μ-loop
 shared-slice-read-top-right c = search needs
 
--- src/lib.rt:123:23
 mul-bottom-left : tie.Need-mul-bottom-left Inv-loop μ-loop
 mul-bottom-left c = search needs
 
--- src/lib.rt:123:23
 shared-slice-read-bottom-left : tie.Need-shared-slice-read-bottom-left Inv-loop μ-loop
 shared-slice-read-bottom-left c = search needs
 
--- src/lib.rt:124:5
 -- a row ends within the block
 room : (c : tie.In-loop Inv-loop μ-loop) → let n = c .before .before .before .before .before .before .before .args .n in c .before .loop .row * n + n ≤ n * n
 room c = row-room _ _ (c .loop-test .taken)
@@ -46,39 +39,30 @@ room c = row-room _ _ (c .loop-test .taken)
 loop-holds : tie.Need-loop-holds Inv-loop μ-loop
 loop-holds c = (search needs, (search needs, rows-none _ _ _))
 
--- src/lib.rt:127:13
 mul-planar-line : tie.Need-mul-planar-line Inv-loop μ-loop
 mul-planar-line c = search needs
 
--- src/lib.rt:127:13
 shared-slice-read-planar-line : tie.Need-shared-slice-read-planar-line Inv-loop μ-loop
 shared-slice-read-planar-line c = search needs
 
--- src/lib.rt:132:13
 mul-planar-line-2 : tie.Need-mul-planar-line-2 Inv-loop μ-loop
 mul-planar-line-2 c = omega (arith, room (c .before))
 
--- src/lib.rt:125:9
 planar-line-requires : tie.Need-planar-line-requires Inv-loop μ-loop
 planar-line-requires c κs = let h = room (c .before .before) in search needs
 
--- src/lib.rt:124:9
 add-row : tie.Need-add-row Inv-loop μ-loop
 add-row c = search needs
 
--- src/lib.rt:124:5
 loop-less : tie.Need-loop-less Inv-loop μ-loop
 loop-less c = search needs
 
--- src/lib.rt:124:5
 loop-again : tie.Need-loop-again Inv-loop μ-loop
 loop-again c = (search needs, (search needs, c .before .before .planar-line .ensures ∙ rows-more _ _ _ _ (c .before .before .before .before .before .before .loop .inv .1 .1)))
 
--- src/lib.rt:118:1
 same-length : tie.Need-same-length Inv-loop μ-loop
 same-length c = search needs
 
--- src/lib.rt:118:1
 returns : tie.Need-returns Inv-loop μ-loop
 returns c =
     let a = c .before .before .before .before .before .before .before .args in

@@ -1,16 +1,13 @@
-use Prim.Native.Nat.{ℕ, _+_, _*_, _-_, _≤_}
-use mathlib.Core.Path.{_≡_, _∙_}
+-- `flat::planar_row` meets its contract. A row of planar samples: the loop keeps an equation with `fill`.
+use Prim.Native.Nat.{ℕ, _-_, _≤_}
+use mathlib.Core.Path.{_≡_}
 use lib.ListN.{length, getD}
-use native.Mathlib.Omega.{arith}
 use borrow.Author.Needs.{needs}
 use Rattle.laws.specs.Fill.{fill}
 use Rattle.laws.specs.FillLaws.{fill-none, fill-more, fill-done}
 use Rattle.flat.specs.Flat.{planarMix}
 use Rattle.flat.proofs.planar_row.Statement.{statement}
 use Rattle.flat.proofs.planar_row.Tie as tie
-use Rattle.flat.proofs.planar_row.Reads as reads
-use Rattle.flat.proofs.planar_row.Lts as lts
-use Rattle.flat.proofs.planar_sample.Reads as planar-sample-reads
 
 abbrev Inv-loop : tie.InvT-loop
 Inv-loop above left top-right bottom-left n row out₀ col₀ out col =
@@ -19,59 +16,45 @@ Inv-loop above left top-right bottom-left n row out₀ col₀ out col =
 abbrev μ-loop : tie.MeasureT-loop
 μ-loop above left top-right bottom-left n row out₀ col₀ out col = n - col
 
--- src/lib.rt:78:5
 loop-holds : tie.Need-loop-holds Inv-loop μ-loop
 loop-holds c = (search needs, (search needs, fill-none _ _))
 
--- src/lib.rt:80:13
 cast-planar-sample : tie.Need-cast-planar-sample Inv-loop μ-loop
 cast-planar-sample c = search needs
 
--- src/lib.rt:81:13
 cast-planar-sample-2 : tie.Need-cast-planar-sample-2 Inv-loop μ-loop
 cast-planar-sample-2 c = search needs
 
--- src/lib.rt:82:13
 cast-planar-sample-3 : tie.Need-cast-planar-sample-3 Inv-loop μ-loop
 cast-planar-sample-3 c = search needs
 
--- src/lib.rt:85:13
 mul-planar-sample : tie.Need-mul-planar-sample Inv-loop μ-loop
 mul-planar-sample c = search needs
 
--- src/lib.rt:85:13
 shared-slice-read-planar-sample : tie.Need-shared-slice-read-planar-sample Inv-loop μ-loop
 shared-slice-read-planar-sample c = search needs
 
--- src/lib.rt:79:20
 planar-sample-requires : tie.Need-planar-sample-requires Inv-loop μ-loop
 planar-sample-requires c κs = search needs
 
--- src/lib.rt:79:9
 mul-out : tie.Need-mul-out Inv-loop μ-loop
 mul-out c = search needs
 
--- src/lib.rt:79:9
 slice-write-out : tie.Need-slice-write-out Inv-loop μ-loop
 slice-write-out c = search needs
 
--- src/lib.rt:78:9
 add-col : tie.Need-add-col Inv-loop μ-loop
 add-col c = search needs
 
--- src/lib.rt:78:5
 loop-less : tie.Need-loop-less Inv-loop μ-loop
 loop-less c = search needs
 
--- src/lib.rt:78:5
 loop-again : tie.Need-loop-again Inv-loop μ-loop
 loop-again c = (search needs, (search needs, fill-more _ _ (c .before .before .before .loop .inv .1 .1) (c .planar-sample .ensures)))
 
--- src/lib.rt:66:1
 same-length : tie.Need-same-length Inv-loop μ-loop
 same-length c = search needs
 
--- src/lib.rt:66:1
 returns : tie.Need-returns Inv-loop μ-loop
 returns c = fill-done _ _ (c .before .loop .inv .0) (c .loop-test .left) (c .before .loop .inv .1 .1)
 
