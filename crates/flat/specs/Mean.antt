@@ -11,13 +11,13 @@ pub record Under (n : ℕ) (a b : Neighbours) : Type 0 where
   pub above : (i : ℕ) → i < 2 * n → a .above i ≤ b .above i
   pub left : (i : ℕ) → i < 2 * n → a .left i ≤ b .left i
 
+pub record Mean (n : ℕ) (F : Neighbours → ℕ) : Type 0 where
+  pub rises : (a b : Neighbours) → Under n a b → F a ≤ F b
+  pub flat : (v : ℕ) → F (record { corner = v; above = λ (i : ℕ). v; left = λ (i : ℕ). v }) ≡ v
+
 -- neighbours that are all one value
 abbrev pub level : ℕ → Neighbours
 level v = record { corner = v; above = λ (i : ℕ). v; left = λ (i : ℕ). v }
-
-pub record Mean (n : ℕ) (F : Neighbours → ℕ) : Type 0 where
-  pub rises : (a b : Neighbours) → Under n a b → F a ≤ F b
-  pub flat : (v : ℕ) → F (level v) ≡ v
 
 -- neighbours that agree in the corner and entries 0 .. 2n - 1
 pub record Agree (n : ℕ) (a b : Neighbours) : Type 0 where
