@@ -1,22 +1,21 @@
 -- The round trip, the range of a residual, and how the tests are taken apart. Assumes nothing.
 use mathlib.Core.Path.{_≡_, refl, sym, ap, _∙_}
-use mathlib.Core.Bool.{Bool, true, false, cond, _&&_, and-true, and-false, and-assoc}
+use mathlib.Core.Bool.{Bool, true, false, _&&_}
 use mathlib.Core.Logic.{⊎-elim}
 use mathlib.Core.List.{List, [], _∷_}
 use Prim.Native.Nat.{ℕ, zero, suc, _+_, _-_, _*_, _^_, _≤_, _<_}
-use native.Mathlib.Nat.{not-suc-le-zero, eq-or-lt-of-le, le-of-suc-le-suc, min-eq-left, add-zero, add-suc}
+use native.Mathlib.Nat.{not-suc-le-zero, eq-or-lt-of-le, le-of-suc-le-suc, min-eq-left}
 use native.Mathlib.Numerals.{add-one}
 use native.Mathlib.Omega.{arith}
-use borrow.Author.Tests.{leb-true, le-leb, lt-leb}
+use borrow.Author.Tests.{leb-true}
 use lib.Dec.{leb}
-use lib.ListN.{length, getD, drop, replicate, length-replicate}
-use lib.Seq.{getD-drop}
+use lib.ListN.{length, getD, replicate, length-replicate}
 use lib.IntN.{ℤ, pos, negsuc, natAbs, _+ℤ_, _-ℤ_, +ℤ-comm, -ℤ-+ℤ-cancel}
 use lib.Signed.{leZ}
 use Rattle.laws.specs.Fill.{fill, run}
 use Rattle.laws.specs.FillLaws.{fill-at, fill-run}
 use Rattle.laws.specs.Choose.{Check, _unless_, firstFail, passed, both-true}
-use Rattle.laws.specs.Diff.{order, as-sub, sub-le}
+use Rattle.laws.specs.Diff.{as-sub, sub-le}
 use Rattle.helpers.specs.Ways.{whole}
 use Rattle.h265.specs.Notation.{clipTo}
 use Rattle.domain.specs.Domain.{depthOk, sizeOk}
@@ -37,36 +36,14 @@ pub small : (r : ℤ) → inRange r ≡ true → natAbs r ≤ 65535
 small (pos k) e = leb-true k 65535 e
 small (negsuc k) e = let h = leb-true k 65534 (both-true (leb k 65534) true e .0) in omega arith
 
--- the same test by the magnitude
-pub by-size : (r : ℤ) → leb (natAbs r) 65535 ≡ inRange r
-by-size (pos k) = refl
-by-size (negsuc k) =
-    ⊎-elim (λ l. rw (le-leb (suc k) 65535 (omega arith), le-leb k 65534 (omega arith)))
-    (λ l. rw (lt-leb (suc k) 65535 (omega arith), lt-leb k 65534 (omega arith)))
-    (order k 65535)
-
--- the greater of two is at most m where both are
-module _ (m : ℕ) {a b : ℕ} where
-  pub greater-new : a < b → leb b m ≡ (leb a m && leb b m)
-  greater-new h = ⊎-elim (λ l. rw (lt-leb b m l) (sym (and-false (leb a m)))) (λ l. rw (le-leb b m l, le-leb a m (omega arith))) (order m b)
-
-  pub greater-old : b ≤ a → leb a m ≡ (leb a m && leb b m)
-  greater-old h = ⊎-elim (λ l. rw (lt-leb a m l)) (λ l. rw (le-leb a m l, le-leb b m (omega arith))) (order m a)
-
 -- residuals one by one
 pub none-in : (rs : List ℤ) → true ≡ allInRange rs 0
 unfolding allInRange
 none-in rs = refl
 
-pub one-more : (rs : List ℤ) (i : ℕ) {a b : Bool} → a ≡ allInRange rs i → b ≡ (a && inRange (getD rs i (pos 0))) → b ≡ allInRange rs (i + 1)
+pub one-more : (rs : List ℤ) (i : ℕ) {a b : Bool} → a ≡ allInRange rs i → b ≡ inRange (getD rs i (pos 0)) → (a && b) ≡ allInRange rs (i + 1)
 unfolding allInRange
-one-more rs i p q = q ∙ rw (add-one, p)
-
--- the first h and those from h on
-pub in-halves : (rs : List ℤ) (h i : ℕ) → (allInRange rs h && allInRange (drop h rs) i) ≡ allInRange rs (h + i)
-unfolding allInRange
-in-halves rs h zero = rw add-zero (and-true (allInRange rs h))
-in-halves rs h (suc i) = sym (and-assoc (allInRange rs h) (allInRange (drop h rs) i) _) ∙ rw (add-suc, in-halves rs h i, getD-drop)
+one-more rs i p q = rw (add-one, p, q)
 
 pub each-small : (rs : List ℤ) (k : ℕ) → allInRange rs k ≡ true → (i : ℕ) → i < k → natAbs (getD rs i (pos 0)) ≤ 65535
 unfolding allInRange

@@ -1,8 +1,6 @@
 // Residual and reconstruction. Rests on the standard's clip, the domain's tests and the helpers.
 ghost use mathlib.Core.Path.{_≡_};
-ghost use mathlib.Core.Bool.{_&&_};
 ghost use Prim.Native.Nat.{ℕ, _+_, _-_, _*_, _^_, _≤_, _<_};
-ghost use lib.Dec.{leb};
 ghost use lib.ListN.{length, getD, replicate};
 ghost use lib.IntN.{pos, natAbs, _+ℤ_, _-ℤ_};
 ghost use Rattle.laws.specs.Fill.{fill, run};
@@ -107,27 +105,22 @@ pub fn compute_residual_i32_into(orig: &[u16], pred: &[u16], n: usize, residual:
     0
 }
 
-// A running figure over residuals: it stays at most 65535 exactly as long as every residual is in range.
-fn worse(seen: u32, r: i32) -> u32
-    ensures { λ w. ⌜ leb w 65535 ≡ (leb seen 65535 && inRange r) ⌝ }
+fn in_range(r: i32) -> bool
+    ensures { λ b. ⌜ b ≡ inRange r ⌝ }
 {
-    let a = helpers::abs(r);
-    if seen < a { a } else { seen }
+    (r >= -65535) & (r <= 65535)
 }
 
-// Whether so many runs of residuals are in range; two figures at once, one for each half.
+// Whether so many runs of residuals are in range; no early way out, so that many are tested at once.
 fn all_in_range(residual: &[i32], runs: usize) -> bool
     requires { ⌜ (runs * 16 ≤ length (now residual)) × (runs ≤ 64) ⌝ }
     ensures { λ b. ⌜ b ≡ allInRange (now (residual .entry)) (runs * 16) ⌝ }
 {
-    let half = runs * 8;
-    let mut a: u32 = 0;
-    let mut b: u32 = 0;
-    for i in 0..half {
-        a = worse(a, residual[i]);
-        b = worse(b, residual[half + i]);
+    let mut ok = true;
+    for i in 0..runs * 16 {
+        ok = ok & in_range(residual[i]);
     }
-    (a <= 65535) & (b <= 65535)
+    ok
 }
 
 // Number 1 before those of the buffers, and 8 after them.
