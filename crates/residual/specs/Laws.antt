@@ -1,9 +1,9 @@
 -- The round trip, the range of a residual, and how the tests are taken apart. Assumes nothing.
-use mathlib.Core.Path.{_≡_, refl, sym, ap, _∙_}
+use mathlib.Core.Path.{_≡_, refl, ap, _∙_}
 use mathlib.Core.Bool.{Bool, true, false, _&&_}
 use mathlib.Core.Logic.{⊎-elim}
 use mathlib.Core.List.{List, [], _∷_}
-use Prim.Native.Nat.{ℕ, zero, suc, _+_, _-_, _*_, _^_, _≤_, _<_}
+use Prim.Native.Nat.{ℕ, zero, suc, _+_, _*_, _≤_, _<_}
 use native.Mathlib.Nat.{not-suc-le-zero, eq-or-lt-of-le, le-of-suc-le-suc, min-eq-left}
 use native.Mathlib.Numerals.{add-one}
 use native.Mathlib.Omega.{arith}
@@ -11,7 +11,6 @@ use borrow.Author.Tests.{leb-true}
 use lib.Dec.{leb}
 use lib.ListN.{length, getD, replicate, length-replicate}
 use lib.IntN.{ℤ, pos, negsuc, natAbs, _+ℤ_, _-ℤ_, +ℤ-comm, -ℤ-+ℤ-cancel}
-use lib.Signed.{leZ}
 use Rattle.laws.specs.Fill.{fill, run}
 use Rattle.laws.specs.FillLaws.{fill-at, fill-run}
 use Rattle.laws.specs.Choose.{Check, _unless_, firstFail, passed, both-true}
@@ -19,7 +18,7 @@ use Rattle.laws.specs.Diff.{as-sub, sub-le}
 use Rattle.helpers.specs.Ways.{whole}
 use Rattle.h265.specs.Notation.{clipTo}
 use Rattle.domain.specs.Domain.{depthOk, sizeOk}
-use Rattle.domain.specs.Facts.{Depth, Size, at-size, depth-of, size-of}
+use Rattle.domain.specs.Facts.{Depth, Size, depth-of, size-of}
 use Rattle.residual.specs.Residual.{inRange, allInRange, blockChecks, residualNo, reconstructNo}
 
 -- a residual added back gives the original

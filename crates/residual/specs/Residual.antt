@@ -1,7 +1,7 @@
 -- Document 01, module 7: residual and reconstruction, sample by sample, and what the calls refuse. Assumes nothing.
-use Prim.Native.Nat.{ℕ, zero, suc, _-_, _*_, _^_}
-use mathlib.Core.Bool.{Bool, true, false, _&&_}
+use mathlib.Core.Bool.{Bool, true, _&&_}
 use mathlib.Core.List.{List, [], _∷_}
+use Prim.Native.Nat.{ℕ, zero, suc, _-_, _*_, _^_}
 use lib.Dec.{leb}
 use lib.ListN.{length, getD}
 use lib.IntN.{ℤ, pos, negsuc, _+ℤ_, _-ℤ_}

@@ -1,10 +1,10 @@
 -- The two forms of the standard's filtering, each row by itself. Assumes nothing.
-use mathlib.Core.Path.{_≡_, refl, sym, ap, _∙_}
-use mathlib.Core.Bool.{Bool, true, false, cond, _&&_}
-use Prim.Native.Nat.{ℕ, zero, suc, _+_, _-_, _*_, _/_, _≤_, _<_}
-use lib.Dec.{eqb}
-use lib.IntN.{ℤ, pos, negsuc, _-ℤ_, _+ℤ_}
+use mathlib.Core.Path.{_≡_, refl}
+use mathlib.Core.Bool.{Bool, true, false, _&&_}
+use Prim.Native.Nat.{ℕ, _+_, _*_, _/_}
 use borrow.Author.Tests.{eqb-true}
+use lib.Dec.{eqb}
+use lib.IntN.{ℤ, pos, negsuc, _-ℤ_}
 use Rattle.laws.specs.Choose.{both-true}
 use Rattle.h265.specs.Notation.{Neighbours, near}
 use Rattle.h265.specs.Filtering.{straight, biIntFlag, strongAt, weakAt, filtered}

@@ -1,7 +1,7 @@
 -- Document 01, module 5: what smoothing gives back, built from the standard's filtering (8.4.4.2.3). Assumes nothing.
-use Prim.Native.Nat.{ℕ, _+_, _*_}
-use mathlib.Core.Bool.{Bool, true, false, cond, _&&_}
+use mathlib.Core.Bool.{Bool, false, cond, _&&_}
 use mathlib.Core.List.{List, [], _∷_}
+use Prim.Native.Nat.{ℕ, _+_, _*_}
 use lib.Dec.{leb, ltb}
 use lib.ListN.{length, getD, replicate}
 use Rattle.laws.specs.Fill.{fill}

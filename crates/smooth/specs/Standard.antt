@@ -1,24 +1,21 @@
 -- Smoothing gives the standard's pF on the corner and entries 0 to 2n - 1, and these depend on no other entry. Assumes nothing.
-use mathlib.Core.Path.{_≡_, refl, sym, ap, _∙_}
-use mathlib.Core.Bool.{Bool, true, false, cond, _&&_}
+use mathlib.Core.Path.{_≡_, refl, sym, _∙_}
+use mathlib.Core.Bool.{Bool, true, false}
 use mathlib.Core.Logic.{⊎-elim}
 use mathlib.Core.List.{List}
-use Prim.Native.Nat.{ℕ, zero, suc, _+_, _-_, _*_, _^_, _≤_, _<_}
+use Prim.Native.Nat.{ℕ, zero, suc, _+_, _-_, _*_, _≤_, _<_}
 use native.Mathlib.Omega.{arith}
-use lib.Dec.{ltb, eqb}
-use lib.ListN.{length, getD, replicate, length-replicate}
-use lib.IntN.{ℤ, pos, negsuc, _-ℤ_, _+ℤ_}
 use borrow.Author.Tests.{lt-ltb, le-ltb, eqb-true}
-use Rattle.laws.specs.Fill.{fill}
+use lib.Dec.{eqb}
+use lib.ListN.{getD, replicate, length-replicate}
+use lib.IntN.{pos, _-ℤ_}
 use Rattle.laws.specs.FillLaws.{fill-at}
-use Rattle.laws.specs.Choose.{both-true}
 use Rattle.laws.specs.Diff.{order, sub-pos}
-use Rattle.h265.specs.Notation.{Neighbours, near, fromRows, _>>ℕ_}
-use Rattle.h265.specs.Filtering.{straight, biIntFlag, strongAt, weakAt, filtered}
-use Rattle.rows.specs.declared.Rows.{Rows}
+use Rattle.h265.specs.Notation.{Neighbours, fromRows}
+use Rattle.h265.specs.Filtering.{biIntFlag, strongAt, weakAt, filtered}
 use Rattle.rows.specs.Neighbours.{neighboursOf}
 use Rattle.smooth.specs.Smoothing.{rowEntry, rowOf, smoothed}
-use Rattle.smooth.specs.Forms.{line, weakRow, weakForm, strongForm, strong-side, strong-is, weak-is}
+use Rattle.smooth.specs.Forms.{line, weakRow, strong-side, strong-is, weak-is}
 
 -- two neighbourhoods of a block of side n: the same corner and entries 0 to 2n - 1
 pub record Agree (n : ℕ) (p q : Neighbours) : Type 0 where

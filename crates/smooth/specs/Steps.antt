@@ -1,22 +1,19 @@
 -- The entries of a smoothed row as the code works them out, and the tests of the rule. Assumes nothing.
-use mathlib.Core.Path.{_≡_, refl, sym, ap, _∙_}
-use mathlib.Core.Bool.{Bool, true, false, cond, _&&_}
+use mathlib.Core.Path.{_≡_, refl, ap}
+use mathlib.Core.Bool.{Bool, true, false, _&&_}
 use mathlib.Core.Logic.{⊎-elim}
 use mathlib.Core.List.{List}
-use Prim.Native.Nat.{ℕ, zero, suc, _+_, _-_, _*_, _/_, _^_, _≤_, _<_}
+use Prim.Native.Nat.{ℕ, _+_, _-_, _*_, _/_, _≤_, _<_}
 use native.Mathlib.Omega.{arith}
-use lib.Dec.{leb, ltb, eqb}
-use lib.ListN.{length, getD, replicate}
-use lib.IntN.{ℤ, pos, negsuc, _-ℤ_}
 use borrow.Author.Tests.{lt-ltb, le-ltb, leb-true}
-use Rattle.laws.specs.Fill.{fill}
-use Rattle.laws.specs.FillLaws.{fill-same}
+use lib.Dec.{leb}
+use lib.ListN.{length, getD}
 use Rattle.laws.specs.Diff.{order, sub-pos}
 use Rattle.laws.specs.Choose.{passed, both-true}
 use Rattle.domain.specs.Domain.{depthOk, sizeOk}
 use Rattle.domain.specs.Facts.{Depth, Size, depth-of, size-of, size-small}
-use Rattle.h265.specs.Notation.{Neighbours, fromRows}
-use Rattle.h265.specs.Filtering.{biIntFlag, strongAt, weakAt, filtered}
+use Rattle.h265.specs.Notation.{fromRows}
+use Rattle.h265.specs.Filtering.{biIntFlag, strongAt, weakAt}
 use Rattle.rows.specs.declared.Rows.{Rows}
 use Rattle.smooth.specs.declared.FilteredRows.{FilteredRows}
 use Rattle.smooth.specs.Smoothing.{rowEntry, rowOf, smoothed, filterNo, lumaNo, filterDoor}

@@ -33,7 +33,10 @@ pub struct Smoothed {
 fn distance(mode: u8) -> u32
     ensures { λ r. ⌜ r ≡ minDistVerHor mode ⌝ }
 {
-    helpers::min(helpers::abs_diff(mode as u32, 26), helpers::abs_diff(mode as u32, 10))
+    helpers::min(
+        helpers::abs_diff(mode as u32, 26),
+        helpers::abs_diff(mode as u32, 10),
+    )
 }
 
 fn threshold(n: usize) -> u32
@@ -77,10 +80,7 @@ pub fn should_filter_refs(mode: u8, n: usize) -> Rule
             yes: smooths(mode, n),
         };
     }
-    Rule {
-        no: no,
-        yes: false,
-    }
+    Rule { no: no, yes: false }
 }
 
 // Number 2, then 5, of rows with so many entries.
@@ -183,14 +183,7 @@ fn is_straight(bits: u32, corner: u16, mid: u16, far: u16) -> bool
 }
 
 // Whether the strong form is taken, where it is allowed.
-fn is_strong(
-    allowed: bool,
-    corner: u16,
-    above: &[u16],
-    left: &[u16],
-    n: usize,
-    bits: u32,
-) -> bool
+fn is_strong(allowed: bool, corner: u16, above: &[u16], left: &[u16], n: usize, bits: u32) -> bool
     requires { ⌜ Depth bits × Ready n (length (now above)) (length (now left)) ⌝ }
     ensures { λ r. ⌜ r ≡ biIntFlag allowed bits n (fromRows corner (now (above .entry)) (now (left .entry))) ⌝ }
 {
@@ -252,13 +245,7 @@ pub fn filter_references(corner: u16, above: &[u16], left: &[u16], n: usize) -> 
 }
 
 // The corner and the two rows; at n = 32 in the strong form where both rows are nearly straight.
-pub fn filter_luma_refs(
-    corner: u16,
-    above: &[u16],
-    left: &[u16],
-    n: usize,
-    bits: u32,
-) -> Smoothed
+pub fn filter_luma_refs(corner: u16, above: &[u16], left: &[u16], n: usize, bits: u32) -> Smoothed
     ensures { λ r. ⌜ r ≡ lumaDoor true corner (now (above .entry)) (now (left .entry)) n bits ⌝ }
 {
     let no = luma_no(bits, n, above.len(), left.len());

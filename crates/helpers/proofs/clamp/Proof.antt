@@ -1,37 +1,28 @@
-use Prim.Native.Nat.{_≤_}
-use lib.IntN.{natAbs}
-use mathlib.Core.Path.{_≡_, sym, ap, _∙_}
+-- `helpers::clamp` meets its contract. Below 0, within, and over. Assumes nothing.
 use native.Mathlib.Omega.{arith}
+use borrow.Author.Needs.{needs}
 use mir.Facts.{toZ-ofZ}
 use Rattle.helpers.specs.Ways.{nonneg, unsigned, under, within, over}
-use borrow.Author.Needs.{needs}
 use Rattle.helpers.proofs.clamp.Statement.{statement}
 use Rattle.helpers.proofs.clamp.Tie as tie
-use Rattle.helpers.proofs.clamp.Reads as reads
-use Rattle.helpers.proofs.clamp.Lts as lts
 
--- src/lib.rt:40:9
 returns : tie.Need-returns
 returns c = let a = c .before .args in under (a .largest) (a .v) (rw (toZ-ofZ (c .before .fits .v)) at (c .if1 .taken))
 
--- src/lib.rt:42:13
 cast-w : tie.Need-cast-w
 cast-w c = unsigned (c .before .args .v) (c .before .fits .v) (c .if1 .left)
 
--- src/lib.rt:44:16
 cast-result : tie.Need-cast-result
 cast-result c = search needs
 
--- src/lib.rt:44:9
 returns-2 : tie.Need-returns-2
-returns-2 c = 
+returns-2 c =
     let s = c .before .before in
     let b = toZ-ofZ (s .fits .v) in
     rw b (within (s .args .largest) (s .args .v) (nonneg (s .args .v) (rw b at (c .before .if1 .left))) (let h = rw b at (c .if2 .taken) in omega arith))
 
--- src/lib.rt:36:1
 returns-3 : tie.Need-returns-3
-returns-3 c = 
+returns-3 c =
     let s = c .before .before in
     let b = toZ-ofZ (s .fits .v) in
     over (s .args .largest) (s .args .v) (nonneg (s .args .v) (rw b at (c .before .if1 .left))) (let h = rw b at (c .if2 .left) in omega arith)

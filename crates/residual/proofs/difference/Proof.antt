@@ -1,24 +1,19 @@
+-- `residual::difference` meets its contract. Two samples fit an i32, and so does their difference. Assumes nothing.
 use native.Mathlib.Omega.{arith}
-use Rattle.laws.specs.Signed.{sample-i32, sub-asks, sub-gives}
 use borrow.Author.Needs.{needs}
+use Rattle.laws.specs.Signed.{sample-i32, sub-asks, sub-gives}
 use Rattle.residual.proofs.difference.Statement.{statement}
 use Rattle.residual.proofs.difference.Tie as tie
-use Rattle.residual.proofs.difference.Reads as reads
-use Rattle.residual.proofs.difference.Lts as lts
 
--- src/lib.rt:39:6
 cast-result : tie.Need-cast-result
 cast-result c = search needs
 
--- src/lib.rt:39:19
 cast-result-2 : tie.Need-cast-result-2
 cast-result-2 c = search needs
 
--- src/lib.rt:39:5
 sub-result : tie.Need-sub-result
 sub-result c = sub-asks (c .args .o) (c .args .p) _ _ (sample-i32 _ (c .fits .o .fits)) (sample-i32 _ (c .fits .p .fits)) (omega arith)
 
--- src/lib.rt:36:1
 returns : tie.Need-returns
 returns c = sub-gives (c .args .o) (c .args .p) _ _ (sample-i32 _ (c .fits .o .fits)) (sample-i32 _ (c .fits .p .fits)) (omega arith)
 

@@ -1,20 +1,16 @@
+-- `residual::largest_of` meets its contract. Each depth by its arm. Assumes nothing.
 use mathlib.Core.Logic.{⊎-elim}
 use Rattle.residual.proofs.largest_of.Statement.{statement}
 use Rattle.residual.proofs.largest_of.Tie as tie
-use Rattle.residual.proofs.largest_of.Reads as reads
-use Rattle.residual.proofs.largest_of.Lts as lts
 
--- src/lib.rt:25:1
 returns : tie.Need-returns
 returns c = rw (c .match .keys1)
 
--- src/lib.rt:25:1
 returns-2 : tie.Need-returns-2
 returns-2 c = rw (c .match .keys2)
 
--- src/lib.rt:25:1
 returns-3 : tie.Need-returns-3
-returns-3 c = 
+returns-3 c =
     let r = c .match .rest in
     ⊎-elim (λ e. absurd (r .0 .1 e)) (λ s. ⊎-elim (λ e. absurd (r .1 e)) (λ e. rw e) s) (c .before .pre)
 

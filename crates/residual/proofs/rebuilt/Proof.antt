@@ -1,28 +1,22 @@
+-- `residual::rebuilt` meets its contract. A sample and a residual in range have a sum that fits. Assumes nothing.
 use native.Mathlib.Omega.{arith}
+use borrow.Author.Needs.{needs}
 use mir.Syntax.{w32}
 use mir.Val.{ofZ}
 use mir.Facts.{toZ-ofZ}
 use Rattle.laws.specs.Signed.{sample-i32, add-asks, add-gives}
-use borrow.Author.Needs.{needs}
 use Rattle.residual.proofs.rebuilt.Statement.{statement}
 use Rattle.residual.proofs.rebuilt.Tie as tie
-use Rattle.residual.proofs.rebuilt.Reads as reads
-use Rattle.residual.proofs.rebuilt.Lts as lts
-use Rattle.helpers.proofs.clamp.Reads as clamp-reads
 
--- src/lib.rt:46:21
 cast-clamp : tie.Need-cast-clamp
 cast-clamp c = search needs
 
--- src/lib.rt:46:20
 add-clamp : tie.Need-add-clamp
 add-clamp c = add-asks (c .args .p) (ofZ w32 (c .args .r)) _ _ (sample-i32 _ (c .fits .p .fits)) (toZ-ofZ (c .fits .r)) (omega arith)
 
--- src/lib.rt:46:5
 clamp-requires : tie.Need-clamp-requires
 clamp-requires c κs = search needs
 
--- src/lib.rt:42:1
 returns : tie.Need-returns
 returns c = let s = c .before in rw (add-gives (s .args .p) (ofZ w32 (s .args .r)) _ _ (sample-i32 _ (s .fits .p .fits)) (toZ-ofZ (s .fits .r)) (omega arith)) at (c .clamp .ensures)
 

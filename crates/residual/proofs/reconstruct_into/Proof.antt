@@ -1,58 +1,46 @@
-use mathlib.Core.Path.{_≡_, _∙_, sym}
-use lib.ListN.{length}
+-- `residual::reconstruct_into` meets its contract. Served by the runs; refused, the buffer is kept. Assumes nothing.
+use mathlib.Core.Path.{_∙_, sym}
 use native.Mathlib.Omega.{arith}
+use borrow.Author.Needs.{needs}
+use lib.ListN.{length}
 use Rattle.laws.specs.Choose.{worked, unserved}
 use Rattle.residual.specs.Residual.{reconstructed}
-use Rattle.residual.specs.Laws.{size-fits, runs-fit, Sound, sound}
-use borrow.Author.Needs.{needs}
+use Rattle.residual.specs.Laws.{size-fits, runs-fit, sound}
 use Rattle.residual.proofs.reconstruct_into.Statement.{statement}
 use Rattle.residual.proofs.reconstruct_into.Tie as tie
-use Rattle.residual.proofs.reconstruct_into.Reads as reads
-use Rattle.residual.proofs.reconstruct_into.Lts as lts
-use Rattle.residual.proofs.largest_of.Reads as largest-of-reads
-use Rattle.residual.proofs.rebuild.Reads as rebuild-reads
-use Rattle.residual.proofs.reconstruct_no.Reads as reconstruct-no-reads
-use Rattle.residual.proofs.runs_of.Reads as runs-of-reads
 
--- src/lib.rt:184:9
 reconstruct-no-requires : tie.Need-reconstruct-no-requires
 reconstruct-no-requires c κs = search needs
 
--- src/lib.rt:186:9
 returns : tie.Need-returns
 unfolding reconstructed
 returns c = (c .before .reconstruct-no .ensures, unserved _ _ _ (λ e. c .if1 .taken (c .before .reconstruct-no .ensures ∙ e)))
 
--- src/lib.rt:188:29
 runs-of-requires : tie.Need-runs-of-requires
-runs-of-requires c κs = 
+runs-of-requires c κs =
     let s = c .before .before .before .before .args in
     let z = sound (s .bits) (s .n) (length (s .pred .now)) (s .residual .now) (length (s .out .now)) (sym (c .before .reconstruct-no .ensures) ∙ c .if1 .left) in
     size-fits _ _ _ _ (z .buffers)
 
--- src/lib.rt:188:41
 largest-of-requires : tie.Need-largest-of-requires
-largest-of-requires c κs = 
+largest-of-requires c κs =
     let s = c .before .before .before .before .before .args in
     let z = sound (s .bits) (s .n) (length (s .pred .now)) (s .residual .now) (length (s .out .now)) (sym (c .before .before .reconstruct-no .ensures) ∙ c .before .if1 .left) in
     z .depth
 
--- src/lib.rt:188:5
 rebuild-requires : tie.Need-rebuild-requires
-rebuild-requires c κs = 
+rebuild-requires c κs =
     let s = c .before .before .before .before .before .before .before .args in
     let z = sound (s .bits) (s .n) (length (s .pred .now)) (s .residual .now) (length (s .out .now)) (sym (c .before .before .before .before .reconstruct-no .ensures) ∙ c .before .before .before .if1 .left) in
     let k = c .before .before .runs-of .ensures in
     (runs-fit _ _ _ _ (z .buffers) _ (k .0) (k .1), λ i h. z .small i (omega arith))
 
--- src/lib.rt:181:1
 same-length : tie.Need-same-length
 same-length c = search needs
 
--- src/lib.rt:181:1
 returns-2 : tie.Need-returns-2
 unfolding reconstructed
-returns-2 c = 
+returns-2 c =
     let z = sym (c .before .before .before .before .before .before .before .reconstruct-no .ensures) ∙ c .before .before .before .before .before .before .if1 .left in
     (sym z, (rw (c .before .before .before .before .before .runs-of .ensures .0, c .before .before .before .before .largest-of .ensures) at (c .before .before .rebuild .ensures)) ∙ worked _ _ _ z)
 

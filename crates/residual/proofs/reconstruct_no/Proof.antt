@@ -1,60 +1,47 @@
-use mathlib.Core.Path.{_≡_, refl, _∙_, sym}
-use mathlib.Core.Bool.{false}
+-- `residual::reconstruct_no` meets its contract. Each return by the tests before it; those of the buffers are shared. Assumes nothing.
+use mathlib.Core.Path.{refl, _∙_, sym}
 use mathlib.Core.List.{[], _∷_}
-use Prim.Native.Nat.{ℕ, _*_}
-use lib.ListN.{length}
+use Prim.Native.Nat.{_*_}
 use borrow.Author.Tests.{not-true, not-false}
-use Rattle.laws.specs.Choose.{_unless_, if-yes, if-no}
-use Rattle.residual.specs.Residual.{allInRange, residualNo, reconstructNo}
-use Rattle.residual.specs.Laws.{size-fits, runs-fit, first-stops, first-goes}
 use borrow.Author.Needs.{needs}
+use lib.ListN.{length}
+use Rattle.laws.specs.Choose.{_unless_, if-yes, if-no}
+use Rattle.residual.specs.Residual.{allInRange, reconstructNo}
+use Rattle.residual.specs.Laws.{size-fits, runs-fit, first-stops, first-goes}
 use Rattle.residual.proofs.reconstruct_no.Statement.{statement}
 use Rattle.residual.proofs.reconstruct_no.Tie as tie
-use Rattle.residual.proofs.reconstruct_no.Reads as reads
-use Rattle.residual.proofs.reconstruct_no.Lts as lts
-use Rattle.domain.proofs.depth_ok.Reads as depth-ok-reads
-use Rattle.residual.proofs.all_in_range.Reads as all-in-range-reads
-use Rattle.residual.proofs.residual_no.Reads as residual-no-reads
-use Rattle.residual.proofs.runs_of.Reads as runs-of-reads
 
--- src/lib.rt:137:9
 depth-ok-requires : tie.Need-depth-ok-requires
 depth-ok-requires c κs = search needs
 
--- src/lib.rt:138:9
 returns : tie.Need-returns
 unfolding reconstructNo
 returns c = rw (sym (c .before .depth-ok .ensures) ∙ not-true _ (c .if1 .taken))
 
--- src/lib.rt:140:9
 residual-no-requires : tie.Need-residual-no-requires
 residual-no-requires c κs = search needs
 
--- src/lib.rt:142:9
 returns-2 : tie.Need-returns-2
 unfolding reconstructNo
-returns-2 c = 
+returns-2 c =
     let a = c .before .before .before .before .args in
     let more = (8 unless allInRange (a .residual .now) (a .n * a .n)) ∷ [] in
     let len = length (a .residual .now) in
     let e = c .before .residual-no .ensures in
     rw (sym (c .before .before .before .depth-ok .ensures) ∙ not-false _ (c .before .before .if1 .left)) (e ∙ first-stops (a .n) (a .pred) len (a .out) more (λ z. c .if2 .taken (e ∙ z)))
 
--- src/lib.rt:144:32
 runs-of-requires : tie.Need-runs-of-requires
 runs-of-requires c κs = size-fits _ _ _ _ (sym (c .before .residual-no .ensures) ∙ c .if2 .left)
 
--- src/lib.rt:144:9
 all-in-range-requires : tie.Need-all-in-range-requires
-all-in-range-requires c κs = 
+all-in-range-requires c κs =
     let a = c .before .before .before .before .before .args in
     let f = runs-fit (a .n) (a .pred) (length (a .residual .now)) (a .out) (sym (c .before .before .residual-no .ensures) ∙ c .before .if2 .left) (c .runs-of .result) (c .runs-of .ensures .0) (c .runs-of .ensures .1) in
     (f .second, f .few)
 
--- src/lib.rt:145:9
 returns-3 : tie.Need-returns-3
 unfolding reconstructNo
-returns-3 c = 
+returns-3 c =
     let a = c .before .before .before .before .before .before .before .args in
     let more = (8 unless allInRange (a .residual .now) (a .n * a .n)) ∷ [] in
     let len = length (a .residual .now) in
@@ -62,10 +49,9 @@ returns-3 c =
     let e = sym (rw (c .before .before .runs-of .ensures .0) at (c .before .all-in-range .ensures)) ∙ not-true _ (c .if3 .taken) in
     rw (sym (c .before .before .before .before .before .before .depth-ok .ensures) ∙ not-false _ (c .before .before .before .before .before .if1 .left)) (if-no (allInRange (a .residual .now) (a .n * a .n)) 0 8 8 e refl ∙ first-goes (a .n) (a .pred) len (a .out) more z)
 
--- src/lib.rt:134:1
 returns-4 : tie.Need-returns-4
 unfolding reconstructNo
-returns-4 c = 
+returns-4 c =
     let a = c .before .before .before .before .before .before .before .args in
     let more = (8 unless allInRange (a .residual .now) (a .n * a .n)) ∷ [] in
     let len = length (a .residual .now) in

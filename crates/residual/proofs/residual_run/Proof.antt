@@ -1,18 +1,15 @@
-use Prim.Native.Nat.{ℕ, _+_, _*_, _-_, _≤_}
+-- `residual::residual_run` meets its contract. The loop's invariant: the entries passed are the differences. Assumes nothing.
 use mathlib.Core.Path.{_≡_, _∙_}
-use lib.ListN.{length, getD, replicate}
+use Prim.Native.Nat.{ℕ, _+_, _-_, _≤_}
+use borrow.Author.Needs.{needs}
+use lib.ListN.{length, replicate}
 use lib.IntN.{pos}
-use native.Mathlib.Omega.{arith}
 use Rattle.laws.specs.Signed.{held}
-use Rattle.laws.specs.Fill.{fill, run}
+use Rattle.laws.specs.Fill.{fill}
 use Rattle.laws.specs.FillLaws.{fill-none, fill-more, fill-done}
 use Rattle.residual.specs.Residual.{residualAt}
-use borrow.Author.Needs.{needs}
 use Rattle.residual.proofs.residual_run.Statement.{statement}
 use Rattle.residual.proofs.residual_run.Tie as tie
-use Rattle.residual.proofs.residual_run.Reads as reads
-use Rattle.residual.proofs.residual_run.Lts as lts
-use Rattle.residual.proofs.difference.Reads as difference-reads
 
 abbrev Inv-loop : tie.InvT-loop
 Inv-loop orig pred at to₀ j₀ to j = (j ≤ 16) × ((length to ≡ 16) × (to ≡ fill (λ (i : ℕ). residualAt orig pred (at + i)) j (replicate 16 (pos 0))))
@@ -20,59 +17,45 @@ Inv-loop orig pred at to₀ j₀ to j = (j ≤ 16) × ((length to ≡ 16) × (to
 abbrev μ-loop : tie.MeasureT-loop
 μ-loop orig pred at to₀ j₀ to j = 16 - j
 
--- src/lib.rt:70:5
 loop-holds : tie.Need-loop-holds Inv-loop μ-loop
 loop-holds c = (search needs, (search needs, fill-none _ _))
 
--- src/lib.rt:71:33
 add-difference : tie.Need-add-difference Inv-loop μ-loop
 add-difference c = search needs
 
--- src/lib.rt:71:28
 mul-difference : tie.Need-mul-difference Inv-loop μ-loop
 mul-difference c = search needs
 
--- src/lib.rt:71:28
 shared-slice-read-difference : tie.Need-shared-slice-read-difference Inv-loop μ-loop
 shared-slice-read-difference c = search needs
 
--- src/lib.rt:71:47
 add-difference-2 : tie.Need-add-difference-2 Inv-loop μ-loop
 add-difference-2 c = search needs
 
--- src/lib.rt:71:42
 mul-difference-2 : tie.Need-mul-difference-2 Inv-loop μ-loop
 mul-difference-2 c = search needs
 
--- src/lib.rt:71:42
 shared-slice-read-difference-2 : tie.Need-shared-slice-read-difference-2 Inv-loop μ-loop
 shared-slice-read-difference-2 c = search needs
 
--- src/lib.rt:71:17
 difference-requires : tie.Need-difference-requires Inv-loop μ-loop
 difference-requires c κs = search needs
 
--- src/lib.rt:71:9
 mul-to : tie.Need-mul-to Inv-loop μ-loop
 mul-to c = search needs
 
--- src/lib.rt:71:9
 array-set-from-to : tie.Need-array-set-from-to Inv-loop μ-loop
 array-set-from-to c = search needs
 
--- src/lib.rt:70:9
 add-j : tie.Need-add-j Inv-loop μ-loop
 add-j c = search needs
 
--- src/lib.rt:70:5
 loop-less : tie.Need-loop-less Inv-loop μ-loop
 loop-less c = search needs
 
--- src/lib.rt:70:5
 loop-again : tie.Need-loop-again Inv-loop μ-loop
 loop-again c = (search needs, (search needs, fill-more _ _ (c .before .before .before .before .loop .inv .1 .1) (held _ (c .difference .ok) ∙ c .difference .ensures)))
 
--- src/lib.rt:65:1
 returns : tie.Need-returns Inv-loop μ-loop
 returns c = fill-done _ _ (c .before .loop .inv .0) (c .loop-test .left) (c .before .loop .inv .1 .1)
 

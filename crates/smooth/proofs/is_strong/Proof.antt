@@ -1,36 +1,27 @@
-use Rattle.h265.specs.Filtering.{biIntFlag}
+-- `smooth::is_strong` meets its contract. The code is the definition, with both rows' tests put in. Assumes nothing.
 use borrow.Author.Needs.{needs}
+use Rattle.h265.specs.Filtering.{biIntFlag}
 use Rattle.smooth.proofs.is_strong.Statement.{statement}
 use Rattle.smooth.proofs.is_strong.Tie as tie
-use Rattle.smooth.proofs.is_strong.Reads as reads
-use Rattle.smooth.proofs.is_strong.Lts as lts
-use Rattle.smooth.proofs.is_straight.Reads as is-straight-reads
 
--- src/lib.rt:197:40
 shared-slice-read-is-straight : tie.Need-shared-slice-read-is-straight
 shared-slice-read-is-straight c = search needs
 
--- src/lib.rt:197:51
 shared-slice-read-is-straight-2 : tie.Need-shared-slice-read-is-straight-2
 shared-slice-read-is-straight-2 c = search needs
 
--- src/lib.rt:197:9
 is-straight-requires : tie.Need-is-straight-requires
 is-straight-requires c κs = search needs
 
--- src/lib.rt:198:42
 shared-slice-read-is-straight-3 : tie.Need-shared-slice-read-is-straight-3
 shared-slice-read-is-straight-3 c = search needs
 
--- src/lib.rt:198:52
 shared-slice-read-is-straight-4 : tie.Need-shared-slice-read-is-straight-4
 shared-slice-read-is-straight-4 c = search needs
 
--- src/lib.rt:198:9
 is-straight-requires-2 : tie.Need-is-straight-requires-2
 is-straight-requires-2 c κs = search needs
 
--- src/lib.rt:186:1
 returns : tie.Need-returns
 unfolding biIntFlag
 returns c = rw (c .is-straight2 .ensures, c .before .before .before .is-straight .ensures)

@@ -1,56 +1,41 @@
+-- `smooth::smooth_rows` meets its contract. The one form or the other, by the test. Assumes nothing.
 use mathlib.Core.Path.{sym, _∙_}
-use Rattle.smooth.specs.Steps.{give-strong, give-weak}
 use borrow.Author.Needs.{needs}
+use Rattle.smooth.specs.Steps.{give-strong, give-weak}
 use Rattle.smooth.proofs.smooth_rows.Statement.{statement}
 use Rattle.smooth.proofs.smooth_rows.Tie as tie
-use Rattle.smooth.proofs.smooth_rows.Reads as reads
-use Rattle.smooth.proofs.smooth_rows.Lts as lts
-use Rattle.smooth.proofs.is_strong.Reads as is-strong-reads
-use Rattle.smooth.proofs.strong_row.Reads as strong-row-reads
-use Rattle.smooth.proofs.tap.Reads as tap-reads
-use Rattle.smooth.proofs.weak_row.Reads as weak-row-reads
 
--- src/lib.rt:214:8
 is-strong-requires : tie.Need-is-strong-requires
 is-strong-requires c κs = search needs
 
--- src/lib.rt:215:13
 strong-row-requires : tie.Need-strong-row-requires
 strong-row-requires c κs = search needs
 
--- src/lib.rt:216:13
 strong-row-requires-2 : tie.Need-strong-row-requires-2
 strong-row-requires-2 c κs = search needs
 
--- src/lib.rt:217:9
 returns : tie.Need-returns
-returns c = 
+returns c =
     let a = c .before .before .before .before .before .before .args in
     give-strong (a .allowed) (a .bits) (a .n) (a .corner) (a .above .now) (a .left .now) (sym (c .before .before .before .is-strong .ensures) ∙ c .before .before .if1 .taken) (c .before .strong-row .ensures) (c .strong-row2 .ensures)
 
--- src/lib.rt:223:17
 shared-slice-read-tap : tie.Need-shared-slice-read-tap
 shared-slice-read-tap c = search needs
 
--- src/lib.rt:223:35
 shared-slice-read-tap-2 : tie.Need-shared-slice-read-tap-2
 shared-slice-read-tap-2 c = search needs
 
--- src/lib.rt:223:9
 tap-requires : tie.Need-tap-requires
 tap-requires c κs = search needs
 
--- src/lib.rt:224:9
 weak-row-requires : tie.Need-weak-row-requires
 weak-row-requires c κs = search needs
 
--- src/lib.rt:225:9
 weak-row-requires-2 : tie.Need-weak-row-requires-2
 weak-row-requires-2 c κs = search needs
 
--- src/lib.rt:203:1
 returns-2 : tie.Need-returns-2
-returns-2 c = 
+returns-2 c =
     let a = c .before .before .before .before .before .before .before .before .before .args in
     give-weak (a .allowed) (a .bits) (a .n) (a .corner) (a .above .now) (a .left .now) (sym (c .before .before .before .before .before .before .is-strong .ensures) ∙ c .before .before .before .before .before .if1 .left) (c .before .before .tap .ensures) (c .before .weak-row .ensures) (c .weak-row2 .ensures)
 

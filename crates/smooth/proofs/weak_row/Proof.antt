@@ -1,17 +1,16 @@
-use Prim.Native.Nat.{ℕ, _+_, _*_, _-_, _≤_, _<_}
+-- `smooth::weak_row` meets its contract. The loop's invariant: the entries passed are the [1 2 1] form's. The first entry stands before the loop, entries 2n - 1 and 2n after it.
+-- Assumes nothing.
 use mathlib.Core.Path.{_≡_, ap, _∙_}
-use lib.ListN.{length, replicate}
+use Prim.Native.Nat.{ℕ, _+_, _*_, _-_, _≤_}
 use native.Mathlib.Omega.{arith}
 use borrow.Author.Needs.{needs}
+use lib.ListN.{length, replicate}
 use Rattle.laws.specs.Fill.{fill}
 use Rattle.laws.specs.FillLaws.{fill-none, fill-more, fill-done}
 use Rattle.smooth.specs.Smoothing.{rowOf}
 use Rattle.smooth.specs.Steps.{weakEntry, weak-first, weak-mid, weak-end}
 use Rattle.smooth.proofs.weak_row.Statement.{statement}
 use Rattle.smooth.proofs.weak_row.Tie as tie
-use Rattle.smooth.proofs.weak_row.Reads as reads
-use Rattle.smooth.proofs.weak_row.Lts as lts
-use Rattle.smooth.proofs.tap.Reads as tap-reads
 
 abbrev Inv-loop : tie.InvT-loop
 Inv-loop corner row n to₀ ext last x₀ to x = (1 ≤ x) × ((x ≤ last) × ((length to ≡ 65) × (to ≡ fill (weakEntry n corner row) x (replicate 65 0))))
@@ -19,131 +18,101 @@ Inv-loop corner row n to₀ ext last x₀ to x = (1 ≤ x) × ((x ≤ last) × (
 abbrev μ-loop : tie.MeasureT-loop
 μ-loop corner row n to₀ ext last x₀ to x = last - x
 
--- src/lib.rt:123:15
 mul-ext : tie.Need-mul-ext Inv-loop μ-loop
 mul-ext c = search needs
 
--- src/lib.rt:124:16
 sub-last : tie.Need-sub-last Inv-loop μ-loop
 sub-last c = search needs
 
--- src/lib.rt:125:25
 shared-slice-read-tap : tie.Need-shared-slice-read-tap Inv-loop μ-loop
 shared-slice-read-tap c = search needs
 
--- src/lib.rt:125:33
 shared-slice-read-tap-2 : tie.Need-shared-slice-read-tap-2 Inv-loop μ-loop
 shared-slice-read-tap-2 c = search needs
 
--- src/lib.rt:125:13
 tap-requires : tie.Need-tap-requires Inv-loop μ-loop
 tap-requires c κs = search needs
 
--- src/lib.rt:125:5
 array-write-to : tie.Need-array-write-to Inv-loop μ-loop
 array-write-to c = search needs
 
--- src/lib.rt:126:5
 loop-holds : tie.Need-loop-holds Inv-loop μ-loop
-loop-holds c = 
+loop-holds c =
     let a = c .before .before .before .before .args in
     (search needs, (search needs, (search needs, fill-more _ _ (fill-none _ _) (c .tap .ensures ∙ weak-first (a .n) (a .corner) (a .row .now) (search needs)))))
 
--- src/lib.rt:127:25
 sub-tap : tie.Need-sub-tap Inv-loop μ-loop
 sub-tap c = search needs
 
--- src/lib.rt:127:21
 mul-tap : tie.Need-mul-tap Inv-loop μ-loop
 mul-tap c = search needs
 
--- src/lib.rt:127:21
 shared-slice-read-tap-3 : tie.Need-shared-slice-read-tap-3 Inv-loop μ-loop
 shared-slice-read-tap-3 c = search needs
 
--- src/lib.rt:127:33
 mul-tap-2 : tie.Need-mul-tap-2 Inv-loop μ-loop
 mul-tap-2 c = search needs
 
--- src/lib.rt:127:33
 shared-slice-read-tap-4 : tie.Need-shared-slice-read-tap-4 Inv-loop μ-loop
 shared-slice-read-tap-4 c = search needs
 
--- src/lib.rt:127:45
 add-tap : tie.Need-add-tap Inv-loop μ-loop
 add-tap c = search needs
 
--- src/lib.rt:127:41
 mul-tap-3 : tie.Need-mul-tap-3 Inv-loop μ-loop
 mul-tap-3 c = search needs
 
--- src/lib.rt:127:41
 shared-slice-read-tap-5 : tie.Need-shared-slice-read-tap-5 Inv-loop μ-loop
 shared-slice-read-tap-5 c = search needs
 
--- src/lib.rt:127:17
 tap-requires-2 : tie.Need-tap-requires-2 Inv-loop μ-loop
 tap-requires-2 c κs = search needs
 
--- src/lib.rt:127:9
 mul-to : tie.Need-mul-to Inv-loop μ-loop
 mul-to c = search needs
 
--- src/lib.rt:127:9
 array-write-to-2 : tie.Need-array-write-to-2 Inv-loop μ-loop
 array-write-to-2 c = search needs
 
--- src/lib.rt:126:9
 add-x : tie.Need-add-x Inv-loop μ-loop
 add-x c = search needs
 
--- src/lib.rt:126:5
 loop-less : tie.Need-loop-less Inv-loop μ-loop
 loop-less c = search needs
 
--- src/lib.rt:126:5
 loop-again : tie.Need-loop-again Inv-loop μ-loop
-loop-again c = 
+loop-again c =
     let a = c .before .before .before .before .before .before .before .before .before .before .args in
     let l = c .before .before .before .before .before .loop in
     (search needs, (search needs, (search needs, fill-more _ _ (l .inv .1 .1 .1) (c .tap2 .ensures ∙ weak-mid (a .n) (a .corner) (a .row .now) (l .x) (search needs) (search needs)))))
 
--- src/lib.rt:129:16
 mul-to-2 : tie.Need-mul-to-2 Inv-loop μ-loop
 mul-to-2 c = search needs
 
--- src/lib.rt:129:16
 shared-slice-read-to : tie.Need-shared-slice-read-to Inv-loop μ-loop
 shared-slice-read-to c = search needs
 
--- src/lib.rt:129:5
 mul-to-3 : tie.Need-mul-to-3 Inv-loop μ-loop
 mul-to-3 c = search needs
 
--- src/lib.rt:129:5
 array-write-to-3 : tie.Need-array-write-to-3 Inv-loop μ-loop
 array-write-to-3 c = search needs
 
--- src/lib.rt:130:15
 mul-to-4 : tie.Need-mul-to-4 Inv-loop μ-loop
 mul-to-4 c = search needs
 
--- src/lib.rt:130:15
 shared-slice-read-to-2 : tie.Need-shared-slice-read-to-2 Inv-loop μ-loop
 shared-slice-read-to-2 c = search needs
 
--- src/lib.rt:130:5
 mul-to-5 : tie.Need-mul-to-5 Inv-loop μ-loop
 mul-to-5 c = search needs
 
--- src/lib.rt:130:5
 array-write-to-4 : tie.Need-array-write-to-4 Inv-loop μ-loop
 array-write-to-4 c = search needs
 
--- src/lib.rt:118:1
 returns : tie.Need-returns Inv-loop μ-loop
 unfolding rowOf
-returns c = 
+returns c =
     let a = c .before .before .before .before .before .before .before .before .args in
     let i = c .before .before .before .loop .inv in
     let F : ℕ → ℕ = weakEntry (a .n) (a .corner) (a .row .now) in
