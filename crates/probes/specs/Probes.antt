@@ -1,0 +1,43 @@
+-- What each entry hands over, from the definition of the door behind it. Assumes nothing.
+use Prim.Native.Nat.{ℕ}
+use Rattle.fmt.specs.declared.DepthFrom.{DepthFrom}
+use Rattle.fmt.specs.declared.DepthFrom.the-variants.{Depth, Refused}
+use Rattle.fmt.specs.declared.FormatFrom.{FormatFrom}
+use Rattle.fmt.specs.declared.FormatFrom.the-variants.{Format, Unknown}
+use Rattle.fmt.specs.declared.ChromaFormat.{ChromaFormat}
+use Rattle.fmt.specs.Fmt.{bitsOf, largest, neutralOf, depthFrom, formatFrom, subWidth, subHeight}
+use Rattle.fmt.specs.Places.{lumaRow, lumaCol, chromaRow, chromaCol}
+use Rattle.probes.specs.declared.DepthFigures.{DepthFigures}
+use Rattle.probes.specs.declared.FormatFigures.{FormatFigures}
+use Rattle.probes.specs.declared.Place.{Place}
+
+-- a depth's figures; a refusal is number 1 and zeros
+abbrev pub figuresOf : DepthFrom → DepthFigures
+figuresOf (Depth d) = record { no = 0; bits = bitsOf d; largest = largest d; neutral = neutralOf d }
+figuresOf Refused = record { no = 1; bits = 0; largest = 0; neutral = 0 }
+
+abbrev pub depthFigures : ℕ → DepthFigures
+depthFigures bits = figuresOf (depthFrom bits)
+
+-- a format's subsampling, 1 and 1 for a number that names none
+abbrev pub subsamplingOf : FormatFrom → FormatFigures
+subsamplingOf (Format f) = record { known = 1; across = subWidth f; down = subHeight f }
+subsamplingOf Unknown = record { known = 0; across = 1; down = 1 }
+
+abbrev pub formatFigures : ℕ → FormatFigures
+formatFigures idc = subsamplingOf (formatFrom idc)
+
+-- the luma place of a chroma place, and the chroma place of a luma place
+abbrev pub lumaPlace : ℕ → ℕ → FormatFrom → Place
+lumaPlace row col (Format f) = record { known = 1; row = lumaRow f (record { 0 = row }) .0; col = lumaCol f (record { 0 = col }) .0 }
+lumaPlace row col Unknown = record { known = 0; row = 0; col = 0 }
+
+abbrev pub onLuma : ℕ → ℕ → ℕ → Place
+onLuma idc row col = lumaPlace row col (formatFrom idc)
+
+abbrev pub chromaPlace : ℕ → ℕ → FormatFrom → Place
+chromaPlace row col (Format f) = record { known = 1; row = chromaRow f (record { 0 = row }) .0; col = chromaCol f (record { 0 = col }) .0 }
+chromaPlace row col Unknown = record { known = 0; row = 0; col = 0 }
+
+abbrev pub onChroma : ℕ → ℕ → ℕ → Place
+onChroma idc row col = chromaPlace row col (formatFrom idc)
