@@ -118,8 +118,11 @@ impl ChromaFormat {
 // Rows and columns of luma samples and of chroma samples are kinds of their own: one passed for the other does not compile,
 // and the way from one to the other is a format's subsampling.
 pub struct LumaRow(pub u32);
+
 pub struct LumaCol(pub u32);
+
 pub struct ChromaRow(pub u32);
+
 pub struct ChromaCol(pub u32);
 
 // A number times the subsampling, or the largest u32, which is outside every picture.

@@ -113,7 +113,6 @@ cell-zs zero w y x = unfold interleaved in simp div-one (omega arith)
 cell-zs (suc k) w y x =
     rw (cell-zs k w (y / 2) (x / 2), zScan, half-half k y, half-half k x) (omega (arith, morton-half k y x, quad (y / 2 ^ suc k * w + x / 2 ^ suc k) k))
 
-
 pub morton-lt : (j y x : ℕ) → morton j y x < 4 ^ j
 morton-lt zero y x = unfold interleaved in omega arith
 morton-lt (suc j) y x = omega (arith, morton-half j y x, morton-lt j (y / 2) (x / 2), quad 1 j)

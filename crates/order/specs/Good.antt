@@ -38,9 +38,10 @@ good-of p row col e =
     let q = both-true (sideOk (p .width) && sideOk (p .height)) (ctuOk (p .ctu)) (a .0) in
     let s = both-true (sideOk (p .width)) (sideOk (p .height)) (q .0) in
     let m = both-true (unitOk (p .unit) && ltb (row .0) (p .height)) (ltb (col .0) (p .width)) (b .0) in
-    let n = both-true (unitOk (p .unit)) (ltb (row .0) (p .height)) (m .0) in
-    (record { wide = side-of (p .width) (s .0); tall = side-of (p .height) (s .1); ctus = ctu-of (p .ctu) (q .1); units = unit-of (p .unit) (n .0) },
-     (ltb-true (row .0) (p .height) (n .1), ltb-true (col .0) (p .width) (m .1)))
+    let n = both-true (unitOk (p .unit)) (ltb (row .0) (p .height)) (m .0) in (
+      record { wide = side-of (p .width) (s .0); tall = side-of (p .height) (s .1); ctus = ctu-of (p .ctu) (q .1); units = unit-of (p .unit) (n .0) },
+      (ltb-true (row .0) (p .height) (n .1), ltb-true (col .0) (p .width) (m .1)),
+    )
 
 -- a fact at each CTU and unit holds of a good picture
 pub six : (P : ℕ → ℕ → Type 0) (ctu unit : ℕ) → P 16 4 → P 16 8 → P 32 4 → P 32 8 → P 64 4 → P 64 8 → Ctu ctu → Unit unit → P ctu unit
@@ -114,9 +115,10 @@ pub cell-in : {p : Picture} → Good p → {row col : ℕ} → row < p .height �
 cell-in {p} g {row} {col} hr hc =
     let s = sized g in
     let v = ctus-cover g in
-    let pos : 0 < p .unit = omega arith in
-    (div-lt-iff-lt-mul pos .1 (omega (arith, g .tall .high)),
-     div-lt-iff-lt-mul pos .1 (omega (arith, ap (λ (x : ℕ). ctusIn p * x) (s .split))))
+    let pos : 0 < p .unit = omega arith in (
+      div-lt-iff-lt-mul pos .1 (omega (arith, g .tall .high)),
+      div-lt-iff-lt-mul pos .1 (omega (arith, ap (λ (x : ℕ). ctusIn p * x) (s .split))),
+    )
 
 -- numbers are small
 pub number-small : {p : Picture} → Good p → {row col : ℕ} → row < p .height → col < p .width → numberAt p row col < 2 ^ 25

@@ -8,8 +8,8 @@ ghost use Rattle.h265.specs.Order.{zScan, widthInCtbs};
 ghost use Rattle.order.specs.Order.{gridOf, numberAt, orderNo, orderDoor, before, availDoor};
 ghost use Rattle.order.specs.Good.{Good, Power, Small, shiftsOf};
 ghost use Rattle.order.specs.Spread.{spread};
-
-use fmt::{LumaCol, LumaRow};
+use fmt::LumaCol;
+use fmt::LumaRow;
 
 // A picture as the order sees it: its luma sides, its CTU and its least unit.
 pub struct Picture {

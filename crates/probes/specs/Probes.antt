@@ -1,5 +1,7 @@
 -- What each entry hands over, from the definition of the door behind it. Assumes nothing.
 use Prim.Native.Nat.{ℕ}
+use mathlib.Core.Bool.{Bool, true, false}
+use lib.IntN.{ℤ}
 use Rattle.fmt.specs.declared.DepthFrom.{DepthFrom}
 use Rattle.fmt.specs.declared.DepthFrom.the-variants.{Depth, Refused}
 use Rattle.fmt.specs.declared.FormatFrom.{FormatFrom}
@@ -7,6 +9,11 @@ use Rattle.fmt.specs.declared.FormatFrom.the-variants.{Format, Unknown}
 use Rattle.fmt.specs.declared.ChromaFormat.{ChromaFormat}
 use Rattle.fmt.specs.Fmt.{bitsOf, largest, neutralOf, depthFrom, formatFrom, subWidth, subHeight}
 use Rattle.fmt.specs.Places.{lumaRow, lumaCol, chromaRow, chromaCol}
+use Rattle.order.specs.declared.Picture.{Picture}
+use Rattle.order.specs.declared.Numbered.{Numbered}
+use Rattle.order.specs.declared.Flagged.{Flagged}
+use Rattle.order.specs.Order.{orderDoor, availDoor}
+use Rattle.probes.specs.declared.Answer.{Answer}
 use Rattle.probes.specs.declared.DepthFigures.{DepthFigures}
 use Rattle.probes.specs.declared.FormatFigures.{FormatFigures}
 use Rattle.probes.specs.declared.Place.{Place}
@@ -41,3 +48,24 @@ chromaPlace row col Unknown = record { known = 0; row = 0; col = 0 }
 
 abbrev pub onChroma : ℕ → ℕ → ℕ → Place
 onChroma idc row col = chromaPlace row col (formatFrom idc)
+
+-- the order and availability doors' answers, from a picture as bare numbers
+abbrev pictureOf : ℕ → ℕ → ℕ → ℕ → Picture
+pictureOf width height ctu unit = record { width = width; height = height; ctu = ctu; unit = unit }
+
+abbrev pub valueOf : Numbered → Answer
+valueOf a = record { no = a .no; value = a .value }
+
+abbrev bit : Bool → ℕ
+bit true = 1
+bit false = 0
+
+abbrev pub flagOf : Flagged → Answer
+flagOf a = record { no = a .no; value = bit (a .yes) }
+
+abbrev pub orderAnswer : ℕ → ℕ → ℕ → ℕ → ℕ → ℕ → Answer
+orderAnswer row col width height ctu unit = valueOf (orderDoor (pictureOf width height ctu unit) (record { 0 = row }) (record { 0 = col }))
+
+abbrev pub availableAnswer : ℤ → ℤ → ℕ → ℕ → ℕ → ℕ → ℕ → ℕ → Answer
+availableAnswer nr nc row col width height ctu unit =
+    flagOf (availDoor (pictureOf width height ctu unit) (record { row = nr; col = nc }) (record { 0 = row }) (record { 0 = col }))

@@ -1,9 +1,17 @@
 // Entries at native types for the runs against the Rust: each calls a door and hands its answer over as plain numbers.
 // Rests on the doors' contracts.
 ghost use mathlib.Core.Path.{_≡_};
-ghost use Rattle.probes.specs.Probes.{depthFigures, formatFigures, onLuma, onChroma};
-
-use fmt::{BitDepth, ChromaCol, ChromaFormat, ChromaRow, DepthFrom, FormatFrom, LumaCol, LumaRow};
+ghost use Rattle.probes.specs.Probes.{depthFigures, formatFigures, onLuma, onChroma, orderAnswer, availableAnswer};
+use fmt::BitDepth;
+use fmt::ChromaCol;
+use fmt::ChromaFormat;
+use fmt::ChromaRow;
+use fmt::DepthFrom;
+use fmt::FormatFrom;
+use fmt::LumaCol;
+use fmt::LumaRow;
+use order::LumaNeighbour;
+use order::Picture;
 
 // A depth's figures, all 0 where the call is refused.
 #[repr(C)]
@@ -111,5 +119,71 @@ pub extern "C" fn salvrunde_probe_on_chroma(idc: u32, row: u32, col: u32) -> Pla
             row: 0,
             col: 0,
         },
+    }
+}
+
+// A call's number, and its value, 0 where it is refused.
+#[repr(C)]
+pub struct Answer {
+    pub no: u32,
+    pub value: u32,
+}
+
+#[no_mangle]
+pub extern "C" fn salvrunde_probe_decode_order(
+    row: u32,
+    col: u32,
+    width: u32,
+    height: u32,
+    ctu: u32,
+    unit: u32,
+) -> Answer
+    ensures { λ r. ⌜ r ≡ orderAnswer row col width height ctu unit ⌝ }
+{
+    let a = order::decode_order(
+        LumaRow(row),
+        LumaCol(col),
+        Picture {
+            width,
+            height,
+            ctu,
+            unit,
+        },
+    );
+    Answer {
+        no: a.no,
+        value: a.value,
+    }
+}
+
+// The neighbour's place first, then the block's.
+#[no_mangle]
+pub extern "C" fn salvrunde_probe_is_available(
+    nr: i64,
+    nc: i64,
+    row: u32,
+    col: u32,
+    width: u32,
+    height: u32,
+    ctu: u32,
+    unit: u32,
+) -> Answer
+    ensures { λ r. ⌜ r ≡ availableAnswer nr nc row col width height ctu unit ⌝ }
+{
+    let at = LumaNeighbour { row: nr, col: nc };
+    let a = order::is_available(
+        at,
+        LumaRow(row),
+        LumaCol(col),
+        Picture {
+            width,
+            height,
+            ctu,
+            unit,
+        },
+    );
+    Answer {
+        no: a.no,
+        value: a.yes as u32,
     }
 }

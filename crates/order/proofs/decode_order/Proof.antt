@@ -25,12 +25,12 @@ cast-number-2 : tie.Need-cast-number-2
 cast-number-2 c = search needs
 
 number-requires : tie.Need-number-requires
-number-requires c κs = 
+number-requires c κs =
     let g = good-of _ _ _ (sym (c .before .before .before .before .order-no .ensures) ∙ c .before .before .before .if1 .left) in
     (small-of (g .0) _ (c .before .before .shifts-of .ensures), omega (arith, g .0 .tall .high), omega (arith, g .0 .wide .high))
 
 cast-t10 : tie.Need-cast-t10
-cast-t10 c = 
+cast-t10 c =
     let g = good-of _ _ _ (sym (c .before .before .before .before .before .order-no .ensures) ∙ c .before .before .before .before .if1 .left) in
     record { fits = omega (arith, number-of (c .before .before .before .before .before .before .args .picture) _ _ (c .before .before .before .before .before .before .args .r .0) (c .before .before .before .before .before .before .args .c .0) (c .before .before .before .shifts-of .ensures) (c .number .ensures), number-small (g .0) (g .1 .0) (g .1 .1)) }
 

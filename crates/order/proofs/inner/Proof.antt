@@ -22,7 +22,7 @@ sub-spread-of : tie.Need-sub-spread-of
 sub-spread-of c = whole c
 
 spread-of-requires : tie.Need-spread-of-requires
-spread-of-requires c κs = 
+spread-of-requires c κs =
     let a = c .args in
     let p = c .pre in
     let r = rest (a .k) (a .v) (a .cells) (p .1) in
@@ -31,7 +31,7 @@ spread-of-requires c κs =
     omega arith
 
 returns : tie.Need-returns
-returns c = 
+returns c =
     let a = c .before .args in
     let p = c .before .pre in
     (c .spread-of .ensures .0 ∙ ap (spread 4) (rest (a .k) (a .v) (a .cells) (p .1)) ∙ spread-four (a .k) (a .v) (p .0), c .spread-of .ensures .1)

@@ -28,7 +28,7 @@ cast-number-2 : tie.Need-cast-number-2
 cast-number-2 c = search needs
 
 number-requires : tie.Need-number-requires
-number-requires c κs = 
+number-requires c κs =
     let g = good-of _ _ _ (sym (c .before .before .before .before .order-no .ensures) ∙ c .before .before .before .if1 .left) in
     (small-of (g .0) _ (c .before .before .shifts-of .ensures), omega (arith, g .0 .tall .high), omega (arith, g .0 .wide .high))
 
@@ -36,7 +36,7 @@ comes-before-requires : tie.Need-comes-before-requires
 comes-before-requires c κs = good-of _ _ _ (sym (c .before .before .before .before .before .before .before .order-no .ensures) ∙ c .before .before .before .before .before .before .if1 .left) .0
 
 returns-2 : tie.Need-returns-2
-returns-2 c = 
+returns-2 c =
     let a = c .before .before .before .before .before .before .before .before .before .args in
     avail-is (a .picture) (a .neighbour) (a .block-row) (a .block-col) _ _ _ _ (sym (c .before .before .before .before .before .before .before .before .order-no .ensures) ∙ c .before .before .before .before .before .before .before .if1 .left)
     (number-of (c .before .before .before .before .before .before .before .before .before .args .picture) _ _ (c .before .before .before .before .before .before .before .before .before .args .block-row .0) (c .before .before .before .before .before .before .before .before .before .args .block-col .0) (c .before .before .before .before .before .before .shifts-of .ensures) (c .before .before .before .number .ensures))

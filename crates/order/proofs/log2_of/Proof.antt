@@ -26,7 +26,7 @@ returns-4 c = rw (c .match .keys4)
 
 returns-5 : tie.Need-returns-5
 unfolding halvings
-returns-5 c = 
+returns-5 c =
     let x = c .before .args .side in
     let r = c .match .rest in
     let e : x ≡ 64 = ⊎-elim (λ h. ⊎-elim (λ k. absurd (r .0 .1 k)) (λ k. ⊎-elim (λ l. absurd (r .1 l)) (λ l. l) k) h) (λ h. ⊎-elim (λ k. absurd (r .0 .0 .0 .1 k)) (λ k. absurd (r .0 .0 .1 k)) h) (c .before .pre) in

@@ -19,7 +19,7 @@ shr-cell-number-2 : tie.Need-shr-cell-number-2
 shr-cell-number-2 c = search needs
 
 cell-number-requires : tie.Need-cell-number-requires
-cell-number-requires c κs = 
+cell-number-requires c κs =
     let a = c .args in
     let p = c .pre in
     (p .0 .levels, p .0 .cells, omega (arith, div-le-self (a .row) (2 ^ a .s .unit)), omega (arith, div-le-self (a .col) (2 ^ a .s .unit)), p .0 .ctus)
