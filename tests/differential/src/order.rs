@@ -56,7 +56,7 @@ fn kinds(width: u32, height: u32) -> impl Iterator<Item = Picture> {
 }
 
 /// A legal picture.
-fn any_picture(random: &mut Random) -> Picture {
+pub fn any_picture(random: &mut Random) -> Picture {
     let side = |random: &mut Random| 8 + 8 * random.below(512) as u32;
     Picture::new(side(random), side(random), random.pick(&CTUS), random.pick(&UNITS))
 }
@@ -105,7 +105,7 @@ pub fn order(t: &mut Tally) {
 }
 
 /// A neighbour near a place, at the edges of the picture, or anywhere in i64.
-fn neighbour(place: u32, side: u32, random: &mut Random) -> i64 {
+pub fn neighbour(place: u32, side: u32, random: &mut Random) -> i64 {
     match random.below(12) {
         0 => -1,
         1 => random.pick(&[i64::MIN, i64::MIN + 1, i64::MAX, i64::MAX - 1, 1 << 32, (1 << 32) - 1, -(1 << 32)]),
