@@ -19,6 +19,10 @@ use Rattle.h265.specs.Prediction.{filters, prepared, predSamples, predic
 small : Grid
 small = record { width = 32; height = 24; ctb = 4; minTb = 3 }
 
+-- one of 64 by 64, CTU 64, cells of 4
+large : Grid
+large = record { width = 64; height = 64; ctb = 6; minTb = 2 }
+
 flat : ℕ → ℕ → Neighbours
 flat a l = record { corner = 15; above = λ x. a; left = λ y. l }
 
@@ -35,8 +39,8 @@ unfolding halvings
 log2-of-sides = refl
 
 -- 6.5.2
-order-of-cells : _≡_ {A = List ℕ} (addressAt small 8 0 ∷ addressAt small 0 8 ∷ addressAt small 16 0 ∷ addressAt small 0 16 ∷ []) (1 ∷ 2 ∷ 4 ∷ 8 ∷ [])
-unfolding small minTbAddrZs zScan interleaved
+order-of-cells : _≡_ {A = List ℕ} (addressAt small 8 0 ∷ addressAt small 0 8 ∷ addressAt small 16 0 ∷ addressAt small 0 16 ∷ addressAt large 8 4 ∷ []) (1 ∷ 2 ∷ 4 ∷ 8 ∷ 6 ∷ [])
+unfolding small large minTbAddrZs zScan interleaved
 order-of-cells = refl
 
 -- 6.4.1: above, left of the picture, in a later cell, in the same cell

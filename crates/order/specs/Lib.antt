@@ -4,3 +4,6 @@ pub mod Cells
 pub mod Good
 pub mod Spread
 pub mod Signs
+pub mod Laws
+pub mod Reach
+pub mod Figures

@@ -8,6 +8,9 @@ ghost use Rattle.h265.specs.Order.{zScan, widthInCtbs};
 ghost use Rattle.order.specs.Order.{gridOf, numberAt, orderNo, orderDoor, before, availDoor};
 ghost use Rattle.order.specs.Good.{Good, Power, Small, shiftsOf};
 ghost use Rattle.order.specs.Spread.{spread};
+use fmt::ChromaCol;
+use fmt::ChromaFormat;
+use fmt::ChromaRow;
 use fmt::LumaCol;
 use fmt::LumaRow;
 
@@ -185,4 +188,32 @@ pub fn is_available(
         no: 0,
         yes: comes_before(picture, cur, neighbour.row, neighbour.col),
     }
+}
+
+// A luma block of side n in its picture.
+pub struct LumaBlock {
+    pub picture: Picture,
+    pub row: LumaRow,
+    pub col: LumaCol,
+    pub n: usize,
+}
+
+// A chroma block of side n, counted in chroma samples, in its picture, and the luma place that is being decoded.
+pub struct ChromaBlock {
+    pub picture: Picture,
+    pub format: ChromaFormat,
+    pub row: ChromaRow,
+    pub col: ChromaCol,
+    pub n: usize,
+    pub cur_luma_row: LumaRow,
+    pub cur_luma_col: LumaCol,
+}
+
+// How far the neighbours of a block reach that are there: whether the corner is, and how many entries of the row above and of the
+// left column, from entry 0 on, up to entry 2n.
+pub struct Reach {
+    pub no: u32,
+    pub corner: bool,
+    pub above: usize,
+    pub left: usize,
 }

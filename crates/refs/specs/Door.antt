@@ -1,0 +1,97 @@
+-- Document 01: what the doors of substitution and of the two gathers refuse, and what they give. Assumes nothing.
+use Prim.Native.Nat.{ℕ, _-_, _*_, _/_, _^_}
+use mathlib.Core.Bool.{Bool, true, false, cond, _&&_}
+use mathlib.Core.List.{List, [], _∷_}
+use lib.Dec.{leb, eqb}
+use lib.ListN.{length}
+use Rattle.laws.specs.Choose.{_unless_, firstFail, served}
+use Rattle.domain.specs.Domain.{depthOk, sizeOk}
+use Rattle.fmt.specs.declared.ChromaFormat.{ChromaFormat}
+use Rattle.fmt.specs.declared.ChromaFormat.the-variants.{Monochrome, Yuv420, Yuv422, Yuv444}
+use Rattle.order.specs.declared.Picture.{Picture}
+use Rattle.order.specs.declared.LumaBlock.{LumaBlock}
+use Rattle.order.specs.declared.ChromaBlock.{ChromaBlock}
+use Rattle.order.specs.Order.{pictureOk}
+use Rattle.order.specs.Reach.{lumaPlaceOk, lumaHas, chromaPlaceOk, chromaHas, chromaHeight, chromaWidth}
+use Rattle.rows.specs.declared.Rows.{Rows}
+use Rattle.refs.specs.declared.Flags.{Flags}
+use Rattle.refs.specs.declared.Gathered.{Gathered}
+use Rattle.refs.specs.declared.GatheredPair.{GatheredPair}
+use Rattle.refs.specs.declared.LumaRefGeometry.{LumaRefGeometry}
+use Rattle.refs.specs.declared.ChromaRefGeometry.{ChromaRefGeometry}
+use Rattle.refs.specs.Substitution.{levelRows, substituted}
+use Rattle.refs.specs.Gather.{gatheredBy, sampleOf}
+
+-- the neutral sample of a depth
+abbrev pub neutralAt : ℕ → ℕ
+neutralAt bits = 2 ^ (bits - 1)
+
+-- Substitution refuses 1 and 2.
+unfoldable pub substituteNo : ℕ → ℕ → ℕ
+substituteNo bits n = firstFail ((1 unless depthOk bits) ∷ (2 unless sizeOk n) ∷ [])
+
+unfoldable pub substituteDoor : Rows → Flags → ℕ → ℕ → Gathered
+substituteDoor rows flags n bits =
+    let k = substituteNo bits n in
+    record { no = k; rows = served k (substituted n (neutralAt bits) flags rows) (levelRows 0) }
+
+-- The luma gather refuses 1, 2, 4, 5, 6.
+abbrev pub lumaBlock : LumaRefGeometry → LumaBlock
+lumaBlock g = record { picture = g .picture; row = g .«block_row»; col = g .«block_col»; n = g .n }
+
+unfoldable pub lumaNo : ℕ → LumaRefGeometry → ℕ
+lumaNo len g =
+    firstFail
+    ((1 unless depthOk (g .bits)) ∷ (2 unless sizeOk (g .n)) ∷ (4 unless pictureOk (g .picture))
+     ∷ (5 unless eqb len (g .picture .height * g .picture .width)) ∷ (6 unless lumaPlaceOk (lumaBlock g)) ∷ [])
+
+-- the rows of a luma block
+unfoldable pub lumaRows : List ℕ → LumaRefGeometry → Rows
+lumaRows plane g =
+    gatheredBy (lumaHas (lumaBlock g)) (sampleOf plane (g .picture .width)) (g .«block_row» .0) (g .«block_col» .0) (g .n) (neutralAt (g .bits))
+
+unfoldable pub lumaDoor : List ℕ → LumaRefGeometry → Gathered
+lumaDoor plane g = let k = lumaNo (length plane) g in record { no = k; rows = served k (lumaRows plane g) (levelRows 0) }
+
+-- The chroma pair gather refuses 1, 2, 4, 5, 6. Order is counted in CTUs of 64; formats go by chroma_format_idc.
+abbrev pub chromaCtu : ℕ
+chromaCtu = 64
+
+abbrev pub formatOf : ℕ → ChromaFormat
+formatOf idc = cond (eqb idc 1) Yuv420 (cond (eqb idc 2) Yuv422 (cond (eqb idc 3) Yuv444 Monochrome))
+
+abbrev pub chromaPicture : ChromaRefGeometry → Picture
+chromaPicture g = record { width = g .«luma_w»; height = g .«luma_h»; ctu = chromaCtu; unit = g .«min_luma_pu» }
+
+abbrev pub chromaBlock : ChromaRefGeometry → ChromaBlock
+chromaBlock g =
+    record {
+      picture = chromaPicture g;
+      format = formatOf (g .format);
+      row = g .«block_row»;
+      col = g .«block_col»;
+      n = g .n;
+      «cur_luma_row» = g .«cur_luma_row»;
+      «cur_luma_col» = g .«cur_luma_col»;
+    }
+
+-- a plane of chroma samples
+abbrev pub chromaLength : ChromaRefGeometry → ℕ
+chromaLength g = chromaHeight (chromaBlock g) * chromaWidth (chromaBlock g)
+
+unfoldable pub chromaNo : ℕ → ℕ → ChromaRefGeometry → ℕ
+chromaNo cb cr g =
+    firstFail
+    ((1 unless depthOk (g .bits)) ∷ (2 unless sizeOk (g .n)) ∷ (4 unless pictureOk (chromaPicture g) && leb 1 (g .format) && leb (g .format) 3)
+     ∷ (5 unless eqb cb (chromaLength g) && eqb cr (chromaLength g)) ∷ (6 unless chromaPlaceOk (chromaBlock g)) ∷ [])
+
+-- the rows of a chroma block in one plane
+unfoldable pub chromaRows : List ℕ → ChromaRefGeometry → Rows
+chromaRows plane g =
+    gatheredBy (chromaHas (chromaBlock g)) (sampleOf plane (chromaWidth (chromaBlock g))) (g .«block_row» .0) (g .«block_col» .0) (g .n) (neutralAt (g .bits))
+
+-- Cb first, then Cr
+unfoldable pub chromaDoor : List ℕ → List ℕ → ChromaRefGeometry → GatheredPair
+chromaDoor cb cr g =
+    let k = chromaNo (length cb) (length cr) g in
+    record { no = k; planes = served k (chromaRows cb g ∷ chromaRows cr g ∷ []) (levelRows 0 ∷ levelRows 0 ∷ []) }

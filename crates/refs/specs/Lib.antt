@@ -1,0 +1,4 @@
+-- Document 01, modules 3 and 4: Substitution, Gather (by any rule), Door (refusals and answers).
+pub mod Substitution
+pub mod Gather
+pub mod Door
