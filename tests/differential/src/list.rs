@@ -51,7 +51,9 @@ fn calls(random: &mut Random, count: usize) -> Vec<(Picture, u32, u32)> {
     while calls.len() < count {
         let p = any_picture(random);
         let outside = random.below(8) == 0;
-        let place = |side: u32, random: &mut Random| if outside { side + random.below(9) as u32 } else { random.below(side as u64) as u32 };
+        let place = |side: u32, random: &mut Random| {
+            if outside { side + random.below(9) as u32 } else { random.below(side as u64) as u32 }
+        };
         calls.push((p, place(p.height, random), place(p.width, random)));
     }
     calls

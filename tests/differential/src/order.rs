@@ -89,7 +89,14 @@ pub fn order(t: &mut Tally) {
             for ctu in CTU_NUMBERS {
                 for unit in UNIT_NUMBERS {
                     let p = Picture::new(width, height, ctu, unit);
-                    for (row, col) in [(0, 0), (7, 7), (height.wrapping_sub(1), width.wrapping_sub(1)), (height, 0), (0, width), (u32::MAX, u32::MAX)] {
+                    for (row, col) in [
+                        (0, 0),
+                        (7, 7),
+                        (height.wrapping_sub(1), width.wrapping_sub(1)),
+                        (height, 0),
+                        (0, width),
+                        (u32::MAX, u32::MAX),
+                    ] {
                         ask_order(t, p, row, col);
                     }
                 }
@@ -138,7 +145,15 @@ pub fn availability(t: &mut Tally) {
                 for unit in UNIT_NUMBERS {
                     let p = Picture::new(width, height, ctu, unit);
                     for (row, col) in [(0, 0), (height - 1, width.wrapping_sub(1)), (height, 0), (0, width)] {
-                        for (nr, nc) in [(0, 0), (-1, 0), (0, -1), (i64::MIN, i64::MAX), (i64::MAX, i64::MIN), (height as i64, 0), (0, width as i64)] {
+                        for (nr, nc) in [
+                            (0, 0),
+                            (-1, 0),
+                            (0, -1),
+                            (i64::MIN, i64::MAX),
+                            (i64::MAX, i64::MIN),
+                            (height as i64, 0),
+                            (0, width as i64),
+                        ] {
                             ask_available(t, p, row, col, nr, nc);
                         }
                     }
@@ -174,7 +189,8 @@ pub fn differences(t: &mut Tally) {
         for p in kinds(width, height) {
             for row in (0..height).step_by(p.unit as usize) {
                 for col in (0..width).step_by(p.unit as usize) {
-                    let beside = (-1..height as i64).map(|r| (r, col as i64 - 1)).chain((-1..width as i64).map(|c| (row as i64 - 1, c)));
+                    let beside =
+                        (-1..height as i64).map(|r| (r, col as i64 - 1)).chain((-1..width as i64).map(|c| (row as i64 - 1, c)));
                     for (nr, nc) in beside {
                         let want = [0, standard_available(p, row, col, nr, nc) as u32];
                         ask_available_wanting(t, p, row, col, nr, nc, want);
@@ -183,10 +199,28 @@ pub fn differences(t: &mut Tally) {
             }
         }
     }
-    // a depth that is none: the Rust panics, the port gives number 1
+    // CTUs in a row: the Rust takes any count, so two cells of a picture two CTUs wide can get one number
+    assert_eq!(reach::decode_order(0, 16, 8, 16, 1), reach::decode_order(16, 0, 8, 16, 1));
+    let p = Picture::new(24, 24, 16, 8);
+    assert_eq!([order_answer(p, 0, 16), order_answer(p, 16, 0)], [[0, 4], [0, 8]]);
+    ask_order(t, p, 0, 16);
+    ask_order(t, p, 16, 0);
+    // where the Rust panics the port gives a number: a depth that is none, a unit of 0
+    assert!(panics(|| {
+        crate::oracle::fmt::BitDepth::from_bits(9);
+    }));
+    t.numbers("salvrunde_probe_depth", &[9], Want::fields(&[1, 0, 0, 0]));
+    assert!(panics(|| {
+        reach::decode_order(0, 0, std::hint::black_box(0), 16, 1);
+    }));
+    ask_order(t, Picture::new(8, 8, 16, 0), 0, 0);
+}
+
+/// Whether the Rust panics, which it says nothing about here.
+fn panics(call: fn()) -> bool {
     let hook = std::panic::take_hook();
     std::panic::set_hook(Box::new(|_| ()));
-    assert!(std::panic::catch_unwind(|| crate::oracle::fmt::BitDepth::from_bits(9)).is_err());
+    let ended = std::panic::catch_unwind(call);
     std::panic::set_hook(hook);
-    t.numbers("salvrunde_probe_depth", &[9], Want::fields(&[1, 0, 0, 0]));
+    ended.is_err()
 }

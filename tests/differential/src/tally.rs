@@ -27,7 +27,11 @@ impl Want {
         let mut mask = [0u32; 4];
         all[..fields.len()].copy_from_slice(fields);
         mask[..fields.len()].fill(u32::MAX);
-        Want { words: [pair(all[0], all[1]), pair(all[2], all[3])], masks: [pair(mask[0], mask[1]), pair(mask[2], mask[3])], lent: Vec::new() }
+        Want {
+            words: [pair(all[0], all[1]), pair(all[2], all[3])],
+            masks: [pair(mask[0], mask[1]), pair(mask[2], mask[3])],
+            lent: Vec::new(),
+        }
     }
 
     /// With the later contents of the next buffer that the call lends.
@@ -108,7 +112,10 @@ impl<'h> Tally<'h> {
             if words != call.want.words || lent != call.want.lent {
                 self.differ += 1;
                 if self.differ == 1 {
-                    println!("{}: first difference: {} on {:?}: wanted {:x?} {:?}, got {:x?} {:?}", self.subject, call.name, call.numbers, call.want.words, call.want.lent, words, lent);
+                    println!(
+                        "{}: first difference: {} on {:?}: wanted {:x?} {:?}, got {:x?} {:?}",
+                        self.subject, call.name, call.numbers, call.want.words, call.want.lent, words, lent
+                    );
                 }
             }
         }
