@@ -2,3 +2,5 @@
 pub mod Substitution
 pub mod Gather
 pub mod Door
+pub mod Shorter
+pub mod Standard
