@@ -11,17 +11,12 @@ use lib.ListN.{getD, replicate, length-replicate}
 use lib.IntN.{pos, _-ℤ_}
 use Rattle.laws.specs.FillLaws.{fill-at}
 use Rattle.laws.specs.Diff.{order, sub-pos}
+use Rattle.h265.specs.Mean.{Agree}
 use Rattle.h265.specs.Notation.{Neighbours, fromRows}
 use Rattle.h265.specs.Filtering.{biIntFlag, strongAt, weakAt, filtered}
 use Rattle.rows.specs.Neighbours.{neighboursOf}
 use Rattle.smooth.specs.Smoothing.{rowEntry, rowOf, smoothed}
 use Rattle.smooth.specs.Forms.{line, weakRow, strong-side, strong-is, weak-is}
-
--- two neighbourhoods of a block of side n: the same corner and entries 0 to 2n - 1
-pub record Agree (n : ℕ) (p q : Neighbours) : Type 0 where
-  pub corner : p .corner ≡ q .corner
-  pub above : (i : ℕ) → i < 2 * n → p .above i ≡ q .above i
-  pub left : (i : ℕ) → i < 2 * n → p .left i ≡ q .left i
 
 row-at : (n : ℕ) (pF : ℕ → ℕ) (row : List ℕ) → n ≤ 32 → (i : ℕ) → i < 2 * n → getD (rowOf n pF row) i 0 ≡ pF i
 unfolding rowOf
