@@ -5,3 +5,4 @@ pub mod Cell
 pub mod Count
 pub mod Area
 pub mod Ahead
+pub mod Cover
