@@ -6,7 +6,7 @@ use mathlib.Core.Logic.{_⊎_, _↔_, ⊎-elim}
 use Prim.Native.Nat.{ℕ, zero, suc, _+_, _-_, _*_, _/_, _%_, _^_, _≤_, _<_}
 use native.Mathlib.Nat.{pow-le-pow-right, div-lt-iff-lt-mul, div-eq-of-lt-le, div-add-mod', mod-lt, eq-or-lt-of-le, le-of-suc-le-suc}
 use native.Mathlib.Omega.{arith}
-use native.Mathlib.Decide.{decLt}
+use native.Mathlib.Decide.{decLt, ℕ-discrete}
 use lib.Pow.{pow-pos, pow-add}
 use borrow.Author.Tests.{lt-ltb}
 use Rattle.domain.specs.Facts.{at-size}
@@ -218,15 +218,23 @@ module _ {f : Frame} (g : Good (pictureOf f)) where
                     omega (arith, s .3, ahead-is g (s .0) (s .1) (s .2), ahead-is g (plan n .row) (plan n .col) i, cnt-mono (inside f) (cellAt f (plan n .row) (plan n .col)) (cellAt f (s .0) (s .1)) (omega arith))
             go (no l) (no m) = omega arith
 
-    -- refusal 10 is exact
-    pub refusal-10 : (n : ℕ) → Checked n → (place plan n ≡ f .height * f .width) ↔ All n
-    refusal-10 n h = (λ e r c i. below-covered n h r c i (omega (arith, ahead-lt r c i)), λ v. from v (decLt (place plan n) (f .height * f .width)))
+    -- refusal 10 is exact: where the blocks do not hold as many samples as the picture, one is uncovered
+    pub gap : (n : ℕ) → Checked n → (place plan n ≡ f .height * f .width → ⊥) → (r : ℕ) × (c : ℕ) × In f r c × (Covered plan n r c → ⊥)
+    gap n h e =
+        let w = place-whole n h in
+        let s = ahead-meets (place plan n) (w .0) (less (w .1) (decLt (place plan n) (f .height * f .width))) in
+        (s .0, s .1, s .2, λ v. omega (arith, s .3, covered-below n h (s .0) (s .1) v))
       where
-        from : All n → Dec (place plan n < f .height * f .width) → place plan n ≡ f .height * f .width
-        from v (yes l) =
-            let s = ahead-meets (place plan n) (place-whole n h .0) l in
-            absurd (omega (arith, s .3, covered-below n h (s .0) (s .1) (v (s .0) (s .1) (s .2))))
-        from v (no l) = omega (arith, place-whole n h .1)
+        less : place plan n ≤ f .height * f .width → Dec (place plan n < f .height * f .width) → place plan n < f .height * f .width
+        less l (yes m) = m
+        less l (no m) = absurd (e (omega arith))
+
+    pub refusal-10 : (n : ℕ) → Checked n → (place plan n ≡ f .height * f .width) ↔ All n
+    refusal-10 n h = (λ e r c i. below-covered n h r c i (omega (arith, ahead-lt r c i)), λ v. from v (ℕ-discrete (place plan n) (f .height * f .width)))
+      where
+        from : All n → Dec (place plan n ≡ f .height * f .width) → place plan n ≡ f .height * f .width
+        from v (yes e) = e
+        from v (no e) = let s = gap n h e in absurd (s .3 (v (s .0) (s .1) (s .2)))
 
     checked : (n : ℕ) → ((k : ℕ) → k < n → Placed f (plan k) × Next f plan k) → Checked n
     checked zero h i l = absurd (omega arith)

@@ -6,3 +6,5 @@ pub mod Count
 pub mod Area
 pub mod Ahead
 pub mod Cover
+pub mod Tests
+pub mod Verdict
