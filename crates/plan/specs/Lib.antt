@@ -8,3 +8,4 @@ pub mod Ahead
 pub mod Cover
 pub mod Tests
 pub mod Verdict
+pub mod Steps

@@ -5,8 +5,8 @@ use mathlib.Core.Logic.{_⊎_, _↔_, inl, inr, ⊎-elim}
 use Prim.Native.Nat.{ℕ, _+_, _*_, _%_, _≤_, _<_}
 use native.Mathlib.Omega.{arith}
 use lib.Dec.{leb, eqb}
-use borrow.Author.Tests.{leb-true, leb-false, eqb-true, eqb-false, le-leb, eq-eqb}
-use Rattle.laws.specs.Choose.{both-true}
+use borrow.Author.Tests.{leb-true, leb-false, eqb-true, eqb-false, le-leb, lt-leb, eq-eqb}
+use Rattle.laws.specs.Choose.{both-true, if-yes, if-no}
 use Rattle.domain.specs.Domain.{sizeOk, modeOk, sideOk, ctuOk}
 use Rattle.domain.specs.Facts.{Size, Side, Ctu, size-of, at-size}
 use Rattle.order.specs.Order.{pictureOk}
@@ -64,3 +64,21 @@ numbered f b covered = go (sizeOk (b .side)) (modeOk (b .mode)) (placedOk f b) (
     go true true false a es em ep ea = not-placed refl (size-of (b .side) es) (leb-true (b .mode) 34 em) (λ p. true≢false (sym (of-placed f b p) ∙ ep))
     go true false p a es em ep ea = not-mode refl (size-of (b .side) es) (leb-false (b .mode) 34 em)
     go false m p a es em ep ea = not-size refl (λ s. true≢false (sym (at-size (λ (n : ℕ). sizeOk n ≡ true) refl refl refl refl (b .side) s) ∙ es))
+
+-- the number, test by test
+module _ (f : Frame) (b : Block) (covered : ℕ) where
+  pub no-2 : sizeOk (b .side) ≡ false → 2 ≡ blockNo f b covered
+  unfolding blockNo
+  no-2 s = simp s
+
+  pub no-3 : sizeOk (b .side) ≡ true → 34 < b .mode → 3 ≡ blockNo f b covered
+  unfolding blockNo
+  no-3 s m = simp (s, lt-leb (b .mode) 34 m)
+
+  pub no-6 : sizeOk (b .side) ≡ true → b .mode ≤ 34 → placedOk f b ≡ false → 6 ≡ blockNo f b covered
+  unfolding blockNo
+  no-6 s m p = if-yes (sizeOk (b .side)) _ 2 6 s (if-yes (modeOk (b .mode)) _ 3 6 (le-leb (b .mode) 34 m) (if-no (placedOk f b) _ 6 6 p refl))
+
+  pub no-last : sizeOk (b .side) ≡ true → b .mode ≤ 34 → placedOk f b ≡ true → (a : Bool) → eqb (ahead f (b .row) (b .col)) covered ≡ a → cond a 0 9 ≡ blockNo f b covered
+  unfolding blockNo
+  no-last s m p a e = if-yes (sizeOk (b .side)) _ 2 _ s (if-yes (modeOk (b .mode)) _ 3 _ (le-leb (b .mode) 34 m) (if-yes (placedOk f b) _ 6 _ p (ap (λ (x : Bool). cond x 0 9) (sym e))))
