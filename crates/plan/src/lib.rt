@@ -170,10 +170,18 @@ fn check_blocks(f: Frame, plan: &[[u32; 4]]) -> Verdict
     Verdict { no, block: 0 }
 }
 
+// Number 4: whether the picture is not refused.
+fn picture_ok(f: Frame) -> bool
+    ensures { λ r. ⌜ r ≡ pictureOk (pictureOf f) ⌝ }
+{
+    domain::side_ok(f.width) & domain::side_ok(f.height) & domain::ctu_ok(f.ctu)
+}
+
+// The first rule that a plan breaks, its picture's first, then its blocks' in list order, then that they cover all.
 pub fn check_plan(frame: Frame, plan: &[[u32; 4]]) -> Verdict
     ensures { λ r. ⌜ r ≡ planVerdict frame (now (plan .entry)) ⌝ }
 {
-    if !(domain::side_ok(frame.width) & domain::side_ok(frame.height) & domain::ctu_ok(frame.ctu)) {
+    if !picture_ok(frame) {
         return Verdict { no: 4, block: 0 };
     }
     check_blocks(frame, plan)

@@ -1,43 +1,30 @@
+-- `plan::check_plan` meets its contract.
+use mathlib.Core.Path.{_≡_, refl, sym, _∙_}
+use mathlib.Core.Bool.{Bool, true, false}
 use borrow.Author.Needs.{needs}
+use borrow.Author.Tests.{not-true, not-false}
+use Rattle.laws.specs.Choose.{if-yes, if-no}
+use Rattle.order.specs.Order.{pictureOk}
+use Rattle.plan.specs.Plan.{pictureOf}
+use Rattle.plan.specs.Check.{planVerdict}
+use Rattle.plan.specs.Tests.{picture-good}
 use Rattle.plan.proofs.check_plan.Statement.{statement}
 use Rattle.plan.proofs.check_plan.Tie as tie
-use Rattle.plan.proofs.check_plan.Reads as reads
-use Rattle.plan.proofs.check_plan.Lts as lts
-use Rattle.domain.proofs.ctu_ok.Reads as ctu-ok-reads
-use Rattle.domain.proofs.side_ok.Reads as side-ok-reads
-use Rattle.plan.proofs.check_blocks.Reads as check-blocks-reads
 
--- src/lib.rt:176:10
-side-ok-requires : tie.Need-side-ok-requires
-side-ok-requires c κs = search needs
+picture-ok-requires : tie.Need-picture-ok-requires
+picture-ok-requires c κs = search needs
 
--- src/lib.rt:176:41
-side-ok-requires-2 : tie.Need-side-ok-requires-2
-side-ok-requires-2 c κs = search needs
-
--- src/lib.rt:176:73
-ctu-ok-requires : tie.Need-ctu-ok-requires
-ctu-ok-requires c κs = search needs
-
--- src/lib.rt:177:9
 returns : tie.Need-returns
-returns c = ?
+unfolding planVerdict
+returns c = if-no (pictureOk (pictureOf (c .before .before .args .frame))) _ _ _ (sym (c .before .picture-ok .ensures) ∙ not-true _ (c .if1 .taken)) refl
 
--- src/lib.rt:179:5
 check-blocks-requires : tie.Need-check-blocks-requires
-check-blocks-requires c κs = ?
+check-blocks-requires c κs = picture-good _ (sym (c .before .picture-ok .ensures) ∙ not-false _ (c .if1 .left))
 
--- src/lib.rt:173:1
 returns-2 : tie.Need-returns-2
-returns-2 c = ?
+unfolding planVerdict
+returns-2 c = if-yes (pictureOk (pictureOf (c .before .before .before .args .frame))) _ _ _ (sym (c .before .before .picture-ok .ensures) ∙ not-false _ (c .before .if1 .left)) (c .check-blocks .ensures)
 
 pub check-plan-spec : {M : Type 1} → statement M
 check-plan-spec =
-    tie.close
-    (tie.spec
-    side-ok-requires
-    side-ok-requires-2
-    ctu-ok-requires
-    returns
-    check-blocks-requires
-    returns-2)
+    tie.close (tie.spec picture-ok-requires returns check-blocks-requires returns-2)
