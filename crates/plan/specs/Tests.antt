@@ -41,8 +41,11 @@ placed-of f b s e =
 of-placed : (f : Frame) (b : Block) → Placed f b → placedOk f b ≡ true
 of-placed f b p =
     simp (
-      eq-eqb (b .row % b .side) 0 (p .row-at), eq-eqb (b .col % b .side) 0 (p .col-at), le-leb (b .row + b .side) (f .height) (p .row-in),
-      le-leb (b .col + b .side) (f .width) (p .col-in), le-leb (b .side) (f .ctu) (p .small)
+      eq-eqb (b .row % b .side) 0 (p .row-at),
+      eq-eqb (b .col % b .side) 0 (p .col-at),
+      le-leb (b .row + b .side) (f .height) (p .row-in),
+      le-leb (b .col + b .side) (f .width) (p .col-in),
+      le-leb (b .side) (f .ctu) (p .small),
     )
 
 -- what a block's number tells, where `covered` samples lie before it

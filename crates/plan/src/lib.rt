@@ -91,7 +91,9 @@ fn starts_next(f: Frame, row: usize, col: usize, covered: usize) -> bool
     ensures { λ r. ⌜ r ≡ eqb (ahead f row col) covered ⌝ }
 {
     let m = levels_of(f.ctu);
-    16 * cells_ahead((f.height as usize) / 4, (f.width as usize) / 4, m, row / 4, col / 4) == covered
+    let h = (f.height as usize) / 4;
+    let w = (f.width as usize) / 4;
+    16 * cells_ahead(h, w, m, row / 4, col / 4) == covered
 }
 
 // Whether a number is a multiple of a block's side.
@@ -144,7 +146,12 @@ fn block_at(plan: &[[u32; 4]], i: usize) -> Block
     requires { ⌜ i < length (now plan) ⌝ }
     ensures { λ r. ⌜ r ≡ planOf (now (plan .entry)) i ⌝ }
 {
-    Block { row: plan[i][0], col: plan[i][1], side: plan[i][2], mode: plan[i][3] }
+    Block {
+        row: plan[i][0],
+        col: plan[i][1],
+        side: plan[i][2],
+        mode: plan[i][3],
+    }
 }
 
 // The verdict on a good picture's blocks.
@@ -160,7 +167,8 @@ fn check_blocks(f: Frame, plan: &[[u32; 4]]) -> Verdict
         let b = block_at(plan, i);
         let no = block_no(f, b, covered);
         if no != 0 {
-            return Verdict { no, block: i as u32 };
+            let block = i as u32;
+            return Verdict { no, block };
         }
         let n = b.side as usize;
         covered += n * n;

@@ -1,6 +1,7 @@
 -- `plan::block_no` meets its contract, test by test.
 use mathlib.Core.Path.{_≡_, sym, _∙_}
 use mathlib.Core.Bool.{true, false}
+use native.Mathlib.Omega.{arith}
 use borrow.Author.Tests.{not-true, not-false}
 use Rattle.domain.specs.Facts.{size-of}
 use Rattle.plan.specs.Cover.{first-in}
@@ -8,57 +9,41 @@ use Rattle.plan.specs.Tests.{placed-of, no-2, no-3, no-6, no-last}
 use borrow.Author.Needs.{needs}
 use Rattle.plan.proofs.block_no.Statement.{statement}
 use Rattle.plan.proofs.block_no.Tie as tie
-use Rattle.plan.proofs.block_no.Reads as reads
-use Rattle.plan.proofs.block_no.Lts as lts
-use Rattle.domain.proofs.size_ok.Reads as size-ok-reads
-use Rattle.plan.proofs.placed_ok.Reads as placed-ok-reads
-use Rattle.plan.proofs.starts_next.Reads as starts-next-reads
 
--- src/lib.rt:127:25
 cast-size-ok : tie.Need-cast-size-ok
 cast-size-ok c = search needs
 
--- src/lib.rt:127:9
 size-ok-requires : tie.Need-size-ok-requires
 size-ok-requires c κs = search needs
 
--- src/lib.rt:128:9
 returns : tie.Need-returns
 returns c = no-2 _ _ _ (sym (c .before .size-ok .ensures) ∙ not-true _ (c .if1 .taken))
 
--- src/lib.rt:131:9
 returns-2 : tie.Need-returns-2
-returns-2 c = no-3 _ _ _ (sym (c .before .before .before .size-ok .ensures) ∙ not-false _ (c .before .before .if1 .left)) (c .if2 .taken)
+returns-2 c = no-3 _ _ _ (sym (c .before .before .before .size-ok .ensures) ∙ not-false _ (c .before .before .if1 .left)) (omega (arith, c .if2 .taken))
 
--- src/lib.rt:133:9
 placed-ok-requires : tie.Need-placed-ok-requires
 placed-ok-requires c κs = size-of _ (sym (c .before .before .before .size-ok .ensures) ∙ not-false _ (c .before .before .if1 .left))
 
--- src/lib.rt:134:9
 returns-3 : tie.Need-returns-3
-returns-3 c = no-6 _ _ _ (sym (c .before .before .before .before .before .size-ok .ensures) ∙ not-false _ (c .before .before .before .before .if1 .left)) (c .before .before .if2 .left) (sym (c .before .placed-ok .ensures) ∙ not-true _ (c .if3 .taken))
+returns-3 c = no-6 _ _ _ (sym (c .before .before .before .before .before .size-ok .ensures) ∙ not-false _ (c .before .before .before .before .if1 .left)) (omega (arith, c .before .before .if2 .left)) (sym (c .before .placed-ok .ensures) ∙ not-true _ (c .if3 .taken))
 
--- src/lib.rt:136:24
 cast-starts-next : tie.Need-cast-starts-next
 cast-starts-next c = search needs
 
--- src/lib.rt:136:40
 cast-starts-next-2 : tie.Need-cast-starts-next-2
 cast-starts-next-2 c = search needs
 
--- src/lib.rt:136:9
 starts-next-requires : tie.Need-starts-next-requires
 starts-next-requires c κs =
     let p = placed-of _ (c .before .before .before .before .before .before .before .before .before .args .b) (size-of _ (sym (c .before .before .before .before .before .before .before .size-ok .ensures) ∙ not-false _ (c .before .before .before .before .before .before .if1 .left))) (sym (c .before .before .before .placed-ok .ensures) ∙ not-false _ (c .before .before .if3 .left)) in
     (c .before .before .before .before .before .before .before .before .before .pre, first-in (c .before .before .before .before .before .before .before .before .before .pre) _ p)
 
--- src/lib.rt:137:9
 returns-4 : tie.Need-returns-4
-returns-4 c = no-last _ _ _ (sym (c .before .before .before .before .before .before .before .before .before .size-ok .ensures) ∙ not-false _ (c .before .before .before .before .before .before .before .before .if1 .left)) (c .before .before .before .before .before .before .if2 .left) (sym (c .before .before .before .before .before .placed-ok .ensures) ∙ not-false _ (c .before .before .before .before .if3 .left)) false (sym (c .before .starts-next .ensures) ∙ not-true _ (c .if4 .taken))
+returns-4 c = no-last _ _ _ (sym (c .before .before .before .before .before .before .before .before .before .size-ok .ensures) ∙ not-false _ (c .before .before .before .before .before .before .before .before .if1 .left)) (omega (arith, c .before .before .before .before .before .before .if2 .left)) (sym (c .before .before .before .before .before .placed-ok .ensures) ∙ not-false _ (c .before .before .before .before .if3 .left)) false (sym (c .before .starts-next .ensures) ∙ not-true _ (c .if4 .taken))
 
--- src/lib.rt:123:1
 returns-5 : tie.Need-returns-5
-returns-5 c = no-last _ _ _ (sym (c .before .before .before .before .before .before .before .before .before .size-ok .ensures) ∙ not-false _ (c .before .before .before .before .before .before .before .before .if1 .left)) (c .before .before .before .before .before .before .if2 .left) (sym (c .before .before .before .before .before .placed-ok .ensures) ∙ not-false _ (c .before .before .before .before .if3 .left)) true (sym (c .before .starts-next .ensures) ∙ not-false _ (c .if4 .left))
+returns-5 c = no-last _ _ _ (sym (c .before .before .before .before .before .before .before .before .before .size-ok .ensures) ∙ not-false _ (c .before .before .before .before .before .before .before .before .if1 .left)) (omega (arith, c .before .before .before .before .before .before .if2 .left)) (sym (c .before .before .before .before .before .placed-ok .ensures) ∙ not-false _ (c .before .before .before .before .if3 .left)) true (sym (c .before .starts-next .ensures) ∙ not-false _ (c .if4 .left))
 
 pub block-no-spec : {M : Type 1} → statement M
 block-no-spec =

@@ -12,10 +12,6 @@ use Rattle.plan.specs.Check.{blocksVerdict}
 use Rattle.plan.specs.Steps.{Running, area-small, running-none, running-small, running-stops, running-fits, running-more, running-end}
 use Rattle.plan.proofs.check_blocks.Statement.{statement}
 use Rattle.plan.proofs.check_blocks.Tie as tie
-use Rattle.plan.proofs.check_blocks.Reads as reads
-use Rattle.plan.proofs.check_blocks.Lts as lts
-use Rattle.plan.proofs.block_at.Reads as block-at-reads
-use Rattle.plan.proofs.block_no.Reads as block-no-reads
 
 abbrev Inv-loop : tie.InvT-loop
 Inv-loop f plan area count covered₀ i₀ covered i = Running f (planOf plan) (blocksVerdict f plan) (length plan) i covered
@@ -23,70 +19,54 @@ Inv-loop f plan area count covered₀ i₀ covered i = Running f (planOf plan) (
 abbrev μ-loop : tie.MeasureT-loop
 μ-loop f plan area count covered₀ i₀ covered i = length plan - i
 
--- src/lib.rt:155:17
 cast-area : tie.Need-cast-area Inv-loop μ-loop
 cast-area c = search needs
 
--- src/lib.rt:155:39
 cast-area-2 : tie.Need-cast-area-2 Inv-loop μ-loop
 cast-area-2 c = search needs
 
--- src/lib.rt:155:16
 mul-area : tie.Need-mul-area Inv-loop μ-loop
 mul-area c = let a = area-small (c .before .before .pre) in search needs
 
--- src/lib.rt:159:5
 loop-holds : tie.Need-loop-holds Inv-loop μ-loop
 loop-holds c = running-none _ _ _
 
--- src/lib.rt:160:13
 block-at-requires : tie.Need-block-at-requires Inv-loop μ-loop
 block-at-requires c κs = c .loop-test .taken
 
--- src/lib.rt:161:13
 block-no-requires : tie.Need-block-no-requires Inv-loop μ-loop
 block-no-requires c κs = c .before .before .before .before .before .pre
 
--- src/lib.rt:163:41
-cast-t14 : tie.Need-cast-t14 Inv-loop μ-loop
-cast-t14 c = let a = running-small (c .before .before .before .before .before .before .before .pre) (c .before .before .before .before .loop .inv) in search needs
+cast-block : tie.Need-cast-block Inv-loop μ-loop
+cast-block c = let a = running-small (c .before .before .before .before .before .before .before .pre) (c .before .before .before .before .loop .inv) in search needs
 
--- src/lib.rt:163:13
 returns : tie.Need-returns Inv-loop μ-loop
 returns c = running-stops (c .before .before .before .before .before .before .before .pre) (c .before .before .before .before .loop .inv) (c .before .before .before .loop-test .taken) (c .before .before .block-at .result) (c .before .before .block-at .ensures) (c .before .block-no .result) (c .before .block-no .ensures) (c .if1 .taken)
 
--- src/lib.rt:165:17
 cast-n : tie.Need-cast-n Inv-loop μ-loop
 cast-n c = search needs
 
--- src/lib.rt:166:20
 mul-covered : tie.Need-mul-covered Inv-loop μ-loop
 mul-covered c = let a = running-fits (c .before .before .before .before .before .before .before .before .pre) (c .before .before .before .before .before .loop .inv) (c .before .before .before .before .loop-test .taken) (c .before .before .before .block-at .result) (c .before .before .before .block-at .ensures) (c .before .before .block-no .result) (c .before .before .block-no .ensures) (c .before .if1 .left) in search needs
 
--- src/lib.rt:166:9
 add-covered : tie.Need-add-covered Inv-loop μ-loop
 add-covered c =
     let a = running-fits (c .before .before .before .before .before .before .before .before .pre) (c .before .before .before .before .before .loop .inv) (c .before .before .before .before .loop-test .taken) (c .before .before .before .block-at .result) (c .before .before .before .block-at .ensures) (c .before .before .block-no .result) (c .before .before .block-no .ensures) (c .before .if1 .left) in
     let m = area-small (c .before .before .before .before .before .before .before .before .pre) in
     search needs
 
--- src/lib.rt:167:9
 add-i : tie.Need-add-i Inv-loop μ-loop
 add-i c = let a = running-small (c .before .before .before .before .before .before .before .before .pre) (c .before .before .before .before .before .loop .inv) in search needs
 
--- src/lib.rt:159:5
 loop-less : tie.Need-loop-less Inv-loop μ-loop
 loop-less c = search needs
 
--- src/lib.rt:159:5
 loop-again : tie.Need-loop-again Inv-loop μ-loop
 loop-again c = running-more (c .before .before .before .before .before .before .before .before .pre) (c .before .before .before .before .before .loop .inv) (c .before .before .before .before .loop-test .taken) (c .before .before .before .block-at .result) (c .before .before .before .block-at .ensures) (c .before .before .block-no .result) (c .before .before .block-no .ensures) (c .before .if1 .left)
 
--- src/lib.rt:151:1
 returns-2 : tie.Need-returns-2 Inv-loop μ-loop
 returns-2 c = running-end (c .before .before .loop .inv) (c .before .loop-test .left) true (eq-eqb _ _ (c .if2 .taken))
 
--- src/lib.rt:151:1
 returns-3 : tie.Need-returns-3 Inv-loop μ-loop
 returns-3 c = running-end (c .before .before .loop .inv) (c .before .loop-test .left) false (ne-eqb _ _ (c .if2 .left))
 
@@ -102,7 +82,7 @@ check-blocks-spec =
     loop-holds
     block-at-requires
     block-no-requires
-    cast-t14
+    cast-block
     returns
     cast-n
     mul-covered

@@ -1,3 +1,4 @@
+-- `plan::strip` meets its contract.
 use mathlib.Core.Path.{_≡_, ap}
 use Prim.Native.Nat.{ℕ, _*_, _≤_}
 use native.Mathlib.Nat.{mul-le-mul}
@@ -5,19 +6,13 @@ use native.Mathlib.Omega.{arith}
 use borrow.Author.Needs.{needs}
 use Rattle.plan.proofs.strip.Statement.{statement}
 use Rattle.plan.proofs.strip.Tie as tie
-use Rattle.plan.proofs.strip.Reads as reads
-use Rattle.plan.proofs.strip.Lts as lts
-use Rattle.plan.proofs.lesser.Reads as lesser-reads
 
--- src/lib.rt:23:9
 lesser-requires : tie.Need-lesser-requires
 lesser-requires c κs = search needs
 
--- src/lib.rt:23:5
 mul-result : tie.Need-mul-result
 mul-result c = let a : c .lesser .result ≤ 32 = omega arith in let m : c .before .args .s * c .lesser .result ≤ 16 * 32 = mul-le-mul (c .before .pre .0) a in record { fits = omega arith }
 
--- src/lib.rt:19:1
 returns : tie.Need-returns
 returns c = let a : c .lesser .result ≤ 32 = omega arith in let m : c .before .args .s * c .lesser .result ≤ 16 * 32 = mul-le-mul (c .before .pre .0) a in (ap (λ (u : ℕ). c .before .args .s * u) (c .lesser .ensures), m)
 
