@@ -1,0 +1,49 @@
+-- `plan::placed_ok` meets its contract.
+use borrow.Author.Needs.{needs}
+use Rattle.plan.proofs.placed_ok.Statement.{statement}
+use Rattle.plan.proofs.placed_ok.Tie as tie
+
+cast-n : tie.Need-cast-n
+cast-n c = search needs
+
+cast-row : tie.Need-cast-row
+cast-row c = search needs
+
+cast-col : tie.Need-cast-col
+cast-col c = search needs
+
+multiple-requires : tie.Need-multiple-requires
+multiple-requires c κs = search needs
+
+multiple-requires-2 : tie.Need-multiple-requires-2
+multiple-requires-2 c κs = search needs
+
+add-result : tie.Need-add-result
+add-result c = search needs
+
+cast-result : tie.Need-cast-result
+cast-result c = search needs
+
+add-result-2 : tie.Need-add-result-2
+add-result-2 c = search needs
+
+cast-result-2 : tie.Need-cast-result-2
+cast-result-2 c = search needs
+
+returns : tie.Need-returns
+returns c = simp (c .before .before .before .before .before .multiple .ensures, c .before .before .before .before .multiple2 .ensures)
+
+pub placed-ok-spec : {M : Type 1} → statement M
+placed-ok-spec =
+    tie.close
+    (tie.spec
+    cast-n
+    cast-row
+    cast-col
+    multiple-requires
+    multiple-requires-2
+    add-result
+    cast-result
+    add-result-2
+    cast-result-2
+    returns)
