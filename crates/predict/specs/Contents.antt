@@ -1,10 +1,11 @@
 -- What a served block holds is the standard's, 8.4.4.2.1: chroma from its neighbours as they are, luma from rows that are smoothed where the rule says.
 -- Rests on the modes' laws and on smoothing.
-use mathlib.Core.Path.{_≡_, refl, sym}
+use mathlib.Core.Path.{_≡_, refl, sym, ap, _∙_}
 use mathlib.Core.Bool.{Bool, true, false, cond, not, _&&_}
 use mathlib.Core.List.{List}
 use Prim.Native.Nat.{ℕ, _≤_}
 use native.Mathlib.Omega.{arith}
+use lib.ListN.{length}
 use Rattle.laws.specs.Fill.{block}
 use Rattle.laws.specs.FillLaws.{rows-same}
 use Rattle.domain.specs.Facts.{Size, size-small}
@@ -15,8 +16,11 @@ use Rattle.h265.specs.Prediction.{filters, prepared, predSamples}
 use Rattle.h265.specs.Mean.{Agree}
 use Rattle.rows.specs.declared.Rows.{Rows}
 use Rattle.rows.specs.Neighbours.{neighboursOf}
-use Rattle.smooth.specs.Smoothing.{smoothed}
+use Rattle.smooth.specs.declared.Rule.{Rule}
+use Rattle.smooth.specs.declared.Smoothed.{Smoothed}
+use Rattle.smooth.specs.Smoothing.{smoothed, ruleDoor, lumaDoor}
 use Rattle.smooth.specs.Standard.{is-standard}
+use Rattle.predict.specs.Door.{Block}
 use Rattle.predict.specs.Modes.{byMode, plain, is-by-mode, by-mode-alone}
 
 -- chroma of the first edition; how it is sampled plays no part once the neighbours are there
@@ -26,6 +30,20 @@ chromaAt bits = record { luma = false; bits = bits; subWidth = 2; subHeight = 2;
 -- the rows that a luma block is predicted from
 unfoldable pub lumaRows : ℕ → ℕ → ℕ → Rows → Rows
 lumaRows bits n mode rows = cond (filterFlag n mode) (smoothed true bits n (rows .corner) (rows .above) (rows .left)) rows
+
+-- what the rule and smoothing answer for a block that is served
+module _ (bits n mode : ℕ) (b : Block bits n mode) where
+  rule-says : (r : Rule) → r ≡ ruleDoor mode n → r .yes ≡ filterFlag n mode
+  unfolding ruleDoor
+  rule-says r e = ap (λ (q : Rule). q .yes) e ∙ rw (b .size, b .inside)
+
+  pub rows-smoothed : (rows : Rows) → length (rows .above) ≡ 65 → length (rows .left) ≡ 65 → (r : Rule) → r ≡ ruleDoor mode n → r .yes ≡ true → (m : Smoothed) → m ≡ lumaDoor true (rows .corner) (rows .above) (rows .left) n bits → m .rows ≡ lumaRows bits n mode rows
+  unfolding lumaDoor lumaRows
+  rows-smoothed rows ha hl r e y m f = rw (sym (rule-says r e) ∙ y) (ap (λ (q : Smoothed). q .rows) f ∙ rw (b .depth, b .size, ha, hl))
+
+  pub rows-kept : (rows : Rows) (r : Rule) → r ≡ ruleDoor mode n → r .yes ≡ false → rows ≡ lumaRows bits n mode rows
+  unfolding lumaRows
+  rows-kept rows r e y = rw (sym (rule-says r e) ∙ y)
 
 -- chroma is predicted with nothing filtered
 pub chroma-plain : (bits n mode : ℕ) (nb : Neighbours) (x y : ℕ) → predSamples (chromaAt bits) (first true) n mode nb x y ≡ plain bits n mode nb x y

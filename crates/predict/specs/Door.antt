@@ -1,12 +1,12 @@
 -- The number of a call, from document 01's table, and that the calls below serve each call that has number 0. Rests on the domain and on their numbers.
-use mathlib.Core.Path.{_≡_, refl}
+use mathlib.Core.Path.{_≡_, sym, _∙_}
 use mathlib.Core.Bool.{Bool, true, _&&_}
 use mathlib.Core.List.{[], _∷_}
 use Prim.Native.Nat.{ℕ, _*_, _≤_}
 use native.Mathlib.Omega.{arith}
 use lib.Dec.{leb}
 use borrow.Author.Tests.{leb-true, le-leb}
-use Rattle.laws.specs.Choose.{firstFail, _unless_, passed, both-true, both-same}
+use Rattle.laws.specs.Choose.{firstFail, _unless_, served, worked, passed, both-true, both-same}
 use Rattle.domain.specs.Domain.{depthOk, sizeOk, modeOk, predictorRow}
 use Rattle.domain.specs.Facts.{Size, size-of}
 use Rattle.smooth.specs.Smoothing.{ruleNo, lumaNo}
@@ -31,6 +31,10 @@ fit bits n mode l e =
     let r = passed (modeOk mode) _ 3 (omega arith) (q .1) in
     let s = passed (enough n l) _ 5 (omega arith) (r .1) in
     (record { depth = p .0; size = q .0; inside = r .0 }, s .0)
+
+-- what a call with number 0 left behind is its work
+pub did : {A : Type 0} (k : ℕ) (work kept : A) {out : A} → k ≡ 0 → out ≡ served k work kept → out ≡ work
+did k work kept z e = e ∙ sym (worked k work kept z)
 
 module _ {bits n mode : ℕ} (b : Block bits n mode) where
   pub side : Size n

@@ -1,16 +1,19 @@
 -- A block's prediction by its mode, 8.4.4.2.1, from neighbours as they are: which clause a mode takes, that it reads the corner and entries 0 .. 2n - 1 alone,
 -- and that without smoothing and edge filter a sample lies between bounds of these. Rests on the standard's clauses and the predictors' laws.
-use mathlib.Core.Path.{_≡_, refl, ap, _∙_}
+use mathlib.Core.Path.{_≡_, refl}
 use mathlib.Core.Bool.{Bool, true, false, cond, not, _&&_}
+use mathlib.Core.List.{List}
 use Prim.Native.Nat.{ℕ, _≤_, _<_}
 use native.Mathlib.Omega.{arith}
 use lib.Dec.{eqb}
-use Rattle.domain.specs.Facts.{Size, size-small}
-use Rattle.h265.specs.Notation.{Neighbours}
+use borrow.Author.Tests.{ne-eqb}
+use Rattle.laws.specs.Fill.{block}
+use Rattle.domain.specs.Facts.{Size}
+use Rattle.h265.specs.Notation.{Neighbours, fromRows}
 use Rattle.h265.specs.Setting.{Component, Flags}
 use Rattle.h265.specs.Filtering.{filtered}
 use Rattle.h265.specs.Planar.{planar}
-use Rattle.h265.specs.Dc.{dc}
+use Rattle.h265.specs.Dc.{dcVal, dc}
 use Rattle.h265.specs.Angular.{angular}
 use Rattle.h265.specs.Prediction.{filters, prepared, predSamples}
 use Rattle.h265.specs.Mean.{Under, Agree, even, Mean, between}
@@ -30,6 +33,23 @@ plain bits n mode nb x y = byMode bits false false n mode nb x y
 pub is-by-mode : (c : Component) (f : Flags) (n mode : ℕ) (nb : Neighbours) (x y : ℕ) → predSamples c f n mode nb x y ≡ byMode (c .bits) (c .luma) (c .luma && not (f .edgeOff)) n mode (prepared c f n mode nb) x y
 unfolding predSamples byMode
 is-by-mode c f n mode nb x y = refl
+
+-- the block of each kind of mode; planar and DC have no use for a corner
+module _ (bits n mode corner : ℕ) (flat edge : Bool) (above left d : List ℕ) where
+  abbrev made : List ℕ
+  made = block (λ (y x : ℕ). byMode bits flat edge n mode (fromRows corner above left) x y) n d
+
+  pub planar-made : mode ≡ 0 → block (λ (y x : ℕ). planar n (fromRows 0 above left) x y) n d ≡ made
+  unfolding byMode planar
+  planar-made e = rw e
+
+  pub dc-made : mode ≡ 1 → block (λ (y x : ℕ). dc flat n (fromRows 0 above left) x y) n d ≡ made
+  unfolding byMode dc dcVal
+  dc-made e = rw e
+
+  pub angular-made : (mode ≡ 0 → ⊥) → (mode ≡ 1 → ⊥) → block (λ (y x : ℕ). angular bits edge n mode (fromRows corner above left) x y) n d ≡ made
+  unfolding byMode
+  angular-made p q = rw (ne-eqb mode 0 p, ne-eqb mode 1 q)
 
 -- of two predictors, one that a test picks
 picked-alone : (b : Bool) {k l k′ l′ : ℕ} → k ≡ k′ → l ≡ l′ → cond b k l ≡ cond b k′ l′

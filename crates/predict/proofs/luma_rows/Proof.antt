@@ -1,34 +1,36 @@
+-- `predict::luma_rows` meets its contract. The rule decides, and smoothing serves the call. Rests on the contracts of both.
+use lib.ListN.{length}
+use mathlib.Core.Path.{_≡_}
+use Rattle.predict.specs.Contents.{rows-smoothed, rows-kept}
 use borrow.Author.Needs.{needs}
 use Rattle.predict.proofs.luma_rows.Statement.{statement}
 use Rattle.predict.proofs.luma_rows.Tie as tie
-use Rattle.predict.proofs.luma_rows.Reads as reads
-use Rattle.predict.proofs.luma_rows.Lts as lts
-use Rattle.smooth.proofs.filter_luma_refs.Reads as filter-luma-refs-reads
-use Rattle.smooth.proofs.should_filter_refs.Reads as should-filter-refs-reads
 
--- src/lib.rt:108:8
 should-filter-refs-requires : tie.Need-should-filter-refs-requires
 should-filter-refs-requires c κs = search needs
 
--- src/lib.rt:111:54
 slice-aggregate-filter-luma-refs : tie.Need-slice-aggregate-filter-luma-refs
 slice-aggregate-filter-luma-refs c = search needs
 
--- src/lib.rt:111:62
 slice-aggregate-filter-luma-refs-2 : tie.Need-slice-aggregate-filter-luma-refs-2
 slice-aggregate-filter-luma-refs-2 c = search needs
 
--- src/lib.rt:111:16
 filter-luma-refs-requires : tie.Need-filter-luma-refs-requires
 filter-luma-refs-requires c κs = search needs
 
--- src/lib.rt:111:9
 returns : tie.Need-returns
-returns c = ?
+returns c =
+    let s = c .before .before .before .before .before .before .before .before in
+    let a = s .args in
+    let up : length (a .rows .above) ≡ 65 = search needs in
+    let down : length (a .rows .left) ≡ 65 = search needs in
+    rows-smoothed (a .bits) (a .n) (a .mode) (s .pre) (a .rows) up down (c .before .before .before .before .before .before .before .should-filter-refs .result) (c .before .before .before .before .before .before .before .should-filter-refs .ensures) (c .before .before .before .before .before .before .if1 .taken) (c .before .filter-luma-refs .result) (c .before .filter-luma-refs .ensures)
 
--- src/lib.rt:104:1
 returns-2 : tie.Need-returns-2
-returns-2 c = ?
+returns-2 c =
+    let s = c .before .before in
+    let a = s .args in
+    rows-kept (a .bits) (a .n) (a .mode) (s .pre) (a .rows) (c .before .should-filter-refs .result) (c .before .should-filter-refs .ensures) (c .if1 .left)
 
 pub luma-rows-spec : {M : Type 1} → statement M
 luma-rows-spec =
