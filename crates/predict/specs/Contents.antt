@@ -1,7 +1,7 @@
 -- What a served block holds is the standard's, 8.4.4.2.1: chroma from its neighbours as they are, luma from rows that are smoothed where the rule says.
 -- Rests on the modes' laws and on smoothing.
 use mathlib.Core.Path.{_≡_, refl, sym, ap, _∙_}
-use mathlib.Core.Bool.{Bool, true, false, cond, not, _&&_}
+use mathlib.Core.Bool.{Bool, true, false, cond}
 use mathlib.Core.List.{List}
 use Prim.Native.Nat.{ℕ, _≤_}
 use native.Mathlib.Omega.{arith}
@@ -10,7 +10,7 @@ use Rattle.laws.specs.Fill.{block}
 use Rattle.laws.specs.FillLaws.{rows-same}
 use Rattle.domain.specs.Facts.{Size, size-small}
 use Rattle.h265.specs.Notation.{Neighbours}
-use Rattle.h265.specs.Setting.{Component, Flags, lumaAt, first}
+use Rattle.h265.specs.Setting.{Component, lumaAt, first}
 use Rattle.h265.specs.Filtering.{filterFlag, filtered}
 use Rattle.h265.specs.Prediction.{filters, prepared, predSamples}
 use Rattle.h265.specs.Mean.{Agree}
@@ -23,7 +23,7 @@ use Rattle.smooth.specs.Standard.{is-standard}
 use Rattle.predict.specs.Door.{Block}
 use Rattle.predict.specs.Modes.{byMode, plain, is-by-mode, by-mode-alone}
 
--- chroma of the first edition; how it is sampled plays no part once the neighbours are there
+-- chroma of the first edition; how it is sampled, here 4:2:0, plays no part once the neighbours are there
 abbrev pub chromaAt : ℕ → Component
 chromaAt bits = record { luma = false; bits = bits; subWidth = 2; subHeight = 2; full = false }
 
@@ -45,16 +45,16 @@ module _ (bits n mode : ℕ) (b : Block bits n mode) where
   unfolding lumaRows
   rows-kept rows r e y = rw (sym (rule-says r e) ∙ y)
 
--- chroma is predicted with nothing filtered
-pub chroma-plain : (bits n mode : ℕ) (nb : Neighbours) (x y : ℕ) → predSamples (chromaAt bits) (first true) n mode nb x y ≡ plain bits n mode nb x y
+-- chroma, however it is sampled, is predicted with nothing filtered
+pub chroma-plain : (c : Component) (strong : Bool) (n mode : ℕ) (nb : Neighbours) (x y : ℕ) → c .luma ≡ false → c .full ≡ false → predSamples c (first strong) n mode nb x y ≡ plain (c .bits) n mode nb x y
 unfolding prepared filters
-chroma-plain bits n mode nb x y = is-by-mode (chromaAt bits) (first true) n mode nb x y
+chroma-plain c strong n mode nb x y p q = is-by-mode c (first strong) n mode nb x y ∙ rw (p, q)
 
 module _ (bits n mode : ℕ) (s : Size n) (d : List ℕ) where
   pub chroma-block : (nb : Neighbours) → block (λ (y x : ℕ). byMode bits false false n mode nb x y) n d ≡ block (λ (y x : ℕ). predSamples (chromaAt bits) (first true) n mode nb x y) n d
   chroma-block nb =
       let h = size-small n s in
-      rows-same _ _ n n d (λ y x hy hx. sym (chroma-plain bits n mode nb x y)) (omega arith)
+      rows-same _ _ n n d (λ y x hy hx. sym (chroma-plain (chromaAt bits) true n mode nb x y refl refl)) (omega arith)
 
   -- luma's rows are the neighbours that the standard prepares, as far as a sample reads
   rows-agree : (rows : Rows) → Agree n (neighboursOf (lumaRows bits n mode rows)) (prepared (lumaAt bits) (first true) n mode (neighboursOf rows))

@@ -1,4 +1,4 @@
--- The number of a call, from document 01's table, and that the calls below serve each call that has number 0. Rests on the domain and on their numbers.
+-- The number of a call, from document 01's table, and that the predictors serve each call that has number 0. Rests on the domain and on their numbers.
 use mathlib.Core.Path.{_≡_, sym, _∙_}
 use mathlib.Core.Bool.{Bool, true, _&&_}
 use mathlib.Core.List.{[], _∷_}
@@ -9,7 +9,6 @@ use borrow.Author.Tests.{leb-true, le-leb}
 use Rattle.laws.specs.Choose.{firstFail, _unless_, served, worked, passed, both-true, both-same}
 use Rattle.domain.specs.Domain.{depthOk, sizeOk, modeOk, predictorRow}
 use Rattle.domain.specs.Facts.{Size, size-of}
-use Rattle.smooth.specs.Smoothing.{ruleNo, lumaNo}
 use Rattle.flat.specs.Flat.{flatNo}
 use Rattle.angular.specs.Door.{Lent, enough, angularNo}
 
@@ -42,13 +41,6 @@ module _ {bits n mode : ℕ} (b : Block bits n mode) where
 
   pub highest : mode ≤ 34
   highest = leb-true mode 34 (b .inside)
-
-  -- the numbers of the rule and of smoothing, with rows of 65
-  pub rule-serves : ruleNo mode n ≡ 0
-  rule-serves = rw (b .size, b .inside)
-
-  pub smooth-serves : lumaNo bits n 65 65 ≡ 0
-  smooth-serves = rw (b .depth, b .size)
 
   module _ (l : Lent) (g : enough n l ≡ true) where
     -- planar and DC ask for a part of what is lent

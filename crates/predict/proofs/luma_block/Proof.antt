@@ -56,11 +56,12 @@ returns c =
     let s = c .before .before .before .before .before .before .before .before .before .before .before .before .before .before .before .before .before .before .before .before .before .before in
     let a = s .args in
     let p = c .before .before .before .before .before .before .before .before .by-mode .ensures in
-    let b = tested s in
-    (p .0,
-    p .1
-    ∙ ap (λ (r : Rows). block (λ (y x : ℕ). byMode (a .bits) true true (a .n) (a .mode) (neighboursOf r) x y) (a .n) (a .pred .now)) (c .before .before .before .before .before .before .before .before .before .before .before .before .before .before .before .before .before .luma-rows .ensures)
-    ∙ luma-block (a .bits) (a .n) (a .mode) (side b) (a .pred .now) (highest b) (a .rows))
+    let b = tested s in (
+      p .0,
+      p .1
+          ∙ ap (λ (r : Rows). block (λ (y x : ℕ). byMode (a .bits) true true (a .n) (a .mode) (neighboursOf r) x y) (a .n) (a .pred .now)) (c .before .before .before .before .before .before .before .before .before .before .before .before .before .before .before .before .before .luma-rows .ensures)
+          ∙ luma-block (a .bits) (a .n) (a .mode) (side b) (a .pred .now) (highest b) (a .rows),
+    )
 
 pub luma-block-spec : {M : Type 1} → statement M
 luma-block-spec =
