@@ -11,7 +11,7 @@ ghost use Rattle.h265.specs.Notation.{fromRows};
 ghost use Rattle.h265.specs.Setting.{lumaAt, first};
 ghost use Rattle.h265.specs.Prediction.{predSamples};
 ghost use Rattle.rows.specs.Neighbours.{neighboursOf};
-ghost use Rattle.angular.specs.Door.{Lent, enough};
+ghost use Rattle.angular.specs.Door.{enough};
 ghost use Rattle.predict.specs.Modes.{byMode};
 ghost use Rattle.predict.specs.Door.{predictNo, Block};
 ghost use Rattle.predict.specs.Contents.{chromaAt, lumaRows};

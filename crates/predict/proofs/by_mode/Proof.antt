@@ -1,5 +1,5 @@
 -- `predict::by_mode` meets its contract. The predictor of each arm serves the call, and its block is the mode's. Rests on the predictors' contracts.
-use mathlib.Core.Path.{sym, _∙_}
+use mathlib.Core.Path.{_∙_}
 use native.Mathlib.Omega.{arith}
 use lib.ListN.{length}
 use Rattle.angular.specs.Door.{Lent}
