@@ -4,3 +4,5 @@ pub mod Gather
 pub mod Door
 pub mod Line
 pub mod Counts
+pub mod Rules
+pub mod Unread
