@@ -21,7 +21,7 @@ use Rattle.order.specs.Reach.{cornerHas, aboveHas, leftHas}
 use Rattle.rows.specs.declared.Rows.{Rows}
 use Rattle.refs.specs.Substitution.{onLine, flagsOn, samplesOn, levelRows, fromLine, substituted}
 use Rattle.refs.specs.Gather.{flagsBy, samplesBy, gatheredBy}
-use Rattle.refs.specs.Line.{anyBy, startBy, leftBy, cornerBy, restBy, aboveBy, CountedLine, told, settled-left, settled-corner, settled-above, starts, nothing}
+use Rattle.refs.specs.Line.{on-left, on-corner, on-above, anyBy, startBy, leftBy, cornerBy, restBy, aboveBy, CountedLine, told, settled-left, settled-corner, settled-above, starts, nothing}
 
 -- the samples of a block's neighbours
 abbrev pub aboveAt : (ℕ → ℕ → ℕ) → ℕ → ℕ → ℕ → ℕ
@@ -33,31 +33,30 @@ leftAt sample row col i = sample (row + i) (col - 1)
 abbrev pub cornerAt : (ℕ → ℕ → ℕ) → ℕ → ℕ → ℕ
 cornerAt sample row col = sample (row - 1) (col - 1)
 
--- what stands before the first sample that is there, in the corner, and after the last one of the row above
-abbrev pub startOf : Reach → (ℕ → ℕ → ℕ) → ℕ → ℕ → ℕ
-startOf r sample row col = startBy (r .corner) (r .left) (leftAt sample row col) (cornerAt sample row col) (aboveAt sample row col)
+-- From the samples of the corner c, of the row above and of the left column: what stands before the first that is there, in the corner,
+-- and after the last one of the row above
+abbrev pub startOf : Reach → ℕ → (ℕ → ℕ) → (ℕ → ℕ) → ℕ
+startOf r c above left = startBy (r .corner) (r .left) left c above
 
-abbrev pub cornerOf : Reach → (ℕ → ℕ → ℕ) → ℕ → ℕ → ℕ
-cornerOf r sample row col = cornerBy (r .corner) (r .left) (leftAt sample row col) (cornerAt sample row col) (startOf r sample row col)
+abbrev pub cornerOf : Reach → ℕ → (ℕ → ℕ) → ℕ → ℕ
+cornerOf r c left start = cornerBy (r .corner) (r .left) left c start
 
-abbrev pub restOf : Reach → (ℕ → ℕ → ℕ) → ℕ → ℕ → ℕ
-restOf r sample row col = restBy (r .above) (aboveAt sample row col) (cornerOf r sample row col)
+abbrev pub restOf : Reach → (ℕ → ℕ) → ℕ → ℕ
+restOf r above corner = restBy (r .above) above corner
 
 -- an edge: the first have of its entries 0 to e are at, the others rest; 0 past them
 unfoldable pub edgeOf : ℕ → ℕ → (ℕ → ℕ) → ℕ → List ℕ
 edgeOf e have at rest = fill (λ i. cond (ltb i have) (at i) rest) (e + 1) (replicate 65 0)
 
 -- the rows where a neighbour is there, and where none is
-abbrev pub reached : Reach → (ℕ → ℕ → ℕ) → ℕ → ℕ → ℕ → Rows
-reached r sample row col n =
-    record {
-      corner = cornerOf r sample row col;
-      above = edgeOf (2 * n) (r .above) (aboveAt sample row col) (restOf r sample row col);
-      left = edgeOf (2 * n) (r .left) (leftAt sample row col) (startOf r sample row col);
-    }
+abbrev pub reached : Reach → ℕ → (ℕ → ℕ) → (ℕ → ℕ) → ℕ → Rows
+reached r c above left n =
+    let start = startOf r c above left in
+    let corner = cornerOf r c left start in
+    record { corner = corner; above = edgeOf (2 * n) (r .above) above (restOf r above corner); left = edgeOf (2 * n) (r .left) left start }
 
-unfoldable pub fromReach : Reach → (ℕ → ℕ → ℕ) → ℕ → ℕ → ℕ → ℕ → Rows
-fromReach r sample row col n neutral = cond (anyBy (r .corner) (r .above) (r .left)) (reached r sample row col n) (levelRows neutral)
+unfoldable pub fromReach : Reach → ℕ → (ℕ → ℕ) → (ℕ → ℕ) → ℕ → ℕ → Rows
+fromReach r c above left n neutral = cond (anyBy (r .corner) (r .above) (r .left)) (reached r c above left n) (levelRows neutral)
 
 -- the neighbours that a rule tells to be there, counted
 pub record Counted (has : ℤ → ℤ → Bool) (row col n : ℕ) (r : Reach) : Type 0 where
@@ -77,22 +76,6 @@ fill-over f g h k d z same =
     ⊎-elim (λ s. fill-at h k (fill g k d) i z s (omega (arith, length-fill g k d)) ∙ sym (fill-at h k d i z s m))
     (λ s. fill-past h k (fill g k d) i z s ∙ fill-past g k d i z s ∙ sym (fill-past h k d i z s))
     (order i k))
-
--- what stands on the line
-module _ {A : Type 0} (left above : ℕ → A) (corner : A) (e : ℕ) where
-  on-left : (k : ℕ) → k ≤ e → onLine left corner above e k ≡ left (e - k)
-  unfolding onLine
-  on-left k h = simp (le-leb k e h)
-
-  on-corner : onLine left corner above e (e + 1) ≡ corner
-  unfolding onLine
-  on-corner = simp (lt-leb (e + 1) e (omega arith), eq-eqb (e + 1) (e + 1) refl)
-
-  on-above : (i : ℕ) → onLine left corner above e (e + 2 + i) ≡ above i
-  unfolding onLine
-  on-above i =
-      simp (lt-leb (e + 2 + i) e (omega arith), ne-eqb (e + 2 + i) (e + 1) (λ q. let p : e + 2 + i ≡ e + 1 = q in omega arith))
-      (ap above (omega arith))
 
 module _ (has : ℤ → ℤ → Bool) (sample : ℕ → ℕ → ℕ) (row col n : ℕ) (r : Reach) (small : n ≤ 32) (known : Counted has row col n r) where
   abbrev marks : ℕ → Bool
@@ -120,16 +103,29 @@ module _ (has : ℤ → ℤ → Bool) (sample : ℕ → ℕ → ℕ) (row col n 
   abbrev first : ℕ
   first = firstMarked marks 0 (2 * (2 * n) + 3)
 
-  some : (neutral : ℕ) → anyBy (r .corner) (r .above) (r .left) ≡ true → gatheredBy has sample row col n neutral ≡ reached r sample row col n
+  abbrev c : ℕ
+  c = cornerAt sample row col
+
+  abbrev above : ℕ → ℕ
+  above = aboveAt sample row col
+
+  abbrev left : ℕ → ℕ
+  left = leftAt sample row col
+
+  some : (neutral : ℕ) → anyBy (r .corner) (r .above) (r .left) ≡ true → gatheredBy has sample row col n neutral ≡ reached r c above left n
   unfolding gatheredBy substituted edgeOf
   some neutral any =
       let s = starts counted-line any in
       simp (lt-ltb first (2 * (2 * n) + 3) (s .0))
       (λ i.
       record {
-        corner = (settled-corner counted-line first ∙ ap (cornerBy (r .corner) (r .left) (leftAt sample row col) (cornerAt sample row col)) (s .1)) i;
-        above = fill-over _ (λ (k : ℕ). cond (aboveHas has row col k) (aboveAt sample row col k) 0) _ (2 * n + 1) (replicate 65 0) 0 (λ j l. settled-above counted-line first j (omega arith) ∙ ap (λ (v : ℕ). aboveBy (r .above) (aboveAt sample row col) (restBy (r .above) (aboveAt sample row col) (cornerBy (r .corner) (r .left) (leftAt sample row col) (cornerAt sample row col) v)) j) (s .1)) i;
-        left = fill-over _ (λ (k : ℕ). cond (leftHas has row col k) (leftAt sample row col k) 0) _ (2 * n + 1) (replicate 65 0) 0 (λ j l. settled-left counted-line first (2 * n - j) (omega arith) ∙ ap₂ (λ (v u : ℕ). leftBy (r .left) (leftAt sample row col) v u) (s .1) (let q : 2 * n - (2 * n - j) ≡ j = omega arith in q)) i;
+        corner = (settled-corner counted-line first ∙ ap (cornerOf r c left) (s .1)) i;
+        above =
+          fill-over _ (λ (k : ℕ). cond (aboveHas has row col k) (above k) 0) _ (2 * n + 1) (replicate 65 0) 0
+          (λ j l. settled-above counted-line first j (omega arith) ∙ ap (λ (v : ℕ). aboveBy (r .above) above (restOf r above (cornerOf r c left v)) j) (s .1)) i;
+        left =
+          fill-over _ (λ (k : ℕ). cond (leftHas has row col k) (left k) 0) _ (2 * n + 1) (replicate 65 0) 0
+          (λ j l. settled-left counted-line first (2 * n - j) (omega arith) ∙ ap₂ (leftBy (r .left) left) (s .1) (let q : 2 * n - (2 * n - j) ≡ j = omega arith in q)) i;
       })
 
   none : (neutral : ℕ) → anyBy (r .corner) (r .above) (r .left) ≡ false → gatheredBy has sample row col n neutral ≡ levelRows neutral
@@ -137,11 +133,11 @@ module _ (has : ℤ → ℤ → Bool) (sample : ℕ → ℕ → ℕ) (row col n 
   none neutral gone = simp (nothing counted-line gone, le-ltb (2 * (2 * n) + 3) (2 * (2 * n) + 3) (omega arith))
 
   -- the definition and the code's form agree
-  pub from-reach : (neutral : ℕ) → gatheredBy has sample row col n neutral ≡ fromReach r sample row col n neutral
+  pub from-reach : (neutral : ℕ) → gatheredBy has sample row col n neutral ≡ fromReach r c above left n neutral
   unfolding fromReach
   from-reach neutral =
       let b = anyBy (r .corner) (r .above) (r .left) in
       let g = gatheredBy has sample row col n neutral in
-      ⊎-elim (λ any. if-yes b (reached r sample row col n) (levelRows neutral) g any (some neutral any))
-      (λ gone. if-no b (reached r sample row col n) (levelRows neutral) g gone (none neutral gone))
+      ⊎-elim (λ any. if-yes b (reached r c above left n) (levelRows neutral) g any (some neutral any))
+      (λ gone. if-no b (reached r c above left n) (levelRows neutral) g gone (none neutral gone))
       (told b)

@@ -1,8 +1,11 @@
--- Document 01, modules 3 and 4: Substitution, Gather (by any rule), Door (refusals and answers). Line: the laws of the line.
+-- Document 01, modules 3 and 4: Substitution, Gather (by any rule), Door (refusals and answers). Line: the laws of the line. Counts: the
+-- rows from how far the neighbours reach. Spots: where they stand in a plane. Rules: the luma and the chroma rule. Unread: no missing
+-- sample is read.
 pub mod Substitution
 pub mod Gather
 pub mod Door
 pub mod Line
 pub mod Counts
+pub mod Spots
 pub mod Rules
 pub mod Unread

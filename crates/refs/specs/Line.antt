@@ -2,15 +2,38 @@
 -- counts along each edge. Assumes nothing.
 use mathlib.Core.Path.{_≡_, refl, sym, ap, ap₂, _∙_}
 use mathlib.Core.Bool.{Bool, true, false, cond, _||_, true≢false}
+use mathlib.Core.List.{List}
 use mathlib.Core.Logic.{_⊎_, inl, inr, ⊎-elim}
 use Prim.Native.Nat.{ℕ, zero, suc, _+_, _-_, _*_, _≤_, _<_}
 use native.Mathlib.Nat.{add-zero}
 use native.Mathlib.Numerals.{add-one}
 use native.Mathlib.Omega.{arith}
-use lib.Dec.{ltb}
-use borrow.Author.Tests.{lt-ltb, le-ltb, ltb-true, ltb-false}
+use lib.Dec.{ltb, leb, eqb}
+use lib.ListN.{getD}
+use borrow.Author.Tests.{lt-ltb, le-ltb, ltb-true, ltb-false, le-leb, lt-leb, eq-eqb, ne-eqb}
 use Rattle.laws.specs.Diff.{order}
 use Rattle.h265.specs.Substitution.{firstMarked, settled}
+use Rattle.refs.specs.Substitution.{onLine}
+
+-- the line of two lists and a corner
+abbrev pub lineOf : {A : Type 0} → A → List A → A → List A → ℕ → ℕ → A
+lineOf d left corner above e = onLine (λ i. getD left i d) corner (λ i. getD above i d) e
+
+-- what stands on it
+module _ {A : Type 0} (left above : ℕ → A) (corner : A) (e : ℕ) where
+  pub on-left : (k : ℕ) → k ≤ e → onLine left corner above e k ≡ left (e - k)
+  unfolding onLine
+  on-left k h = simp (le-leb k e h)
+
+  pub on-corner : onLine left corner above e (e + 1) ≡ corner
+  unfolding onLine
+  on-corner = simp (lt-leb (e + 1) e (omega arith), eq-eqb (e + 1) (e + 1) refl)
+
+  pub on-above : (i : ℕ) → onLine left corner above e (e + 2 + i) ≡ above i
+  unfolding onLine
+  on-above i =
+      simp (lt-leb (e + 2 + i) e (omega arith), ne-eqb (e + 2 + i) (e + 1) (λ q. let p : e + 2 + i ≡ e + 1 = q in omega arith))
+      (ap above (omega arith))
 
 -- the first place that is there
 pub first-at : (marked : ℕ → Bool) (k m f : ℕ) → k ≤ f → f < k + m → ((j : ℕ) → k ≤ j → j < f → marked j ≡ false) → marked f ≡ true
@@ -28,6 +51,47 @@ unfolding firstMarked
 first-none marked k zero none = sym (add-zero k)
 first-none marked k (suc m) none =
     simp (none k (omega arith) (omega arith)) (first-none marked (suc k) m (λ j a b. none j (omega arith) (omega arith)) ∙ (omega arith))
+
+-- the search, a place at a time, with t places in all
+pub first-here : (marked : ℕ → Bool) (p t : ℕ) → p < t → marked p ≡ true → firstMarked marked p (t - p) ≡ p
+first-here marked p t h here = first-at marked p (t - p) p (omega arith) (omega arith) (λ j a b. absurd (omega arith)) here
+
+pub first-skip : (marked : ℕ → Bool) (p t : ℕ) → p < t → marked p ≡ false → firstMarked marked p (t - p) ≡ firstMarked marked (p + 1) (t - (p + 1))
+unfolding firstMarked
+first-skip marked p t h gone =
+    let u : t - p ≡ suc (t - (p + 1)) = omega arith in
+    rw u (simp gone (ap (λ (k : ℕ). firstMarked marked k (t - (p + 1))) (sym (add-one p))))
+
+pub first-end : (marked : ℕ → Bool) (p t : ℕ) → t ≤ p → firstMarked marked p (t - p) ≡ p
+first-end marked p t h = first-none marked p (t - p) (λ j a b. absurd (omega arith)) ∙ (omega arith)
+
+-- what is carried to place p: before the first place what was found, then what the place before it has
+unfoldable pub carriedTo : (ℕ → Bool) → (ℕ → ℕ) → ℕ → ℕ → ℕ
+carriedTo marked value found zero = value found
+carriedTo marked value found (suc k) = settled marked value found k
+
+module _ (marked : ℕ → Bool) (value : ℕ → ℕ) (found : ℕ) where
+  pub carried-start : value found ≡ carriedTo marked value found 0
+  unfolding carriedTo
+  carried-start = refl
+
+  pub carried-on : (p : ℕ) → carriedTo marked value found (p + 1) ≡ settled marked value found p
+  unfolding carriedTo
+  carried-on p = rw (add-one p)
+
+  pub carried-here : (p : ℕ) → marked p ≡ true → value p ≡ carriedTo marked value found (p + 1)
+  carried-here p here = sym (carried-on p ∙ at p here)
+    where
+      at : (k : ℕ) → marked k ≡ true → settled marked value found k ≡ value k
+      at zero t = unfold settled in simp t
+      at (suc k) t = unfold settled in simp t
+
+  pub carried-gap : (p : ℕ) → marked p ≡ false → carriedTo marked value found p ≡ carriedTo marked value found (p + 1)
+  carried-gap p gone = sym (carried-on p ∙ at p gone)
+    where
+      at : (k : ℕ) → marked k ≡ false → settled marked value found k ≡ carriedTo marked value found k
+      at zero t = unfold settled in unfold carriedTo in simp t
+      at (suc k) t = unfold settled in unfold carriedTo in simp t
 
 -- what a search from the first place of the line finds where nothing is there
 pub found-none : (marked : ℕ → Bool) (m : ℕ) → ((j : ℕ) → j < m → marked j ≡ false) → firstMarked marked 0 m ≡ m

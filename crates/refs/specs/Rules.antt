@@ -6,6 +6,7 @@ use mathlib.Core.Logic.{_⊎_, inl, inr, ⊎-elim}
 use Prim.Native.Nat.{ℕ, zero, suc, _+_, _-_, _*_, _/_, _≤_, _<_}
 use native.Mathlib.Nat.{mul-le-mul-right}
 use native.Mathlib.Omega.{arith}
+use lib.Arith.{digits-lt}
 use lib.Dec.{ltb, leb, eqb}
 use lib.IntN.{ℤ, pos, negsuc, _-ℤ_}
 use borrow.Author.Tests.{lt-ltb, le-ltb, ltb-true, eq-eqb, eqb-true}
@@ -14,13 +15,13 @@ use Rattle.laws.specs.Diff.{order, sub-pos}
 use Rattle.fmt.specs.Fmt.{subWidth, subHeight}
 use Rattle.order.specs.declared.LumaBlock.{LumaBlock}
 use Rattle.order.specs.declared.ChromaBlock.{ChromaBlock}
-use Rattle.order.specs.declared.Reach.{Reach}
 use Rattle.order.specs.Order.{before, numberAt}
 use Rattle.order.specs.Good.{Good}
 use Rattle.order.specs.Leading.{leading-from-leads}
 use Rattle.order.specs.Laws.{row-rises, col-rises, before-up, before-left}
 use Rattle.order.specs.Reach.{cornerHas, aboveHas, leftHas, leading, reachBy, lumaHas, chromaHas, chromaHeight, chromaWidth}
 use Rattle.refs.specs.Counts.{Counted}
+use Rattle.refs.specs.Spots.{spotOf, Reads}
 use Rattle.refs.specs.Line.{told}
 
 -- nothing is there above or left of the plane
@@ -33,14 +34,6 @@ pub record Rule (has : ℤ → ℤ → Bool) (height width : ℕ) : Type 0 where
   pub inside : (r c : ℕ) → has (pos r) (pos c) ≡ true → (r < height) × (c < width)
   pub along : (r c c′ : ℕ) → c ≤ c′ → has (pos r) (pos c′) ≡ true → has (pos r) (pos c) ≡ true
   pub down : (c r r′ : ℕ) → r ≤ r′ → has (pos r′) (pos c) ≡ true → has (pos r) (pos c) ≡ true
-
--- the counted neighbours lie in the plane
-pub record Held (r : Reach) (height width row col n : ℕ) : Type 0 where
-  pub above-few : r .above ≤ 2 * n + 1
-  pub left-few : r .left ≤ 2 * n + 1
-  pub above-in : 0 < r .above → (row - 1 < height) × (col + (r .above - 1) < width)
-  pub left-in : 0 < r .left → (row + (r .left - 1) < height) × (col - 1 < width)
-  pub corner-in : r .corner ≡ true → (row - 1 < height) × (col - 1 < width)
 
 -- a number that may be below 0 stands for a row or a column, or is outside
 abbrev pub Near : ℤ → ℕ → Type 0
@@ -167,16 +160,27 @@ module _ {has : ℤ → ℤ → Bool} {height width : ℕ} (rule : Rule has heig
         left-few = omega (arith, leading-from-leads (leftHas has row col) 0 (2 * n + 1) .most);
       }
 
-  pub held : (row col n : ℕ) → Held (reachBy 0 has row col n) height width row col n
-  held row col n =
+  -- and in a plane of height by width samples the code reads inside it
+  pub reads : (row col n : ℕ) → n ≤ 32 → Reads (reachBy 0 has row col n) (spotOf width row col) (height * width) n
+  reads row col n small =
       let a = leading-from-leads (aboveHas has row col) 0 (2 * n + 1) in
       let l = leading-from-leads (leftHas has row col) 0 (2 * n + 1) in
-      let i = leading (aboveHas has row col) (2 * n + 1) - 1 in
-      let j = leading (leftHas has row col) (2 * n + 1) - 1 in
       record {
+        side = small;
         above-few = omega (arith, a .most);
         left-few = omega (arith, l .most);
-        above-in = λ h. in-plane (pos row -ℤ pos 1) (pos (col + i)) (row - 1) (col + i) (back row) (inl refl) (a .hold i (omega arith) (omega arith));
-        left-in = λ h. in-plane (pos (row + j)) (pos col -ℤ pos 1) (row + j) (col - 1) (inl refl) (back col) (l .hold j (omega arith) (omega arith));
-        corner-in = in-plane (pos row -ℤ pos 1) (pos col -ℤ pos 1) (row - 1) (col - 1) (back row) (back col);
+        above-in =
+          λ i h.
+          let p = in-plane (pos row -ℤ pos 1) (pos (col + i)) (row - 1) (col + i) (back row) (inl refl) (a .hold i (omega arith) h) in
+          let q = digits-lt {q = row - 1} {m = height} {r = col + i} {c = width} (p .0) (p .1) in
+          omega arith;
+        left-in =
+          λ i h.
+          let p = in-plane (pos (row + i)) (pos col -ℤ pos 1) (row + i) (col - 1) (inl refl) (back col) (l .hold i (omega arith) h) in
+          let q = digits-lt {q = row + i} {m = height} {r = col - 1} {c = width} (p .0) (p .1) in
+          omega arith;
+        corner-in =
+          λ e.
+          let p = in-plane (pos row -ℤ pos 1) (pos col -ℤ pos 1) (row - 1) (col - 1) (back row) (back col) e in
+          digits-lt (p .0) (p .1);
       }

@@ -1,0 +1,62 @@
+use Rattle.refs.proofs.left_of.Statement.{statement}
+use Rattle.refs.proofs.left_of.Tie as tie
+use Rattle.refs.proofs.left_of.Reads as reads
+use Rattle.refs.proofs.left_of.Lts as lts
+
+abbrev Inv-loop : tie.InvT-loop
+Inv-loop line e out₀ i₀ out i = ?
+
+abbrev μ-loop : tie.MeasureT-loop
+μ-loop line e out₀ i₀ out i = ?
+
+-- src/lib.rt:143:5
+loop-holds : tie.Need-loop-holds Inv-loop μ-loop
+loop-holds c = ?
+
+-- src/lib.rt:144:18
+mul-out : tie.Need-mul-out Inv-loop μ-loop
+mul-out c = ?
+
+-- src/lib.rt:144:18
+element-copy-out-out : tie.Need-element-copy-out-out Inv-loop μ-loop
+element-copy-out-out c = ?
+
+-- src/lib.rt:144:9
+mul-out-2 : tie.Need-mul-out-2 Inv-loop μ-loop
+mul-out-2 c = ?
+
+-- src/lib.rt:144:9
+array-write-out : tie.Need-array-write-out Inv-loop μ-loop
+array-write-out c = ?
+
+-- src/lib.rt:145:9
+add-i : tie.Need-add-i Inv-loop μ-loop
+add-i c = ?
+
+-- src/lib.rt:143:5
+loop-less : tie.Need-loop-less Inv-loop μ-loop
+loop-less c = ?
+
+-- src/lib.rt:143:5
+loop-again : tie.Need-loop-again Inv-loop μ-loop
+loop-again c = ?
+
+-- src/lib.rt:137:1
+returns : tie.Need-returns Inv-loop μ-loop
+returns c = ?
+
+pub left-of-spec : {M : Type 1} → statement M
+left-of-spec =
+    tie.close
+    (tie.spec
+    Inv-loop
+    μ-loop
+    loop-holds
+    mul-out
+    element-copy-out-out
+    mul-out-2
+    array-write-out
+    add-i
+    loop-less
+    loop-again
+    returns)
