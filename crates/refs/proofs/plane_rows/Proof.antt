@@ -1,3 +1,4 @@
+use mathlib.Core.Path.{_∙_}
 -- The parts, put together. Assumes nothing.
 use borrow.Author.Tests.{not-true, not-false}
 use Rattle.refs.specs.Spots.{no-rows, some-rows}
@@ -12,8 +13,11 @@ use Rattle.refs.proofs.start_of.Reads as start-of-reads
 use Rattle.refs.proofs.two_rows.Reads as two-rows-reads
 
 -- src/lib.rt:169:9
+level-rows-requires : tie.Need-level-rows-requires
+level-rows-requires c κs = search needs
+
 returns : tie.Need-returns
-returns c = let a = c .before .before .before .before .before .args in no-rows (a .plane .now) (a .s) (a .r) (a .n) (a .neutral) (not-true _ (c .if1 .taken))
+returns c = let a = c .before .before .before .before .before .before .args in c .level-rows .ensures ∙ no-rows (a .plane .now) (a .s) (a .r) (a .n) (a .neutral) (not-true _ (c .before .if1 .taken))
 
 -- src/lib.rt:175:9
 start-of-requires : tie.Need-start-of-requires
@@ -32,12 +36,12 @@ two-rows-requires : tie.Need-two-rows-requires
 two-rows-requires c κs = search needs
 
 -- src/lib.rt:181:16
-array-copy-out-t20 : tie.Need-array-copy-out-t20
-array-copy-out-t20 c = search needs
+array-copy-out-t18 : tie.Need-array-copy-out-t18
+array-copy-out-t18 c = search needs
 
 -- src/lib.rt:182:15
-array-copy-out-t23 : tie.Need-array-copy-out-t23
-array-copy-out-t23 c = search needs
+array-copy-out-t21 : tie.Need-array-copy-out-t21
+array-copy-out-t21 c = search needs
 
 -- src/lib.rt:164:1
 returns-2 : tie.Need-returns-2
@@ -47,11 +51,12 @@ pub plane-rows-spec : {M : Type 1} → statement M
 plane-rows-spec =
     tie.close
     (tie.spec
+    level-rows-requires
     returns
     start-of-requires
     corner-of-requires
     rest-of-requires
     two-rows-requires
-    array-copy-out-t20
-    array-copy-out-t23
+    array-copy-out-t18
+    array-copy-out-t21
     returns-2)

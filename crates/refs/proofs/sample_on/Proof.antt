@@ -1,3 +1,6 @@
+-- The sample at a place of the line. Assumes nothing.
+use borrow.Author.Tests.{le-leb, lt-leb, eq-eqb, ne-eqb}
+use Rattle.refs.specs.Substitution.{onLine}
 use borrow.Author.Needs.{needs}
 use Rattle.refs.proofs.sample_on.Statement.{statement}
 use Rattle.refs.proofs.sample_on.Tie as tie
@@ -14,7 +17,8 @@ element-copy-out-result c = search needs
 
 -- src/lib.rt:70:9
 returns : tie.Need-returns
-returns c = ?
+unfolding onLine
+returns c = simp (le-leb _ _ (c .before .if1 .taken))
 
 -- src/lib.rt:72:13
 add-if2 : tie.Need-add-if2
@@ -22,7 +26,8 @@ add-if2 c = search needs
 
 -- src/lib.rt:73:9
 returns-2 : tie.Need-returns-2
-returns-2 c = ?
+unfolding onLine
+returns-2 c = simp (lt-leb _ _ (c .before .if1 .left), eq-eqb _ _ (c .if2 .taken))
 
 -- src/lib.rt:75:16
 add-result : tie.Need-add-result
@@ -42,7 +47,8 @@ element-copy-out-result-2 c = search needs
 
 -- src/lib.rt:65:1
 returns-3 : tie.Need-returns-3
-returns-3 c = ?
+unfolding onLine
+returns-3 c = simp (lt-leb _ _ (c .before .before .if1 .left), ne-eqb _ _ (c .before .if2 .left))
 
 pub sample-on-spec : {M : Type 1} → statement M
 sample-on-spec =
