@@ -1,5 +1,5 @@
 -- Answers by tests: the first check that fails, what a served or a refused call gives, and how a test is taken apart. Assumes nothing.
-use mathlib.Core.Path.{_≡_, refl, sym, ap, _∙_}
+use mathlib.Core.Path.{_≡_, refl, sym, ap, ap₂, _∙_}
 use mathlib.Core.Bool.{Bool, true, false, cond, _&&_, _||_, true≢false, false≢true}
 use mathlib.Core.List.{List, [], _∷_}
 use mathlib.Core.Logic.{_⊎_, inl, inr}
@@ -51,6 +51,9 @@ passed false rest k h e = absurd (omega arith)
 pub both-true : (a b : Bool) → (a && b) ≡ true → (a ≡ true) × (b ≡ true)
 both-true true b e = (refl, e)
 both-true false b e = (e, absurd (false≢true e))
+
+pub both-same : {a b x y : Bool} → a ≡ x → b ≡ y → (a && b) ≡ (x && y)
+both-same p q = ap₂ (λ (u v : Bool). u && v) p q
 
 pub either-true : (a b : Bool) → (a || b) ≡ true → (a ≡ true) ⊎ (b ≡ true)
 either-true true b e = inl refl

@@ -6,4 +6,8 @@ pub mod Spread
 pub mod Signs
 pub mod Laws
 pub mod Reach
+pub mod Leading
+pub mod Edges
+pub mod Walk
+pub mod Blocks
 pub mod Figures

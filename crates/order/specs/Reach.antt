@@ -16,7 +16,7 @@ use Rattle.order.specs.declared.Picture.{Picture}
 use Rattle.order.specs.declared.LumaBlock.{LumaBlock}
 use Rattle.order.specs.declared.ChromaBlock.{ChromaBlock}
 use Rattle.order.specs.declared.Reach.{Reach}
-use Rattle.order.specs.Order.{pictureOk, numberAt, availableTo}
+use Rattle.order.specs.Order.{pictureOk, placeOk, numberAt, availableTo}
 
 -- A rule tells of a sample's row and column whether it is there. The neighbours of the block whose first sample is (row, col):
 abbrev pub cornerHas : (ℤ → ℤ → Bool) → ℕ → ℕ → Bool
@@ -83,12 +83,13 @@ colour Yuv420 = true
 colour Yuv422 = true
 colour Yuv444 = true
 
--- number 6: the block in its plane and no wider than a CTU there, the unit, and the current luma place in the luma picture
+-- number 6: the block in its plane and no wider than a CTU there; the unit, and the current luma place in the luma picture
+abbrev pub chromaBlockOk : Picture → ChromaFormat → ℕ → ℕ → ℕ → Bool
+chromaBlockOk p f row col n = inPlane (p .height / subHeight f) (p .width / subWidth f) row col n && leb n (p .ctu / subWidth f)
+
 abbrev pub chromaPlaceOk : ChromaBlock → Bool
 chromaPlaceOk b =
-    let p = b .picture in
-    inPlane (chromaHeight b) (chromaWidth b) (b .row .0) (b .col .0) (b .n)
-    && leb (b .n) (p .ctu / subWidth (b .format)) && unitOk (p .unit) && ltb (b .«cur_luma_row» .0) (p .height) && ltb (b .«cur_luma_col» .0) (p .width)
+    chromaBlockOk (b .picture) (b .format) (b .row .0) (b .col .0) (b .n) && placeOk (b .picture) (b .«cur_luma_row» .0) (b .«cur_luma_col» .0)
 
 unfoldable pub chromaReachNo : ChromaBlock → ℕ
 chromaReachNo b = firstFail ((2 unless sizeOk (b .n)) ∷ (4 unless pictureOk (b .picture) && colour (b .format)) ∷ (6 unless chromaPlaceOk b) ∷ [])

@@ -1,13 +1,17 @@
 // Decode order of a picture's cells (H.265 6.5.2) and which luma neighbours are available (document 01, module 2).
 // Rests on the domain's tests and on the kinds of places.
 ghost use mathlib.Core.Path.{_≡_};
-ghost use Prim.Native.Nat.{ℕ, _+_, _-_, _*_, _/_, _^_, _≤_, _<_};
+ghost use Prim.Native.Nat.{ℕ, _+_, _-_, _*_, _/_, _%_, _^_, _≤_, _<_, min};
+ghost use lib.Dec.{ltb, eqb};
 ghost use lib.IntN.{pos};
 ghost use Rattle.h265.specs.Notation.{log2};
 ghost use Rattle.h265.specs.Order.{zScan, widthInCtbs};
-ghost use Rattle.order.specs.Order.{gridOf, numberAt, orderNo, orderDoor, before, availDoor};
+ghost use Rattle.order.specs.Order.{gridOf, pictureOk, placeOk, numberAt, orderNo, orderDoor, before, availDoor};
 ghost use Rattle.order.specs.Good.{Good, Power, Small, shiftsOf};
 ghost use Rattle.order.specs.Spread.{spread};
+ghost use Rattle.order.specs.Reach.{leading, cornerHas, aboveHas, leftHas, inPlane, reachBy, lumaHas, lumaReachNo, lumaReach, colour, chromaBlockOk, chromaHas, chromaReachNo, chromaReach};
+ghost use Rattle.order.specs.Edges.{numberBy, below, Step, groupOf, Line, Placed, edgesOf};
+ghost use Rattle.domain.specs.Facts.{Size};
 use fmt::ChromaCol;
 use fmt::ChromaFormat;
 use fmt::ChromaRow;
@@ -216,4 +220,355 @@ pub struct Reach {
     pub corner: bool,
     pub above: usize,
     pub left: usize,
+}
+
+// A plane over the luma grid: its sides in samples of its own, and the luma rows and columns that one of them spans.
+struct Plane {
+    height: usize,
+    width: usize,
+    down: usize,
+    across: usize,
+}
+
+// How many of `most` samples have a number below `limit`, from the luma place (row, col) on, each `down` luma rows and `across`
+// luma columns further. Samples of one group share a cell, so one of each group is asked.
+fn leads(
+    s: Shifts,
+    limit: usize,
+    row: usize,
+    col: usize,
+    down: usize,
+    across: usize,
+    group: usize,
+    most: usize,
+) -> usize
+    requires { ⌜ Line s row col down across group most ⌝ }
+    ensures { λ r. ⌜ r ≡ leading (λ (i : ℕ). ltb (numberBy s (row + i * down) (col + i * across)) limit) most ⌝ }
+{
+    let mut i = 0;
+    while i < most {
+        if number(s, row + i * down, col + i * across) >= limit {
+            return i;
+        }
+        i += group;
+    }
+    most
+}
+
+// The lesser of two numbers.
+fn lesser(a: usize, b: usize) -> usize
+    ensures { λ r. ⌜ r ≡ min a b ⌝ }
+{
+    if a < b { a } else { b }
+}
+
+// How many samples of a block's edge share a cell: those of the unit, but no more than the block's side.
+fn group_of(unit: usize, step: usize, n: usize) -> usize
+    requires { ⌜ Step step ⌝ }
+    ensures { λ r. ⌜ r ≡ groupOf unit step n ⌝ }
+{
+    if step == 2 {
+        return lesser(unit / 2, n);
+    }
+    lesser(unit, n)
+}
+
+// How many entries of the row above a block are there.
+fn above_reach(
+    s: Shifts,
+    l: Plane,
+    unit: usize,
+    n: usize,
+    row: usize,
+    col: usize,
+    limit: usize,
+) -> usize
+    requires { ⌜ Placed s l unit n row col ⌝ }
+    ensures { λ r. ⌜ r ≡ leading (aboveHas (below s l limit) row col) (2 * n + 1) ⌝ }
+{
+    if row == 0 {
+        return 0;
+    }
+    let down = l.down;
+    let across = l.across;
+    let group = group_of(unit, across, n);
+    let most = lesser(2 * n + 1, l.width - col);
+    leads(
+        s,
+        limit,
+        (row - 1) * down,
+        col * across,
+        0,
+        across,
+        group,
+        most,
+    )
+}
+
+// How many entries of the column left of a block are there.
+fn left_reach(
+    s: Shifts,
+    l: Plane,
+    unit: usize,
+    n: usize,
+    row: usize,
+    col: usize,
+    limit: usize,
+) -> usize
+    requires { ⌜ Placed s l unit n row col ⌝ }
+    ensures { λ r. ⌜ r ≡ leading (leftHas (below s l limit) row col) (2 * n + 1) ⌝ }
+{
+    if col == 0 {
+        return 0;
+    }
+    let down = l.down;
+    let across = l.across;
+    let group = group_of(unit, down, n);
+    let most = lesser(2 * n + 1, l.height - row);
+    leads(
+        s,
+        limit,
+        row * down,
+        (col - 1) * across,
+        down,
+        0,
+        group,
+        most,
+    )
+}
+
+// Whether the corner of a block is there.
+fn corner_there(
+    s: Shifts,
+    l: Plane,
+    unit: usize,
+    n: usize,
+    row: usize,
+    col: usize,
+    limit: usize,
+) -> bool
+    requires { ⌜ Placed s l unit n row col ⌝ }
+    ensures { λ r. ⌜ r ≡ cornerHas (below s l limit) row col ⌝ }
+{
+    if row == 0 {
+        return false;
+    }
+    if col == 0 {
+        return false;
+    }
+    let down = l.down;
+    let across = l.across;
+    number(s, (row - 1) * down, (col - 1) * across) < limit
+}
+
+// Whether a number is a multiple of a block's side.
+fn multiple(v: usize, n: usize) -> bool
+    requires { ⌜ Size n ⌝ }
+    ensures { λ r. ⌜ r ≡ eqb (v % n) 0 ⌝ }
+{
+    match n {
+        4 => v % 4 == 0,
+        8 => v % 8 == 0,
+        16 => v % 16 == 0,
+        _ => v % 32 == 0,
+    }
+}
+
+// Whether a block is at a multiple of its side and wholly in its plane.
+fn in_plane(height: usize, width: usize, row: u32, col: u32, n: usize) -> bool
+    requires { ⌜ Size n ⌝ }
+    ensures { λ r. ⌜ r ≡ inPlane height width row col n ⌝ }
+{
+    let r = row as usize;
+    let c = col as usize;
+    multiple(r, n) & multiple(c, n) & (r + n <= height) & (c + n <= width)
+}
+
+fn picture_ok(p: Picture) -> bool
+    ensures { λ r. ⌜ r ≡ pictureOk p ⌝ }
+{
+    domain::side_ok(p.width) & domain::side_ok(p.height) & domain::ctu_ok(p.ctu)
+}
+
+// The number that refuses a luma block, or 0.
+fn luma_no(b: LumaBlock) -> u32
+    ensures { λ r. ⌜ r ≡ lumaReachNo b ⌝ }
+{
+    let p = b.picture;
+    let n = b.n;
+    if !domain::size_ok(n) {
+        return 2;
+    }
+    if !picture_ok(p) {
+        return 4;
+    }
+    let placed = in_plane(p.height as usize, p.width as usize, b.row.0, b.col.0, n);
+    if !(placed & (n <= (p.ctu as usize)) & domain::unit_ok(p.unit) & ((p.unit as usize) <= n)) {
+        return 6;
+    }
+    0
+}
+
+// The reach of a block over a good grid, below one limit in the row above and the corner, below another in the left column.
+fn edges(
+    s: Shifts,
+    l: Plane,
+    unit: usize,
+    n: usize,
+    row: usize,
+    col: usize,
+    above_limit: usize,
+    left_limit: usize,
+) -> Reach
+    requires { ⌜ Placed s l unit n row col ⌝ }
+    ensures { λ r. ⌜ r ≡ edgesOf s l n row col «above_limit» «left_limit» ⌝ }
+{
+    Reach {
+        no: 0,
+        corner: corner_there(s, l, unit, n, row, col, above_limit),
+        above: above_reach(s, l, unit, n, row, col, above_limit),
+        left: left_reach(s, l, unit, n, row, col, left_limit),
+    }
+}
+
+fn luma_work(b: LumaBlock) -> Reach
+    requires { ⌜ lumaReachNo b ≡ 0 ⌝ }
+    ensures { λ r. ⌜ r ≡ reachBy 0 (lumaHas b) (b .row .0) (b .col .0) (b .n) ⌝ }
+{
+    let p = b.picture;
+    let s = shifts_of(p);
+    let row = b.row.0 as usize;
+    let col = b.col.0 as usize;
+    let cur = number(s, row, col);
+    let l = Plane {
+        height: p.height as usize,
+        width: p.width as usize,
+        down: 1,
+        across: 1,
+    };
+    edges(s, l, p.unit as usize, b.n, row, col, cur, cur)
+}
+
+// How far the neighbours of a luma block reach that are available to it.
+pub fn luma_reach(b: LumaBlock) -> Reach
+    ensures { λ r. ⌜ r ≡ lumaReach b ⌝ }
+{
+    let no = luma_no(b);
+    if no != 0 {
+        return Reach {
+            no,
+            corner: false,
+            above: 0,
+            left: 0,
+        };
+    }
+    luma_work(b)
+}
+
+// Whether a format has chroma planes.
+fn has_chroma(f: ChromaFormat) -> bool
+    ensures { λ r. ⌜ r ≡ colour f ⌝ }
+{
+    match f {
+        ChromaFormat::Monochrome => false,
+        ChromaFormat::Yuv420 => true,
+        ChromaFormat::Yuv422 => true,
+        ChromaFormat::Yuv444 => true,
+    }
+}
+
+// A side or a CTU over the subsampling.
+fn over(v: u32, sub: usize) -> usize
+    requires { ⌜ Step sub ⌝ }
+    ensures { λ r. ⌜ r ≡ v / sub ⌝ }
+{
+    if sub == 2 {
+        return (v as usize) / 2;
+    }
+    v as usize
+}
+
+// Whether a luma place is in the picture, and the unit is one.
+fn current_ok(p: Picture, row: LumaRow, col: LumaCol) -> bool
+    ensures { λ r. ⌜ r ≡ placeOk p (row .0) (col .0) ⌝ }
+{
+    domain::unit_ok(p.unit) & (row.0 < p.height) & (col.0 < p.width)
+}
+
+// Whether a chroma block is in its plane and no wider than a CTU there.
+fn chroma_block_ok(p: Picture, f: ChromaFormat, row: ChromaRow, col: ChromaCol, n: usize) -> bool
+    requires { ⌜ Size n ⌝ }
+    ensures { λ r. ⌜ r ≡ chromaBlockOk p f (row .0) (col .0) n ⌝ }
+{
+    let sub_w = f.sub_w();
+    let height = over(p.height, f.sub_h());
+    let width = over(p.width, sub_w);
+    in_plane(height, width, row.0, col.0, n) & (n <= over(p.ctu, sub_w))
+}
+
+// The number that refuses a chroma block, or 0.
+fn chroma_no(b: ChromaBlock) -> u32
+    ensures { λ r. ⌜ r ≡ chromaReachNo b ⌝ }
+{
+    let p = b.picture;
+    let f = b.format;
+    let n = b.n;
+    if !domain::size_ok(n) {
+        return 2;
+    }
+    if !(picture_ok(p) & has_chroma(f)) {
+        return 4;
+    }
+    let row = b.row;
+    let col = b.col;
+    let cur_row = b.cur_luma_row;
+    let cur_col = b.cur_luma_col;
+    if !(chroma_block_ok(p, f, row, col, n) & current_ok(p, cur_row, cur_col)) {
+        return 6;
+    }
+    0
+}
+
+fn chroma_work(b: ChromaBlock) -> Reach
+    requires { ⌜ chromaReachNo b ≡ 0 ⌝ }
+    ensures { λ r. ⌜ r ≡ reachBy 0 (chromaHas b) (b .row .0) (b .col .0) (b .n) ⌝ }
+{
+    let p = b.picture;
+    let f = b.format;
+    let down = f.sub_h();
+    let across = f.sub_w();
+    let s = shifts_of(p);
+    let cur = number(s, b.cur_luma_row.0 as usize, b.cur_luma_col.0 as usize);
+    let l = Plane {
+        height: over(p.height, down),
+        width: over(p.width, across),
+        down,
+        across,
+    };
+    edges(
+        s,
+        l,
+        p.unit as usize,
+        b.n,
+        b.row.0 as usize,
+        b.col.0 as usize,
+        cur + 1,
+        cur,
+    )
+}
+
+// How far the neighbours of a chroma block reach that the chroma rule has for it.
+pub fn chroma_reach(b: ChromaBlock) -> Reach
+    ensures { λ r. ⌜ r ≡ chromaReach b ⌝ }
+{
+    let no = chroma_no(b);
+    if no != 0 {
+        return Reach {
+            no,
+            corner: false,
+            above: 0,
+            left: 0,
+        };
+    }
+    chroma_work(b)
 }

@@ -43,7 +43,7 @@ unfoldable pub lumaNo : ℕ → LumaRefGeometry → ℕ
 lumaNo len g =
     firstFail
     ((1 unless depthOk (g .bits)) ∷ (2 unless sizeOk (g .n)) ∷ (4 unless pictureOk (g .picture))
-     ∷ (5 unless eqb len (g .picture .height * g .picture .width)) ∷ (6 unless lumaPlaceOk (lumaBlock g)) ∷ [])
+    ∷ (5 unless eqb len (g .picture .height * g .picture .width)) ∷ (6 unless lumaPlaceOk (lumaBlock g)) ∷ [])
 
 -- the rows of a luma block
 unfoldable pub lumaRows : List ℕ → LumaRefGeometry → Rows
@@ -83,7 +83,7 @@ unfoldable pub chromaNo : ℕ → ℕ → ChromaRefGeometry → ℕ
 chromaNo cb cr g =
     firstFail
     ((1 unless depthOk (g .bits)) ∷ (2 unless sizeOk (g .n)) ∷ (4 unless pictureOk (chromaPicture g) && leb 1 (g .format) && leb (g .format) 3)
-     ∷ (5 unless eqb cb (chromaLength g) && eqb cr (chromaLength g)) ∷ (6 unless chromaPlaceOk (chromaBlock g)) ∷ [])
+    ∷ (5 unless eqb cb (chromaLength g) && eqb cr (chromaLength g)) ∷ (6 unless chromaPlaceOk (chromaBlock g)) ∷ [])
 
 -- the rows of a chroma block in one plane
 unfoldable pub chromaRows : List ℕ → ChromaRefGeometry → Rows

@@ -1,0 +1,64 @@
+-- `angular::pure_vertical` meets its contract. The block is the row above over and over, and the edge its first column written anew. Assumes nothing.
+use mathlib.Core.Path.{refl, sym, ap, _∙_}
+use native.Mathlib.Omega.{arith}
+use Rattle.domain.specs.Facts.{size-small}
+use Rattle.laws.specs.Choose.{both-true}
+use borrow.Author.Tests.{ltb-true}
+use Rattle.angular.specs.Grid.{column}
+use Rattle.angular.specs.Blocks.{upright, upright-edge}
+use borrow.Author.Needs.{needs}
+use Rattle.angular.proofs.pure_vertical.Statement.{statement}
+use Rattle.angular.proofs.pure_vertical.Tie as tie
+
+copies-requires : tie.Need-copies-requires
+copies-requires c κs =
+    let p = c .before .before .before .before .pre in
+    let h = size-small _ (p .1 .0) .1 in
+    (p .1 .0, (refl, record { angle = omega arith; base = omega arith; near = omega arith; size = h; refs = search needs; room = search needs }))
+
+filtered-requires : tie.Need-filtered-requires
+filtered-requires c κs = search needs
+
+shared-slice-read-edge-down : tie.Need-shared-slice-read-edge-down
+shared-slice-read-edge-down c =
+    let h = size-small _ (c .before .before .before .before .before .before .before .before .before .before .pre .1 .0) in
+    search needs
+
+largest-requires : tie.Need-largest-requires
+largest-requires c κs = c .before .before .before .before .before .before .before .before .before .before .pre .0
+
+edge-down-requires : tie.Need-edge-down-requires
+edge-down-requires c κs =
+    let p = c .before .before .before .before .before .before .before .before .before .before .before .before .pre in
+    (p .1 .0, (ltb-true _ _ (both-true (c .before .before .before .before .before .before .before .before .before .before .before .before .args .edge) _ (sym (c .before .before .before .before .filtered .ensures) ∙ c .before .before .before .if1 .taken) .1), (search needs, search needs)))
+
+same-length : tie.Need-same-length
+same-length c = search needs
+
+returns : tie.Need-returns
+returns c =
+    let a = c .before .before .before .before .before .before .before .before .before .before .before .before .before .before .before .args in
+    let p = c .before .before .before .before .before .before .before .before .before .before .before .before .before .before .before .pre in
+    c .before .before .edge-down .ensures ∙ ap (column _ 0 (a .n) (a .n)) (c .before .before .before .before .before .before .before .before .before .before .copies .ensures) ∙ upright-edge (a .corner) (a .above .now) (a .left .now) (a .bits) (a .n) (a .edge) (p .1 .0) (a .pred .now) _ (c .before .before .before .before .largest .ensures) (sym (c .before .before .before .before .before .before .before .filtered .ensures) ∙ c .before .before .before .before .before .before .if1 .taken) (p .1 .1 .1 .1)
+
+same-length-2 : tie.Need-same-length-2
+same-length-2 c = search needs
+
+returns-2 : tie.Need-returns-2
+returns-2 c =
+    let a = c .before .before .before .before .before .before .before .before .before .args in
+    c .before .before .before .before .copies .ensures ∙ upright (a .corner) (a .above .now) (a .left .now) (a .bits) (a .n) (a .edge) (c .before .before .before .before .before .before .before .before .before .pre .1 .0) (a .pred .now) (sym (c .before .filtered .ensures) ∙ c .if1 .left)
+
+pub pure-vertical-spec : {M : Type 1} → statement M
+pure-vertical-spec =
+    tie.close
+    (tie.spec
+    copies-requires
+    filtered-requires
+    shared-slice-read-edge-down
+    largest-requires
+    edge-down-requires
+    same-length
+    returns
+    same-length-2
+    returns-2)

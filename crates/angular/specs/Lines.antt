@@ -1,0 +1,45 @@
+-- What the code's rows and tables hold: an angle's references as a row of entries, and the tables by the distance of a mode from 18. Assumes nothing.
+use mathlib.Core.Path.{_≡_, sym, ap, _∙_}
+use mathlib.Core.List.{List, [], _∷_}
+use Prim.Native.Nat.{ℕ, _+_, _-_, _*_, _/_, _≤_, _<_}
+use native.Mathlib.Nat.{mul-le-mul-left, add-mul}
+use native.Mathlib.Omega.{arith}
+use lib.ListN.{getD}
+use Rattle.angular.specs.Unsigned.{interpOf, startOf, fractionOf}
+
+-- the angle plus 32, and the inverse angle turned positive, by how far the mode is from 18
+abbrev pub turns : List ℕ
+turns = 0 ∷ 6 ∷ 11 ∷ 15 ∷ 19 ∷ 23 ∷ 27 ∷ 30 ∷ 32 ∷ 34 ∷ 37 ∷ 41 ∷ 45 ∷ 49 ∷ 53 ∷ 58 ∷ 64 ∷ []
+
+abbrev pub bends : List ℕ
+bends = 256 ∷ 315 ∷ 390 ∷ 482 ∷ 630 ∷ 910 ∷ 1638 ∷ 4096 ∷ []
+
+-- where row r of an angle starts in a row of references whose entry b is ref[1]
+abbrev pub lineStart : ℕ → ℕ → ℕ → ℕ
+lineStart b e r = b + (r + 1) * e / 32 - (r + 1)
+
+abbrev pub lineAt : List ℕ → ℕ → ℕ → ℕ → ℕ → ℕ
+lineAt refs b e r c = interpOf (fractionOf e r) (getD refs (lineStart b e r + c) 0) (getD refs (lineStart b e r + c + 1) 0)
+
+-- the first reference that a negative angle uses
+abbrev pub firstOf : ℕ → ℕ → ℕ
+firstOf e n = 65 + n * e / 32 - n
+
+-- a negative angle's rows start at it or later, and at the corner or before
+pub first-le : (e n r : ℕ) → e < 32 → r < n → (firstOf e n ≤ startOf e r) × (startOf e r ≤ 64)
+first-le e n r h l =
+    let m = n - (r + 1) in
+    let s : r + 1 + m ≡ n = omega arith in
+    let x : n * e ≡ (r + 1) * e + m * e = ap (λ (i : ℕ). i * e) (sym s) ∙ add-mul (r + 1) m e in
+    let y : m * e ≤ m * 32 = mul-le-mul-left m (omega arith) in
+    let z : (r + 1) * e ≤ (r + 1) * 31 = mul-le-mul-left (r + 1) (omega arith) in
+    (omega arith, omega arith)
+
+-- an angle whose rows of n stay within r references, for a block that p samples hold
+pub record Reads (b e n r p : ℕ) : Type 0 where
+  pub angle : e ≤ 64
+  pub base : 32 ≤ b + e
+  pub near : b ≤ 128
+  pub size : n ≤ 32
+  pub refs : b + 2 * n ≤ r
+  pub room : n * n ≤ p
