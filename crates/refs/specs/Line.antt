@@ -9,11 +9,15 @@ use native.Mathlib.Nat.{add-zero}
 use native.Mathlib.Numerals.{add-one}
 use native.Mathlib.Omega.{arith}
 use lib.Dec.{ltb, leb, eqb}
-use lib.ListN.{getD}
+use lib.ListN.{getD, replicate, length-replicate}
 use borrow.Author.Tests.{lt-ltb, le-ltb, ltb-true, ltb-false, le-leb, lt-leb, eq-eqb, ne-eqb}
 use Rattle.laws.specs.Diff.{order}
+use Rattle.laws.specs.Fill.{fill}
+use Rattle.laws.specs.FillLaws.{fill-at, fill-same}
 use Rattle.h265.specs.Substitution.{firstMarked, settled}
-use Rattle.refs.specs.Substitution.{onLine}
+use Rattle.rows.specs.declared.Rows.{Rows}
+use Rattle.refs.specs.declared.Flags.{Flags}
+use Rattle.refs.specs.Substitution.{onLine, flagsOn, samplesOn, levelRows, substituted}
 
 -- the line of two lists and a corner
 abbrev pub lineOf : {A : Type 0} → A → List A → A → List A → ℕ → ℕ → A
@@ -247,3 +251,27 @@ module _ {e l a : ℕ} {corner : Bool} {left above : ℕ → ℕ} {c : ℕ} {mar
     nothing any =
         let p = none-true (ltb 0 l) corner (ltb 0 a) any in
         found-none marked (2 * e + 3) (missing-all (ltb-false 0 l (p .0)) (p .1) (ltb-false 0 a (p .2)))
+
+-- Substitution, from the parts that the code makes
+module _ (n neutral : ℕ) (flags : Flags) (rows : Rows) {found : ℕ} (is-found : found ≡ firstMarked (flagsOn flags (2 * n)) 0 (2 * (2 * n) + 3)) where
+  pub none-there : 2 * (2 * n) + 3 ≤ found → levelRows neutral ≡ substituted n neutral flags rows
+  unfolding substituted
+  none-there h = simp (← is-found, le-ltb found (2 * (2 * n) + 3) h)
+
+  pub put-back : {line above left : List ℕ} → n ≤ 32 → found < 2 * (2 * n) + 3
+      → line ≡ fill (settled (flagsOn flags (2 * n)) (samplesOn rows (2 * n)) found) (2 * (2 * n) + 3) (replicate 131 0)
+      → above ≡ fill (λ (i : ℕ). getD line (2 * n + 2 + i) 0) (2 * n + 1) (rows .above)
+      → left ≡ fill (λ (i : ℕ). getD line (2 * n - i) 0) (2 * n + 1) (rows .left)
+      → _≡_ {A = Rows} (record { corner = getD line (2 * n + 1) 0; above = above; left = left }) (substituted n neutral flags rows)
+  unfolding substituted
+  put-back {line} small h is-line is-above is-left =
+      simp (← is-found, lt-ltb found (2 * (2 * n) + 3) h)
+      (λ i.
+      record {
+        corner = at (2 * n + 1) (omega arith) i;
+        above = (is-above ∙ fill-same _ _ (2 * n + 1) (rows .above) (λ j l. at (2 * n + 2 + j) (omega arith))) i;
+        left = (is-left ∙ fill-same _ _ (2 * n + 1) (rows .left) (λ j l. at (2 * n - j) (omega arith))) i;
+      })
+    where
+      at : (p : ℕ) → p < 2 * (2 * n) + 3 → getD line p 0 ≡ settled (flagsOn flags (2 * n)) (samplesOn rows (2 * n)) found p
+      at p l = ap (λ (t : List ℕ). getD t p 0) is-line ∙ fill-at _ (2 * (2 * n) + 3) (replicate 131 0) p 0 l (omega (arith, length-replicate {A = ℕ} 131 0))

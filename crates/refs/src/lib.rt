@@ -2,19 +2,27 @@
 // Rests on the contracts of order (which neighbours are there) alone; a sample's value never says whether it is there.
 ghost use mathlib.Core.Path.{_≡_};
 ghost use mathlib.Core.List.{[], _∷_};
-ghost use Prim.Native.Nat.{ℕ, _+_, _-_, _*_, _≤_, _<_};
-ghost use mathlib.Core.Bool.{false};
+ghost use Prim.Native.Nat.{ℕ, _+_, _-_, _*_, _/_, _≤_, _<_};
+ghost use mathlib.Core.Bool.{true, false};
 ghost use lib.ListN.{length, getD, replicate};
 ghost use Rattle.laws.specs.Fill.{fill};
 ghost use Rattle.h265.specs.Substitution.{firstMarked, settled};
+ghost use Rattle.domain.specs.Domain.{depthOk};
+ghost use Rattle.order.specs.Edges.{Step};
+ghost use Rattle.order.specs.Reach.{lumaReach, chromaReach};
 ghost use Rattle.refs.specs.Substitution.{levelRows, substituted};
+ghost use Rattle.refs.specs.Door.{neutralAt, substituteNo, substituteDoor, lumaBlock, lumaNo, lumaRows, lumaDoor, formatOf, chromaBlock, chromaLength, chromaNo, chromaRows, chromaDoor};
+ghost use Rattle.refs.specs.Served.{gatherNo};
 ghost use Rattle.refs.specs.Line.{lineOf};
 ghost use Rattle.refs.specs.Counts.{startOf, cornerOf, restOf, edgeOf};
 ghost use Rattle.refs.specs.Spots.{spotOf, onEdge, cornerOn, aboveOn, leftOn, planeRows, Reads, Some};
 use fmt::ChromaCol;
+use fmt::ChromaFormat;
 use fmt::ChromaRow;
 use fmt::LumaCol;
 use fmt::LumaRow;
+use order::ChromaBlock;
+use order::LumaBlock;
 use order::Picture;
 use order::Reach;
 use rows::Rows;
@@ -191,6 +199,48 @@ fn substitute(rows: Rows, flags: Flags, n: usize, neutral: u16) -> Rows
     }
 }
 
+// The number that refuses a substitution, or 0.
+fn substitute_no(n: usize, bits: u32) -> u32
+    ensures { λ r. ⌜ r ≡ substituteNo bits n ⌝ }
+{
+    if !domain::depth_ok(bits) {
+        return 1;
+    }
+    if !domain::size_ok(n) {
+        return 2;
+    }
+    0
+}
+
+// The neutral sample of a depth.
+fn neutral_of(bits: u32) -> u16
+    requires { ⌜ depthOk bits ≡ true ⌝ }
+    ensures { λ r. ⌜ r ≡ neutralAt bits ⌝ }
+{
+    match bits {
+        8 => 128,
+        10 => 512,
+        _ => 2048,
+    }
+}
+
+// Reference rows with the missing entries substituted (H.265 8.4.4.2.2, document 01, module 3).
+pub fn substitute_refs(rows: Rows, flags: Flags, n: usize, bits: u32) -> Gathered
+    ensures { λ r. ⌜ r ≡ substituteDoor rows flags n bits ⌝ }
+{
+    let no = substitute_no(n, bits);
+    if no != 0 {
+        return Gathered {
+            no,
+            rows: level_rows(0),
+        };
+    }
+    Gathered {
+        no: 0,
+        rows: substitute(rows, flags, n, neutral_of(bits)),
+    }
+}
+
 // Every entry at one value.
 fn level_rows(v: u16) -> Rows
     ensures { λ r. ⌜ r ≡ levelRows v ⌝ }
@@ -322,5 +372,160 @@ fn plane_rows(plane: &[u16], s: Spot, r: Reach, n: usize, neutral: u16) -> Rows
         corner,
         above: two[0],
         left: two[1],
+    }
+}
+
+// The number that refuses a gather, or 0: the depth's, then the reach's 2 or 4, then the planes', then the reach's 6.
+fn gather_no(bits: u32, reach: u32, whole: bool) -> u32
+    ensures { λ r. ⌜ r ≡ gatherNo bits reach whole ⌝ }
+{
+    if !domain::depth_ok(bits) {
+        return 1;
+    }
+    if (reach == 2) | (reach == 4) {
+        return reach;
+    }
+    if whole { reach } else { 5 }
+}
+
+fn luma_block(geo: LumaRefGeometry) -> LumaBlock
+    ensures { λ r. ⌜ r ≡ lumaBlock geo ⌝ }
+{
+    let picture = geo.picture;
+    let row = geo.block_row;
+    let col = geo.block_col;
+    LumaBlock {
+        picture,
+        row,
+        col,
+        n: geo.n,
+    }
+}
+
+fn luma_rows(plane: &[u16], geo: LumaRefGeometry, reach: Reach) -> Rows
+    requires { ⌜ (reach ≡ lumaReach (lumaBlock geo)) × (lumaNo (length (now plane)) geo ≡ 0) ⌝ }
+    ensures { λ r. ⌜ r ≡ lumaRows (now (plane .entry)) geo ⌝ }
+{
+    let width = geo.picture.width as usize;
+    let s = spot_of(width, geo.block_row.0 as usize, geo.block_col.0 as usize);
+    plane_rows(plane, s, reach, geo.n, neutral_of(geo.bits))
+}
+
+// The reference rows of a luma block (document 01, module 4).
+pub fn get_reference_samples(plane: &[u16], geo: LumaRefGeometry) -> Gathered
+    ensures { λ r. ⌜ r ≡ lumaDoor (now (plane .entry)) geo ⌝ }
+{
+    let reach = order::luma_reach(luma_block(geo));
+    let whole = plane.len() == (geo.picture.height as usize) * (geo.picture.width as usize);
+    let no = gather_no(geo.bits, reach.no, whole);
+    if no != 0 {
+        return Gathered {
+            no,
+            rows: level_rows(0),
+        };
+    }
+    Gathered {
+        no: 0,
+        rows: luma_rows(plane, geo, reach),
+    }
+}
+
+// The format that a chroma_format_idc names; monochrome where it names none, which is refused as monochrome is.
+fn format_of(idc: u32) -> ChromaFormat
+    ensures { λ r. ⌜ r ≡ formatOf idc ⌝ }
+{
+    match idc {
+        1 => ChromaFormat::Yuv420,
+        2 => ChromaFormat::Yuv422,
+        3 => ChromaFormat::Yuv444,
+        _ => ChromaFormat::Monochrome,
+    }
+}
+
+fn chroma_block(geo: ChromaRefGeometry) -> ChromaBlock
+    ensures { λ r. ⌜ r ≡ chromaBlock geo ⌝ }
+{
+    let picture = Picture {
+        width: geo.luma_w,
+        height: geo.luma_h,
+        ctu: 64,
+        unit: geo.min_luma_pu,
+    };
+    let format = format_of(geo.format);
+    let row = geo.block_row;
+    let col = geo.block_col;
+    let cur_luma_row = geo.cur_luma_row;
+    let cur_luma_col = geo.cur_luma_col;
+    ChromaBlock {
+        picture,
+        format,
+        row,
+        col,
+        n: geo.n,
+        cur_luma_row,
+        cur_luma_col,
+    }
+}
+
+// A side of the luma picture in chroma samples.
+fn over(side: u32, sub: usize) -> usize
+    requires { ⌜ Step sub ⌝ }
+    ensures { λ r. ⌜ (r ≡ side / sub) × (r ≤ 4294967295) ⌝ }
+{
+    if sub == 2 {
+        return (side as usize) / 2;
+    }
+    side as usize
+}
+
+// The rows of Cb and of Cr: one reach for both.
+fn chroma_rows(
+    plane_cb: &[u16],
+    plane_cr: &[u16],
+    geo: ChromaRefGeometry,
+    reach: Reach,
+) -> [Rows; 2]
+    requires { ⌜ (reach ≡ chromaReach (chromaBlock geo)) × (chromaNo (length (now «plane_cb»)) (length (now «plane_cr»)) geo ≡ 0) ⌝ }
+    ensures { λ r. ⌜ r ≡ chromaRows (now («plane_cb» .entry)) geo ∷ chromaRows (now («plane_cr» .entry)) geo ∷ [] ⌝ }
+{
+    let width = over(geo.luma_w, format_of(geo.format).sub_w());
+    let s = spot_of(width, geo.block_row.0 as usize, geo.block_col.0 as usize);
+    let neutral = neutral_of(geo.bits);
+    let n = geo.n;
+    let cb = plane_rows(plane_cb, s, reach, n, neutral);
+    let cr = plane_rows(plane_cr, s, reach, n, neutral);
+    [cb, cr]
+}
+
+// A plane's count of chroma samples.
+fn chroma_length(geo: ChromaRefGeometry) -> usize
+    ensures { λ r. ⌜ r ≡ chromaLength geo ⌝ }
+{
+    let f = format_of(geo.format);
+    over(geo.luma_h, f.sub_h()) * over(geo.luma_w, f.sub_w())
+}
+
+// The reference rows of a chroma block in both planes, by one pass over its neighbours (document 01, module 4).
+pub fn get_reference_samples_chroma_pair(
+    plane_cb: &[u16],
+    plane_cr: &[u16],
+    geo: ChromaRefGeometry,
+) -> GatheredPair
+    ensures { λ r. ⌜ r ≡ chromaDoor (now («plane_cb» .entry)) (now («plane_cr» .entry)) geo ⌝ }
+{
+    let reach = order::chroma_reach(chroma_block(geo));
+    let len = chroma_length(geo);
+    let whole = (plane_cb.len() == len) & (plane_cr.len() == len);
+    let no = gather_no(geo.bits, reach.no, whole);
+    if no != 0 {
+        let none = level_rows(0);
+        return GatheredPair {
+            no,
+            planes: [none, none],
+        };
+    }
+    GatheredPair {
+        no: 0,
+        planes: chroma_rows(plane_cb, plane_cr, geo, reach),
     }
 }

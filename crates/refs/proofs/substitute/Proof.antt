@@ -1,3 +1,6 @@
+-- Substitution from its parts. Assumes nothing.
+use mathlib.Core.Path.{_∙_}
+use Rattle.refs.specs.Line.{none-there, put-back}
 use borrow.Author.Needs.{needs}
 use Rattle.refs.proofs.substitute.Statement.{statement}
 use Rattle.refs.proofs.substitute.Tie as tie
@@ -31,7 +34,7 @@ level-rows-requires c κs = search needs
 
 -- src/lib.rt:175:9
 returns : tie.Need-returns
-returns c = ?
+returns c = let a = c .before .before .before .before .before .before .before .before .before .args in c .level-rows .ensures ∙ none-there (a .n) (a .neutral) (a .flags) (a .rows) (c .before .before .first-marked .ensures) (c .before .if1 .taken)
 
 -- src/lib.rt:177:16
 settle-requires : tie.Need-settle-requires
@@ -59,7 +62,7 @@ left-of-requires c κs = search needs
 
 -- src/lib.rt:164:1
 returns-2 : tie.Need-returns-2
-returns-2 c = ?
+returns-2 c = let s = c .before .before .before .before .before .before .before .before .before .before .before .before .before .before .before .before .before in put-back (s .args .n) (s .args .neutral) (s .args .flags) (s .args .rows) (c .before .before .before .before .before .before .before .before .before .before .first-marked .ensures) (s .pre) (c .before .before .before .before .before .before .before .before .before .if1 .left) (c .before .before .before .before .settle .ensures) (c .before .before .above-of .ensures) (c .left-of .ensures)
 
 pub substitute-spec : {M : Type 1} → statement M
 substitute-spec =
