@@ -14,19 +14,20 @@ use Rattle.laws.specs.Choose.{served, worked, unserved, passed, both-true}
 use Rattle.domain.specs.Domain.{depthOk, sizeOk}
 use Rattle.domain.specs.Facts.{size-of, size-small}
 use Rattle.fmt.specs.Fmt.{subWidth, subHeight}
+use Rattle.order.specs.declared.LumaBlock.{LumaBlock}
+use Rattle.order.specs.declared.ChromaBlock.{ChromaBlock}
 use Rattle.order.specs.declared.Reach.{Reach}
 use Rattle.order.specs.Order.{pictureOk}
 use Rattle.order.specs.Reach.{reachBy, noReach, lumaPlaceOk, lumaReachNo, lumaHas, lumaReach, colour, chromaPlaceOk, chromaReachNo, chromaHas, chromaReach, chromaHeight, chromaWidth}
 use Rattle.order.specs.Blocks.{luma-fine, chroma-fine}
 use Rattle.rows.specs.declared.Rows.{Rows}
-use Rattle.refs.specs.declared.Flags.{Flags}
 use Rattle.refs.specs.declared.Gathered.{Gathered}
 use Rattle.refs.specs.declared.GatheredPair.{GatheredPair}
+use Rattle.refs.specs.declared.Spot.{Spot}
 use Rattle.refs.specs.declared.LumaRefGeometry.{LumaRefGeometry}
 use Rattle.refs.specs.declared.ChromaRefGeometry.{ChromaRefGeometry}
-use Rattle.refs.specs.Substitution.{levelRows, substituted}
 use Rattle.refs.specs.Gather.{gatheredBy, sampleOf}
-use Rattle.refs.specs.Door.{neutralAt, substituteNo, substituteDoor, lumaBlock, lumaNo, lumaRows, lumaDoor, formatOf, chromaPicture, chromaBlock, chromaLength, chromaNo, chromaRows, chromaDoor}
+use Rattle.refs.specs.Door.{neutralAt, substituteNo, lumaBlock, lumaNo, formatOf, chromaPicture, chromaBlock, chromaLength, chromaNo}
 use Rattle.refs.specs.Line.{told}
 use Rattle.refs.specs.Counts.{Counted}
 use Rattle.refs.specs.Spots.{spotOf, planeRows, Reads, rows-are}
@@ -148,12 +149,7 @@ chroma-ready cb cr g r er e =
       (omega (arith, w .good .tall .high, div-le-self (g .«luma_h») (subHeight (formatOf (g .format))))) (omega (arith, w .good .wide .high, div-le-self (g .«luma_w») (subWidth (formatOf (g .format))))) in
     (f .0, one cb (l .0), one cr (l .1))
 
--- the rows that the code makes, where it is ready
-pub ready-rows : (has : ℤ → ℤ → Bool) (r : Reach) (plane : List ℕ) (width row col n neutral : ℕ) → Ready has r (length plane) width row col n
-    → planeRows plane (spotOf width row col) r n neutral ≡ gatheredBy has (sampleOf plane width) row col n neutral
-ready-rows has r plane width row col n neutral y = rows-are has plane width row col n neutral r (y .reads .side) (y .known)
-
--- substitution's door, from its parts
+-- substitution that is not refused
 pub substitute-fine : (bits n : ℕ) → substituteNo bits n ≡ 0 → (depthOk bits ≡ true) × (n ≤ 32)
 unfolding substituteNo
 substitute-fine bits n e =
@@ -161,15 +157,44 @@ substitute-fine bits n e =
     let b = passed (sizeOk n) 0 2 (omega arith) (a .1) in
     (a .0, size-small n (size-of n (b .0)) .1)
 
-module _ (rows : Rows) (flags : Flags) (n bits : ℕ) where
-  pub substitute-refused : {k : ℕ} {zero : Rows} → k ≡ substituteNo bits n → (k ≡ 0 → ⊥) → zero ≡ levelRows 0
-      → _≡_ {A = Gathered} (record { no = k; rows = zero }) (substituteDoor rows flags n bits)
-  unfolding substituteDoor
-  substitute-refused {k} e h z =
-      λ i. record { no = e i; rows = (z ∙ unserved (substituteNo bits n) (substituted n (neutralAt bits) flags rows) (levelRows 0) (λ q. h (e ∙ q))) i }
+-- a door's answer, refused and served, over any answer made of a number and what was worked out
+module _ {A B : Type 0} (answer : ℕ → A → B) (n : ℕ) (work kept : A) where
+  pub refused : {k : ℕ} {given : A} → k ≡ n → (k ≡ 0 → ⊥) → given ≡ kept → answer k given ≡ answer n (served n work kept)
+  refused e h z = ap₂ answer e (z ∙ unserved n work kept (λ q. h (e ∙ q)))
 
-  pub substitute-served : {neutral : ℕ} {done : Rows} → substituteNo bits n ≡ 0 → neutral ≡ neutralAt bits → done ≡ substituted n neutral flags rows
-      → _≡_ {A = Gathered} (record { no = 0; rows = done }) (substituteDoor rows flags n bits)
-  unfolding substituteDoor
-  substitute-served e q d =
-      λ i. record { no = sym e i; rows = (d ∙ ap (λ (v : ℕ). substituted n v flags rows) q ∙ worked (substituteNo bits n) (substituted n (neutralAt bits) flags rows) (levelRows 0) e) i }
+  pub done : {given : A} → n ≡ 0 → given ≡ work → answer 0 given ≡ answer n (served n work kept)
+  done e d = ap₂ answer (sym e) (d ∙ worked n work kept e)
+
+abbrev pub gathered : ℕ → Rows → Gathered
+gathered k v = record { no = k; rows = v }
+
+abbrev pub gatheredPair : ℕ → List Rows → GatheredPair
+gatheredPair k v = record { no = k; planes = v }
+
+-- the number that the code gives is the call's
+pub luma-number : (len : ℕ) (g : LumaRefGeometry) {b : LumaBlock} {r : Reach} {k : ℕ} → b ≡ lumaBlock g → r ≡ lumaReach b
+    → k ≡ gatherNo (g .bits) (r .no) (eqb len (g .picture .height * g .picture .width)) → (r ≡ lumaReach (lumaBlock g)) × (k ≡ lumaNo len g)
+luma-number len g eb er ek =
+    let e = er ∙ ap lumaReach eb in
+    let w = eqb len (g .picture .height * g .picture .width) in
+    (e, ek ∙ ap (λ (x : ℕ). gatherNo (g .bits) x w) (ap (λ (q : Reach). q .no) e ∙ luma-reach-no g) ∙ sym (luma-no len g))
+
+pub chroma-number : (cb cr : ℕ) (g : ChromaRefGeometry) {b : ChromaBlock} {r : Reach} {len k : ℕ} → b ≡ chromaBlock g → r ≡ chromaReach b → len ≡ chromaLength g
+    → k ≡ gatherNo (g .bits) (r .no) (eqb cb len && eqb cr len) → (r ≡ chromaReach (chromaBlock g)) × (k ≡ chromaNo cb cr g)
+chroma-number cb cr g {r = r} eb er el ek =
+    let e = er ∙ ap chromaReach eb in (
+      e,
+      ek ∙ ap₂ (λ (x l : ℕ). gatherNo (g .bits) x (eqb cb l && eqb cr l)) (ap (λ (q : Reach). q .no) e ∙ chroma-reach-no g) el ∙ sym (chroma-no cb cr g),
+    )
+
+-- the rows of a plane, from the parts that the code makes
+module _ {has : ℤ → ℤ → Bool} {r : Reach} (plane : List ℕ) (width row col n bits : ℕ) (y : Ready has r (length plane) width row col n) where
+  pub inside : {w : ℕ} {s : Spot} → w ≡ width → s ≡ spotOf w row col → Reads r s (length plane) n
+  inside e es = subst (λ (t : Spot). Reads r t (length plane) n) (sym (es ∙ ap (λ (x : ℕ). spotOf x row col) e)) (y .reads)
+
+  pub made : {w neutral : ℕ} {s : Spot} {v : Rows} → w ≡ width → s ≡ spotOf w row col → neutral ≡ neutralAt bits → v ≡ planeRows plane s r n neutral
+      → v ≡ gatheredBy has (sampleOf plane width) row col n (neutralAt bits)
+  made e es en ev =
+      ev
+      ∙ ap₂ (λ (t : Spot) (k : ℕ). planeRows plane t r n k) (es ∙ ap (λ (x : ℕ). spotOf x row col) e) en
+      ∙ rows-are has plane width row col n (neutralAt bits) r (y .reads .side) (y .known)

@@ -11,7 +11,7 @@ format-of-requires c κs = search needs
 
 -- src/lib.rt:445:1
 returns : tie.Need-returns
-returns c = ?
+returns c = simp (c .before .before .before .before .format-of .ensures)
 
 pub chroma-block-spec : {M : Type 1} → statement M
 chroma-block-spec = tie.close (tie.spec format-of-requires returns)

@@ -1,3 +1,12 @@
+-- The door: the reach, the number, then the work. Assumes nothing.
+use mathlib.Core.Path.{sym, _∙_}
+use native.Mathlib.Nat.{mul-le-mul}
+use native.Mathlib.Omega.{arith}
+use Prim.Native.Nat.{_≤_}
+use borrow.Author.Needs.{needs}
+use Rattle.refs.specs.Substitution.{levelRows}
+use Rattle.refs.specs.Door.{lumaNo, lumaRows, lumaDoor}
+use Rattle.refs.specs.Served.{luma-number, refused, done, gathered}
 use borrow.Author.Needs.{needs}
 use Rattle.refs.proofs.get_reference_samples.Statement.{statement}
 use Rattle.refs.proofs.get_reference_samples.Tie as tie
@@ -27,7 +36,7 @@ cast-whole-2 c = search needs
 
 -- src/lib.rt:419:32
 mul-whole : tie.Need-mul-whole
-mul-whole c = ?
+mul-whole c = let g = c .before .before .before .before .before .args .geo in let a : g .picture .height ≤ 4294967295 = omega (arith, c .before .before .before .before .before .good) in let b : g .picture .width ≤ 4294967295 = omega (arith, c .before .before .before .before .before .good) in omega (arith, mul-le-mul a b)
 
 -- src/lib.rt:420:9
 gather-no-requires : tie.Need-gather-no-requires
@@ -39,15 +48,17 @@ level-rows-requires c κs = search needs
 
 -- src/lib.rt:422:9
 returns : tie.Need-returns
-returns c = ?
+unfolding lumaDoor
+returns c = let a = c .before .before .before .before .before .before .before .before .args in refused gathered (lumaNo _ (a .geo)) (lumaRows (a .plane .now) (a .geo)) (levelRows 0) (luma-number _ (a .geo) (c .before .before .before .before .before .before .luma-block .ensures) (c .before .before .before .before .before .luma-reach .ensures) (c .before .before .gather-no .ensures) .1) (c .before .if1 .taken) (c .level-rows .ensures)
 
 -- src/lib.rt:429:15
 luma-rows-requires : tie.Need-luma-rows-requires
-luma-rows-requires c κs = ?
+luma-rows-requires c κs = let a = c .before .before .before .before .before .before .before .args in let t = luma-number _ (a .geo) (c .before .before .before .before .before .luma-block .ensures) (c .before .before .before .before .luma-reach .ensures) (c .before .gather-no .ensures) in (t .0, sym (t .1) ∙ c .if1 .left)
 
 -- src/lib.rt:415:1
 returns-2 : tie.Need-returns-2
-returns-2 c = ?
+unfolding lumaDoor
+returns-2 c = let a = c .before .before .before .before .before .before .before .before .args in let t = luma-number _ (a .geo) (c .before .before .before .before .before .before .luma-block .ensures) (c .before .before .before .before .before .luma-reach .ensures) (c .before .before .gather-no .ensures) in done gathered (lumaNo _ (a .geo)) (lumaRows (a .plane .now) (a .geo)) (levelRows 0) (sym (t .1) ∙ c .before .if1 .left) (c .luma-rows .ensures)
 
 pub get-reference-samples-spec : {M : Type 1} → statement M
 get-reference-samples-spec =

@@ -1,6 +1,9 @@
 -- The door: the number, then the work. Assumes nothing.
-use mathlib.Core.Path.{sym, _∙_}
-use Rattle.refs.specs.Served.{substitute-fine, substitute-refused, substitute-served}
+use mathlib.Core.Path.{sym, ap, _∙_}
+use Prim.Native.Nat.{ℕ}
+use Rattle.refs.specs.Substitution.{levelRows, substituted}
+use Rattle.refs.specs.Door.{neutralAt, substituteNo, substituteDoor}
+use Rattle.refs.specs.Served.{substitute-fine, refused, done, gathered}
 use borrow.Author.Needs.{needs}
 use Rattle.refs.proofs.substitute_refs.Statement.{statement}
 use Rattle.refs.proofs.substitute_refs.Tie as tie
@@ -21,19 +24,21 @@ level-rows-requires c κs = search needs
 
 -- src/lib.rt:233:9
 returns : tie.Need-returns
-returns c = substitute-refused _ _ _ _ (c .before .before .substitute-no .ensures) (c .before .if1 .taken) (c .level-rows .ensures)
+unfolding substituteDoor
+returns c = let a = c .before .before .before .args in refused gathered (substituteNo (a .bits) (a .n)) (substituted (a .n) (neutralAt (a .bits)) (a .flags) (a .rows)) (levelRows 0) (c .before .before .substitute-no .ensures) (c .before .if1 .taken) (c .level-rows .ensures)
 
 -- src/lib.rt:240:42
 neutral-of-requires : tie.Need-neutral-of-requires
-neutral-of-requires c κs = substitute-fine _ _ (sym (c .before .substitute-no .ensures) ∙ c .if1 .left) .0
+neutral-of-requires c κs = let a = c .before .before .args in substitute-fine (a .bits) (a .n) (sym (c .before .substitute-no .ensures) ∙ c .if1 .left) .0
 
 -- src/lib.rt:240:15
 substitute-requires : tie.Need-substitute-requires
-substitute-requires c κs = substitute-fine _ _ (sym (c .before .before .substitute-no .ensures) ∙ c .before .if1 .left) .1
+substitute-requires c κs = let a = c .before .before .before .args in substitute-fine (a .bits) (a .n) (sym (c .before .before .substitute-no .ensures) ∙ c .before .if1 .left) .1
 
 -- src/lib.rt:228:1
 returns-2 : tie.Need-returns-2
-returns-2 c = substitute-served _ _ _ _ (sym (c .before .before .before .substitute-no .ensures) ∙ c .before .before .if1 .left) (c .before .neutral-of .ensures) (c .substitute .ensures)
+unfolding substituteDoor
+returns-2 c = let a = c .before .before .before .before .args in done gathered (substituteNo (a .bits) (a .n)) (substituted (a .n) (neutralAt (a .bits)) (a .flags) (a .rows)) (levelRows 0) (sym (c .before .before .before .substitute-no .ensures) ∙ c .before .before .if1 .left) (c .substitute .ensures ∙ ap (λ (v : ℕ). substituted (a .n) v (a .flags) (a .rows)) (c .before .neutral-of .ensures))
 
 pub substitute-refs-spec : {M : Type 1} → statement M
 substitute-refs-spec =
