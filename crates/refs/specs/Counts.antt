@@ -121,11 +121,11 @@ module _ (has : ℤ → ℤ → Bool) (sample : ℕ → ℕ → ℕ) (row col n 
       record {
         corner = (settled-corner counted-line first ∙ ap (cornerOf r c left) (s .1)) i;
         above =
-          fill-over _ (λ (k : ℕ). cond (aboveHas has row col k) (above k) 0) _ (2 * n + 1) (replicate 65 0) 0
-          (λ j l. settled-above counted-line first j (omega arith) ∙ ap (λ (v : ℕ). aboveBy (r .above) above (restOf r above (cornerOf r c left v)) j) (s .1)) i;
+            fill-over _ (λ (k : ℕ). cond (aboveHas has row col k) (above k) 0) _ (2 * n + 1) (replicate 65 0) 0
+            (λ j l. settled-above counted-line first j (omega arith) ∙ ap (λ (v : ℕ). aboveBy (r .above) above (restOf r above (cornerOf r c left v)) j) (s .1)) i;
         left =
-          fill-over _ (λ (k : ℕ). cond (leftHas has row col k) (left k) 0) _ (2 * n + 1) (replicate 65 0) 0
-          (λ j l. settled-left counted-line first (2 * n - j) (omega arith) ∙ ap₂ (leftBy (r .left) left) (s .1) (let q : 2 * n - (2 * n - j) ≡ j = omega arith in q)) i;
+            fill-over _ (λ (k : ℕ). cond (leftHas has row col k) (left k) 0) _ (2 * n + 1) (replicate 65 0) 0
+            (λ j l. settled-left counted-line first (2 * n - j) (omega arith) ∙ ap₂ (leftBy (r .left) left) (s .1) (let q : 2 * n - (2 * n - j) ≡ j = omega arith in q)) i;
       })
 
   none : (neutral : ℕ) → anyBy (r .corner) (r .above) (r .left) ≡ false → gatheredBy has sample row col n neutral ≡ levelRows neutral

@@ -67,10 +67,10 @@ luma-rule b g =
     record {
       off = luma-off b;
       inside =
-        λ r c e.
-        let a = both-true (ltb r (p .height) && ltb c (p .width)) (ltb (numberAt p r c) cur) e in
-        let d = both-true (ltb r (p .height)) (ltb c (p .width)) (a .0) in
-        (ltb-true r (p .height) (d .0), ltb-true c (p .width) (d .1));
+          λ r c e.
+          let a = both-true (ltb r (p .height) && ltb c (p .width)) (ltb (numberAt p r c) cur) e in
+          let d = both-true (ltb r (p .height)) (ltb c (p .width)) (a .0) in
+          (ltb-true r (p .height) (d .0), ltb-true c (p .width) (d .1));
       along = before-left g cur;
       down = before-up g cur;
     }
@@ -107,15 +107,15 @@ chroma-rule b g =
       off = chroma-off b;
       inside = λ r c e. let t = parts r c e in (t .0, t .1);
       along =
-        λ r c c′ h e.
-        let t = parts r c′ e in
-        simp (lt-ltb r (chromaHeight b) (t .0), lt-ltb c (chromaWidth b) (omega (arith, t .1)))
-        (earlier-too (current b) (b .row .0) _ r _ r (col-rises g (r * subHeight (b .format)) (mul-le-mul-right (subWidth (b .format)) h)) (omega arith) (t .2));
+          λ r c c′ h e.
+          let t = parts r c′ e in
+          simp (lt-ltb r (chromaHeight b) (t .0), lt-ltb c (chromaWidth b) (omega (arith, t .1)))
+          (earlier-too (current b) (b .row .0) _ r _ r (col-rises g (r * subHeight (b .format)) (mul-le-mul-right (subWidth (b .format)) h)) (omega arith) (t .2));
       down =
-        λ c r r′ h e.
-        let t = parts r′ c e in
-        simp (lt-ltb r (chromaHeight b) (omega (arith, t .0)), lt-ltb c (chromaWidth b) (t .1))
-        (earlier-too (current b) (b .row .0) _ r _ r′ (row-rises g (c * subWidth (b .format)) (mul-le-mul-right (subHeight (b .format)) h)) h (t .2));
+          λ c r r′ h e.
+          let t = parts r′ c e in
+          simp (lt-ltb r (chromaHeight b) (omega (arith, t .0)), lt-ltb c (chromaWidth b) (t .1))
+          (earlier-too (current b) (b .row .0) _ r _ r′ (row-rises g (c * subWidth (b .format)) (mul-le-mul-right (subHeight (b .format)) h)) h (t .2));
     }
   where
     parts : (r c : ℕ) → chromaHas b (pos r) (pos c) ≡ true
@@ -170,17 +170,17 @@ module _ {has : ℤ → ℤ → Bool} {height width : ℕ} (rule : Rule has heig
         above-few = omega (arith, a .most);
         left-few = omega (arith, l .most);
         above-in =
-          λ i h.
-          let p = in-plane (pos row -ℤ pos 1) (pos (col + i)) (row - 1) (col + i) (back row) (inl refl) (a .hold i (omega arith) h) in
-          let q = digits-lt {q = row - 1} {m = height} {r = col + i} {c = width} (p .0) (p .1) in
-          omega arith;
+            λ i h.
+            let p = in-plane (pos row -ℤ pos 1) (pos (col + i)) (row - 1) (col + i) (back row) (inl refl) (a .hold i (omega arith) h) in
+            let q = digits-lt {q = row - 1} {m = height} {r = col + i} {c = width} (p .0) (p .1) in
+            omega arith;
         left-in =
-          λ i h.
-          let p = in-plane (pos (row + i)) (pos col -ℤ pos 1) (row + i) (col - 1) (inl refl) (back col) (l .hold i (omega arith) h) in
-          let q = digits-lt {q = row + i} {m = height} {r = col - 1} {c = width} (p .0) (p .1) in
-          omega arith;
+            λ i h.
+            let p = in-plane (pos (row + i)) (pos col -ℤ pos 1) (row + i) (col - 1) (inl refl) (back col) (l .hold i (omega arith) h) in
+            let q = digits-lt {q = row + i} {m = height} {r = col - 1} {c = width} (p .0) (p .1) in
+            omega arith;
         corner-in =
-          λ e.
-          let p = in-plane (pos row -ℤ pos 1) (pos col -ℤ pos 1) (row - 1) (col - 1) (back row) (back col) e in
-          digits-lt (p .0) (p .1);
+            λ e.
+            let p = in-plane (pos row -ℤ pos 1) (pos col -ℤ pos 1) (row - 1) (col - 1) (back row) (back col) e in
+            digits-lt (p .0) (p .1);
       }

@@ -125,9 +125,9 @@ luma-ready len g r er e =
     let w = luma-fine b (f .1) in (
       f .0,
       ready (luma-rule b (w .good)) r len (g .«block_row» .0) (g .«block_col» .0) (g .n)
-      (er ∙ sym (worked (lumaReachNo b) (reachBy 0 (lumaHas b) (b .row .0) (b .col .0) (b .n)) (noReach (lumaReachNo b)) (f .1)))
-      (eqb-true len (g .picture .height * g .picture .width) (f .2)) (size-small (g .n) (w .size) .1)
-      (omega (arith, w .placed .row-in)) (omega (arith, w .placed .col-in)) (w .good .tall .high) (w .good .wide .high),
+          (er ∙ sym (worked (lumaReachNo b) (reachBy 0 (lumaHas b) (b .row .0) (b .col .0) (b .n)) (noReach (lumaReachNo b)) (f .1)))
+          (eqb-true len (g .picture .height * g .picture .width) (f .2)) (size-small (g .n) (w .size) .1)
+          (omega (arith, w .placed .row-in)) (omega (arith, w .placed .col-in)) (w .good .tall .high) (w .good .wide .high),
     )
 
 pub chroma-ready : (cb cr : ℕ) (g : ChromaRefGeometry) (r : Reach) → r ≡ chromaReach (chromaBlock g) → chromaNo cb cr g ≡ 0
@@ -141,12 +141,12 @@ chroma-ready cb cr g r er e =
     let w = chroma-fine b (f .1) in
     let l = both-true (eqb cb (chromaLength g)) (eqb cr (chromaLength g)) (f .2) in
     let one : (len : ℕ) → eqb len (chromaLength g) ≡ true → Ready (chromaHas b) r len (chromaWidth b) (g .«block_row» .0) (g .«block_col» .0) (g .n) =
-      λ len t.
-      ready (chroma-rule b (w .good)) r len (g .«block_row» .0) (g .«block_col» .0) (g .n)
-      (er ∙ sym (worked (chromaReachNo b) (reachBy 0 (chromaHas b) (b .row .0) (b .col .0) (b .n)) (noReach (chromaReachNo b)) (f .1)))
-      (eqb-true len (chromaLength g) t) (size-small (g .n) (w .size) .1)
-      (omega (arith, w .placed .row-in)) (omega (arith, w .placed .col-in))
-      (omega (arith, w .good .tall .high, div-le-self (g .«luma_h») (subHeight (formatOf (g .format))))) (omega (arith, w .good .wide .high, div-le-self (g .«luma_w») (subWidth (formatOf (g .format))))) in
+    λ len t.
+    ready (chroma-rule b (w .good)) r len (g .«block_row» .0) (g .«block_col» .0) (g .n)
+    (er ∙ sym (worked (chromaReachNo b) (reachBy 0 (chromaHas b) (b .row .0) (b .col .0) (b .n)) (noReach (chromaReachNo b)) (f .1)))
+    (eqb-true len (chromaLength g) t) (size-small (g .n) (w .size) .1)
+    (omega (arith, w .placed .row-in)) (omega (arith, w .placed .col-in))
+    (omega (arith, w .good .tall .high, div-le-self (g .«luma_h») (subHeight (formatOf (g .format))))) (omega (arith, w .good .wide .high, div-le-self (g .«luma_w») (subWidth (formatOf (g .format))))) in
     (f .0, one cb (l .0), one cr (l .1))
 
 -- substitution that is not refused

@@ -18,7 +18,7 @@ returns-2 c = rw (c .match .keys2)
 
 -- src/lib.rt:216:1
 returns-3 : tie.Need-returns-3
-returns-3 c = 
+returns-3 c =
     let twelve : c .before .args .bits ≡ 12 = ⊎-elim (λ e. absurd (c .match .rest .0 .1 e)) (λ t. ⊎-elim (λ e. absurd (c .match .rest .1 e)) (λ e. e) t) (depth-of (c .before .args .bits) (c .before .pre)) in
     ap (λ (b : ℕ). 2 ^ (b - 1)) (sym twelve)
 

@@ -15,7 +15,7 @@ returns c = (ap (λ (t : ℕ). c .before .args .side / t) (sym (c .if1 .taken)),
 
 -- src/lib.rt:462:1
 returns-2 : tie.Need-returns-2
-returns-2 c = 
+returns-2 c =
     let one : c .before .args .sub ≡ 1 = ⊎-elim (λ e. e) (λ e. absurd (c .if1 .left e)) (c .before .pre) in
     (sym (div-one (c .before .args .side)) ∙ ap (λ (t : ℕ). c .before .args .side / t) (sym one), omega arith)
 
