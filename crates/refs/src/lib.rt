@@ -1,10 +1,30 @@
 // Reference samples: substitution, the luma gather and the chroma pair gather (document 01, modules 3 and 4).
 // Rests on the contracts of order (which neighbours are there) alone; a sample's value never says whether it is there.
+ghost use mathlib.Core.Path.{_≡_};
+ghost use mathlib.Core.List.{[], _∷_};
+ghost use Prim.Native.Nat.{ℕ, _+_, _-_, _*_, _/_, _≤_, _<_};
+ghost use mathlib.Core.Bool.{true, false};
+ghost use lib.ListN.{length, getD, replicate};
+ghost use Rattle.laws.specs.Fill.{fill};
+ghost use Rattle.h265.specs.Substitution.{firstMarked, settled};
+ghost use Rattle.domain.specs.Domain.{depthOk};
+ghost use Rattle.order.specs.Edges.{Step};
+ghost use Rattle.order.specs.Reach.{lumaReach, chromaReach};
+ghost use Rattle.refs.specs.Substitution.{levelRows, substituted};
+ghost use Rattle.refs.specs.Door.{neutralAt, substituteNo, substituteDoor, lumaBlock, lumaNo, lumaRows, lumaDoor, formatOf, chromaBlock, chromaLength, chromaNo, chromaRows, chromaDoor};
+ghost use Rattle.refs.specs.Served.{gatherNo};
+ghost use Rattle.refs.specs.Line.{lineOf};
+ghost use Rattle.refs.specs.Counts.{startOf, cornerOf, restOf, edgeOf};
+ghost use Rattle.refs.specs.Spots.{spotOf, onEdge, cornerOn, aboveOn, leftOn, planeRows, Reads, Some};
 use fmt::ChromaCol;
+use fmt::ChromaFormat;
 use fmt::ChromaRow;
 use fmt::LumaCol;
 use fmt::LumaRow;
+use order::ChromaBlock;
+use order::LumaBlock;
 use order::Picture;
+use order::Reach;
 use rows::Rows;
 
 // Which entries of a block's rows are there.
@@ -47,4 +67,465 @@ pub struct ChromaRefGeometry {
     pub n: usize,
     pub cur_luma_row: LumaRow,
     pub cur_luma_col: LumaCol,
+}
+
+// The sample at place p of the line: left[e] down to left[0], the corner, above[0] to above[e].
+fn sample_on(left: &[u16; 65], corner: u16, above: &[u16; 65], e: usize, p: usize) -> u16
+    requires { ⌜ (e ≤ 64) × (p < 2 * e + 3) ⌝ }
+    ensures { λ r. ⌜ r ≡ lineOf 0 (now (left .entry)) corner (now (above .entry)) e p ⌝ }
+{
+    if p <= e {
+        return left[e - p];
+    }
+    if p == e + 1 {
+        return corner;
+    }
+    above[p - (e + 2)]
+}
+
+// Whether place p of the line is there.
+fn flag_on(left: &[bool; 65], corner: bool, above: &[bool; 65], e: usize, p: usize) -> bool
+    requires { ⌜ (e ≤ 64) × (p < 2 * e + 3) ⌝ }
+    ensures { λ r. ⌜ r ≡ lineOf false (now (left .entry)) corner (now (above .entry)) e p ⌝ }
+{
+    if p <= e {
+        return left[e - p];
+    }
+    if p == e + 1 {
+        return corner;
+    }
+    above[p - (e + 2)]
+}
+
+// The first place that is there, or the count of places.
+fn first_marked(left: &[bool; 65], corner: bool, above: &[bool; 65], e: usize) -> usize
+    requires { ⌜ e ≤ 64 ⌝ }
+    ensures { λ r. ⌜ r ≡ firstMarked (lineOf false (now (left .entry)) corner (now (above .entry)) e) 0 (2 * e + 3) ⌝ }
+{
+    let total = 2 * e + 3;
+    let mut p = 0;
+    while p < total {
+        if flag_on(left, corner, above, e, p) {
+            return p;
+        }
+        p += 1;
+    }
+    p
+}
+
+// The line in the end: each missing place takes the one before it, the places before the first take that one.
+fn settle(
+    left: &[u16; 65],
+    corner: u16,
+    above: &[u16; 65],
+    has_left: &[bool; 65],
+    has_corner: bool,
+    has_above: &[bool; 65],
+    e: usize,
+    found: usize,
+) -> [u16; 131]
+    requires { ⌜ (e ≤ 64) × (found < 2 * e + 3) ⌝ }
+    ensures { λ r. ⌜ r ≡ fill (settled (lineOf false (now («has_left» .entry)) «has_corner» (now («has_above» .entry)) e) (lineOf 0 (now (left .entry)) corner (now (above .entry)) e) found) (2 * e + 3) (replicate 131 0) ⌝ }
+{
+    let total = 2 * e + 3;
+    let mut vals = [0u16; 131];
+    let mut carried = sample_on(left, corner, above, e, found);
+    let mut p = 0;
+    while p < total {
+        if flag_on(has_left, has_corner, has_above, e, p) {
+            carried = sample_on(left, corner, above, e, p);
+        }
+        vals[p] = carried;
+        p += 1;
+    }
+    vals
+}
+
+// The left row out of the line, its entries past e as they came.
+fn left_of(line: &[u16; 131], old: [u16; 65], e: usize) -> [u16; 65]
+    requires { ⌜ e ≤ 64 ⌝ }
+    ensures { λ r. ⌜ r ≡ fill (λ (i : ℕ). getD (now (line .entry)) (e - i) 0) (e + 1) old ⌝ }
+{
+    let mut out = old;
+    let mut i = 0;
+    while i <= e {
+        out[i] = line[e - i];
+        i += 1;
+    }
+    out
+}
+
+// The row above out of the line, its entries past e as they came.
+fn above_of(line: &[u16; 131], old: [u16; 65], e: usize) -> [u16; 65]
+    requires { ⌜ e ≤ 64 ⌝ }
+    ensures { λ r. ⌜ r ≡ fill (λ (i : ℕ). getD (now (line .entry)) (e + 2 + i) 0) (e + 1) old ⌝ }
+{
+    let mut out = old;
+    let mut i = 0;
+    while i <= e {
+        out[i] = line[e + 2 + i];
+        i += 1;
+    }
+    out
+}
+
+fn substitute(rows: Rows, flags: Flags, n: usize, neutral: u16) -> Rows
+    requires { ⌜ n ≤ 32 ⌝ }
+    ensures { λ r. ⌜ r ≡ substituted n neutral flags rows ⌝ }
+{
+    let e = 2 * n;
+    let left = rows.left;
+    let above = rows.above;
+    let has_left = flags.left;
+    let has_above = flags.above;
+    let found = first_marked(&has_left, flags.corner, &has_above, e);
+    if found >= 2 * e + 3 {
+        return level_rows(neutral);
+    }
+    let line = settle(
+        &left,
+        rows.corner,
+        &above,
+        &has_left,
+        flags.corner,
+        &has_above,
+        e,
+        found,
+    );
+    Rows {
+        corner: line[e + 1],
+        above: above_of(&line, above, e),
+        left: left_of(&line, left, e),
+    }
+}
+
+// The number that refuses a substitution, or 0.
+fn substitute_no(n: usize, bits: u32) -> u32
+    ensures { λ r. ⌜ r ≡ substituteNo bits n ⌝ }
+{
+    if !domain::depth_ok(bits) {
+        return 1;
+    }
+    if !domain::size_ok(n) {
+        return 2;
+    }
+    0
+}
+
+// The neutral sample of a depth.
+fn neutral_of(bits: u32) -> u16
+    requires { ⌜ depthOk bits ≡ true ⌝ }
+    ensures { λ r. ⌜ r ≡ neutralAt bits ⌝ }
+{
+    match bits {
+        8 => 128,
+        10 => 512,
+        _ => 2048,
+    }
+}
+
+// Reference rows with the missing entries substituted (H.265 8.4.4.2.2, document 01, module 3).
+pub fn substitute_refs(rows: Rows, flags: Flags, n: usize, bits: u32) -> Gathered
+    ensures { λ r. ⌜ r ≡ substituteDoor rows flags n bits ⌝ }
+{
+    let no = substitute_no(n, bits);
+    if no != 0 {
+        return Gathered {
+            no,
+            rows: level_rows(0),
+        };
+    }
+    Gathered {
+        no: 0,
+        rows: substitute(rows, flags, n, neutral_of(bits)),
+    }
+}
+
+// Every entry at one value.
+fn level_rows(v: u16) -> Rows
+    ensures { λ r. ⌜ r ≡ levelRows v ⌝ }
+{
+    Rows {
+        corner: v,
+        above: [v; 65],
+        left: [v; 65],
+    }
+}
+
+// Where a block's neighbours stand in a plane: the corner, entry 0 of the row above and entry 0 of the left column, and the plane's
+// width.
+struct Spot {
+    corner: usize,
+    above: usize,
+    left: usize,
+    width: usize,
+}
+
+// The row or column before one, 0 for the first.
+fn back(v: usize) -> usize
+    ensures { λ r. ⌜ r ≡ v - 1 ⌝ }
+{
+    if v == 0 { 0 } else { v - 1 }
+}
+
+fn spot_of(width: usize, row: usize, col: usize) -> Spot
+    requires { ⌜ (width ≤ 4096) × (row ≤ 4096) × (col ≤ 4096) ⌝ }
+    ensures { λ r. ⌜ r ≡ spotOf width row col ⌝ }
+{
+    let up = back(row) * width;
+    let aside = back(col);
+    Spot {
+        corner: up + aside,
+        above: up + col,
+        left: row * width + aside,
+        width,
+    }
+}
+
+// Entries 0 to e of an edge: the first `have` out of the plane, each `step` samples further, the others `rest`; 0 past them.
+fn edge(plane: &[u16], at: usize, step: usize, have: usize, e: usize, rest: u16) -> [u16; 65]
+    requires { ⌜ (have ≤ e + 1) × (e ≤ 64) × ((i : ℕ) → i < have → at + i * step < length (now plane)) ⌝ }
+    ensures { λ r. ⌜ r ≡ edgeOf e have (onEdge (now (plane .entry)) at step) rest ⌝ }
+{
+    let mut out = [0u16; 65];
+    let mut i = 0;
+    while i < have {
+        out[i] = plane[at + i * step];
+        i += 1;
+    }
+    while i <= e {
+        out[i] = rest;
+        i += 1;
+    }
+    out
+}
+
+fn sample(plane: &[u16], at: usize) -> u16
+    requires { ⌜ at < length (now plane) ⌝ }
+    ensures { λ r. ⌜ r ≡ getD (now (plane .entry)) at 0 ⌝ }
+{
+    plane[at]
+}
+
+// What stands before the first sample that is there: that sample.
+fn start_of(plane: &[u16], s: Spot, r: Reach, n: usize) -> u16
+    requires { ⌜ Some r s (length (now plane)) n ⌝ }
+    ensures { λ v. ⌜ v ≡ startOf r (cornerOn (now (plane .entry)) s) (aboveOn (now (plane .entry)) s) (leftOn (now (plane .entry)) s) ⌝ }
+{
+    if r.left > 0 {
+        return sample(plane, s.left + (r.left - 1) * s.width);
+    }
+    if r.corner {
+        return sample(plane, s.corner);
+    }
+    sample(plane, s.above)
+}
+
+// The corner, or left[0] where it is missing.
+fn corner_of(plane: &[u16], s: Spot, r: Reach, n: usize, start: u16) -> u16
+    requires { ⌜ Reads r s (length (now plane)) n ⌝ }
+    ensures { λ v. ⌜ v ≡ cornerOf r (cornerOn (now (plane .entry)) s) (leftOn (now (plane .entry)) s) start ⌝ }
+{
+    if r.corner {
+        return sample(plane, s.corner);
+    }
+    if r.left > 0 {
+        return sample(plane, s.left);
+    }
+    start
+}
+
+// What stands after the last sample of the row above: that sample, or the corner.
+fn rest_of(plane: &[u16], s: Spot, r: Reach, n: usize, corner: u16) -> u16
+    requires { ⌜ Reads r s (length (now plane)) n ⌝ }
+    ensures { λ v. ⌜ v ≡ restOf r (aboveOn (now (plane .entry)) s) corner ⌝ }
+{
+    if r.above > 0 {
+        return sample(plane, s.above + (r.above - 1));
+    }
+    corner
+}
+
+// A plane's two rows, above and left.
+fn two_rows(plane: &[u16], s: Spot, r: Reach, n: usize, rest: u16, start: u16) -> [[u16; 65]; 2]
+    requires { ⌜ Reads r s (length (now plane)) n ⌝ }
+    ensures { λ v. ⌜ v ≡ edgeOf (2 * n) (r .above) (aboveOn (now (plane .entry)) s) rest ∷ edgeOf (2 * n) (r .left) (leftOn (now (plane .entry)) s) start ∷ [] ⌝ }
+{
+    let above = edge(plane, s.above, 1, r.above, 2 * n, rest);
+    let left = edge(plane, s.left, s.width, r.left, 2 * n, start);
+    [above, left]
+}
+
+// The rows of a plane, from how far the neighbours reach.
+fn plane_rows(plane: &[u16], s: Spot, r: Reach, n: usize, neutral: u16) -> Rows
+    requires { ⌜ Reads r s (length (now plane)) n ⌝ }
+    ensures { λ v. ⌜ v ≡ planeRows (now (plane .entry)) s r n neutral ⌝ }
+{
+    if !((r.left > 0) | r.corner | (r.above > 0)) {
+        return level_rows(neutral);
+    }
+    let start = start_of(plane, s, r, n);
+    let corner = corner_of(plane, s, r, n, start);
+    let rest = rest_of(plane, s, r, n, corner);
+    let two = two_rows(plane, s, r, n, rest, start);
+    Rows {
+        corner,
+        above: two[0],
+        left: two[1],
+    }
+}
+
+// The number that refuses a gather, or 0: the depth's, then the reach's 2 or 4, then the planes', then the reach's 6.
+fn gather_no(bits: u32, reach: u32, whole: bool) -> u32
+    ensures { λ r. ⌜ r ≡ gatherNo bits reach whole ⌝ }
+{
+    if !domain::depth_ok(bits) {
+        return 1;
+    }
+    if (reach == 2) | (reach == 4) {
+        return reach;
+    }
+    if whole { reach } else { 5 }
+}
+
+fn luma_block(geo: LumaRefGeometry) -> LumaBlock
+    ensures { λ r. ⌜ r ≡ lumaBlock geo ⌝ }
+{
+    let picture = geo.picture;
+    let row = geo.block_row;
+    let col = geo.block_col;
+    LumaBlock {
+        picture,
+        row,
+        col,
+        n: geo.n,
+    }
+}
+
+fn luma_rows(plane: &[u16], geo: LumaRefGeometry, reach: Reach) -> Rows
+    requires { ⌜ (reach ≡ lumaReach (lumaBlock geo)) × (lumaNo (length (now plane)) geo ≡ 0) ⌝ }
+    ensures { λ r. ⌜ r ≡ lumaRows (now (plane .entry)) geo ⌝ }
+{
+    let width = geo.picture.width as usize;
+    let s = spot_of(width, geo.block_row.0 as usize, geo.block_col.0 as usize);
+    plane_rows(plane, s, reach, geo.n, neutral_of(geo.bits))
+}
+
+// The reference rows of a luma block (document 01, module 4).
+pub fn get_reference_samples(plane: &[u16], geo: LumaRefGeometry) -> Gathered
+    ensures { λ r. ⌜ r ≡ lumaDoor (now (plane .entry)) geo ⌝ }
+{
+    let reach = order::luma_reach(luma_block(geo));
+    let whole = plane.len() == (geo.picture.height as usize) * (geo.picture.width as usize);
+    let no = gather_no(geo.bits, reach.no, whole);
+    if no != 0 {
+        return Gathered {
+            no,
+            rows: level_rows(0),
+        };
+    }
+    Gathered {
+        no: 0,
+        rows: luma_rows(plane, geo, reach),
+    }
+}
+
+// The format that a chroma_format_idc names; monochrome where it names none, which is refused as monochrome is.
+fn format_of(idc: u32) -> ChromaFormat
+    ensures { λ r. ⌜ r ≡ formatOf idc ⌝ }
+{
+    match idc {
+        1 => ChromaFormat::Yuv420,
+        2 => ChromaFormat::Yuv422,
+        3 => ChromaFormat::Yuv444,
+        _ => ChromaFormat::Monochrome,
+    }
+}
+
+fn chroma_block(geo: ChromaRefGeometry) -> ChromaBlock
+    ensures { λ r. ⌜ r ≡ chromaBlock geo ⌝ }
+{
+    let picture = Picture {
+        width: geo.luma_w,
+        height: geo.luma_h,
+        ctu: 64,
+        unit: geo.min_luma_pu,
+    };
+    let format = format_of(geo.format);
+    let row = geo.block_row;
+    let col = geo.block_col;
+    let cur_luma_row = geo.cur_luma_row;
+    let cur_luma_col = geo.cur_luma_col;
+    ChromaBlock {
+        picture,
+        format,
+        row,
+        col,
+        n: geo.n,
+        cur_luma_row,
+        cur_luma_col,
+    }
+}
+
+// A side of the luma picture in chroma samples.
+fn over(side: u32, sub: usize) -> usize
+    requires { ⌜ Step sub ⌝ }
+    ensures { λ r. ⌜ (r ≡ side / sub) × (r ≤ 4294967295) ⌝ }
+{
+    if sub == 2 {
+        return (side as usize) / 2;
+    }
+    side as usize
+}
+
+// The rows of Cb and of Cr: one reach for both.
+fn chroma_rows(
+    plane_cb: &[u16],
+    plane_cr: &[u16],
+    geo: ChromaRefGeometry,
+    reach: Reach,
+) -> [Rows; 2]
+    requires { ⌜ (reach ≡ chromaReach (chromaBlock geo)) × (chromaNo (length (now «plane_cb»)) (length (now «plane_cr»)) geo ≡ 0) ⌝ }
+    ensures { λ r. ⌜ r ≡ chromaRows (now («plane_cb» .entry)) geo ∷ chromaRows (now («plane_cr» .entry)) geo ∷ [] ⌝ }
+{
+    let width = over(geo.luma_w, format_of(geo.format).sub_w());
+    let s = spot_of(width, geo.block_row.0 as usize, geo.block_col.0 as usize);
+    let neutral = neutral_of(geo.bits);
+    let n = geo.n;
+    let cb = plane_rows(plane_cb, s, reach, n, neutral);
+    let cr = plane_rows(plane_cr, s, reach, n, neutral);
+    [cb, cr]
+}
+
+// A plane's count of chroma samples.
+fn chroma_length(geo: ChromaRefGeometry) -> usize
+    ensures { λ r. ⌜ r ≡ chromaLength geo ⌝ }
+{
+    let f = format_of(geo.format);
+    over(geo.luma_h, f.sub_h()) * over(geo.luma_w, f.sub_w())
+}
+
+// The reference rows of a chroma block in both planes, by one pass over its neighbours (document 01, module 4).
+pub fn get_reference_samples_chroma_pair(
+    plane_cb: &[u16],
+    plane_cr: &[u16],
+    geo: ChromaRefGeometry,
+) -> GatheredPair
+    ensures { λ r. ⌜ r ≡ chromaDoor (now («plane_cb» .entry)) (now («plane_cr» .entry)) geo ⌝ }
+{
+    let reach = order::chroma_reach(chroma_block(geo));
+    let len = chroma_length(geo);
+    let whole = (plane_cb.len() == len) & (plane_cr.len() == len);
+    let no = gather_no(geo.bits, reach.no, whole);
+    if no != 0 {
+        let none = level_rows(0);
+        return GatheredPair {
+            no,
+            planes: [none, none],
+        };
+    }
+    GatheredPair {
+        no: 0,
+        planes: chroma_rows(plane_cb, plane_cr, geo, reach),
+    }
 }

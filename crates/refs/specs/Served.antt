@@ -1,0 +1,200 @@
+-- A call's number from the number that the reach gives, and what a call that is not refused rests on. Assumes nothing.
+use mathlib.Core.Path.{_≡_, refl, sym, ap, ap₂, _∙_, subst}
+use mathlib.Core.Bool.{Bool, true, false, cond, _&&_, _||_, true≢false, false≢true}
+use mathlib.Core.List.{List, [], _∷_}
+use mathlib.Core.Logic.{_⊎_, ⊎-elim}
+use Prim.Native.Nat.{ℕ, zero, suc, _+_, _-_, _*_, _/_, _≤_, _<_}
+use native.Mathlib.Nat.{div-le-self}
+use native.Mathlib.Omega.{arith}
+use lib.Dec.{leb, ltb, eqb}
+use lib.IntN.{ℤ}
+use lib.ListN.{length}
+use borrow.Author.Tests.{eq-eqb, ne-eqb, eqb-true, le-leb, lt-leb}
+use Rattle.laws.specs.Choose.{served, worked, unserved, passed, both-true}
+use Rattle.domain.specs.Domain.{depthOk, sizeOk}
+use Rattle.domain.specs.Facts.{size-of, size-small}
+use Rattle.fmt.specs.Fmt.{subWidth, subHeight}
+use Rattle.order.specs.declared.LumaBlock.{LumaBlock}
+use Rattle.order.specs.declared.ChromaBlock.{ChromaBlock}
+use Rattle.order.specs.declared.Reach.{Reach}
+use Rattle.order.specs.Order.{pictureOk}
+use Rattle.order.specs.Reach.{reachBy, noReach, lumaPlaceOk, lumaReachNo, lumaHas, lumaReach, colour, chromaPlaceOk, chromaReachNo, chromaHas, chromaReach, chromaHeight, chromaWidth}
+use Rattle.order.specs.Blocks.{luma-fine, chroma-fine}
+use Rattle.rows.specs.declared.Rows.{Rows}
+use Rattle.refs.specs.declared.Gathered.{Gathered}
+use Rattle.refs.specs.declared.GatheredPair.{GatheredPair}
+use Rattle.refs.specs.declared.Spot.{Spot}
+use Rattle.refs.specs.declared.LumaRefGeometry.{LumaRefGeometry}
+use Rattle.refs.specs.declared.ChromaRefGeometry.{ChromaRefGeometry}
+use Rattle.refs.specs.Gather.{gatheredBy, sampleOf}
+use Rattle.refs.specs.Door.{neutralAt, substituteNo, lumaBlock, lumaNo, formatOf, chromaPicture, chromaBlock, chromaLength, chromaNo}
+use Rattle.refs.specs.Line.{told}
+use Rattle.refs.specs.Counts.{Counted}
+use Rattle.refs.specs.Spots.{spotOf, planeRows, Reads, rows-are}
+use Rattle.refs.specs.Rules.{Rule, luma-rule, chroma-rule, counted, reads}
+
+-- 1, then what the reach gives of 2 and 4, then 5, then its 6; a plane of the right length is whole
+abbrev pub gatherNo : ℕ → ℕ → Bool → ℕ
+gatherNo bits k whole = cond (depthOk bits) (cond (eqb k 2 || eqb k 4) k (cond whole k 5)) 1
+
+-- size, picture, place; whole
+same-number : (s p q w : Bool) → let k : ℕ = cond s (cond p (cond q 0 6) 4) 2 in cond s (cond p (cond w (cond q 0 6) 5) 4) 2 ≡ cond (eqb k 2 || eqb k 4) k (cond w k 5)
+same-number false p q w = refl
+same-number true false q w = refl
+same-number true true true true = refl
+same-number true true true false = refl
+same-number true true false true = refl
+same-number true true false false = refl
+
+pub luma-no : (len : ℕ) (g : LumaRefGeometry) → lumaNo len g ≡ gatherNo (g .bits) (lumaReachNo (lumaBlock g)) (eqb len (g .picture .height * g .picture .width))
+unfolding lumaNo lumaReachNo
+luma-no len g =
+    ap (λ (k : ℕ). cond (depthOk (g .bits)) k 1)
+    (same-number (sizeOk (g .n)) (pictureOk (g .picture)) (lumaPlaceOk (lumaBlock g)) (eqb len (g .picture .height * g .picture .width)))
+
+-- a format with colour is 1, 2 or 3
+by-four : (P : ℕ → Type 0) → P 0 → P 1 → P 2 → P 3 → ((k : ℕ) → 4 ≤ k → P k) → (k : ℕ) → P k
+by-four P a b c d e zero = a
+by-four P a b c d e (suc zero) = b
+by-four P a b c d e (suc (suc zero)) = c
+by-four P a b c d e (suc (suc (suc zero))) = d
+by-four P a b c d e (suc (suc (suc (suc k)))) = e (suc (suc (suc (suc k)))) (omega arith)
+
+coloured : (b : Bool) (f : ℕ) → (b && leb 1 f && leb f 3) ≡ (b && colour (formatOf f))
+coloured true = by-four (λ (f : ℕ). (leb 1 f && leb f 3) ≡ colour (formatOf f)) refl refl refl refl other
+  where
+    other : (k : ℕ) → 4 ≤ k → (leb 1 k && leb k 3) ≡ colour (formatOf k)
+    other k h =
+        simp (le-leb 1 k (omega arith), lt-leb k 3 (omega arith), ne-eqb k 1 (λ e. let q : k ≡ 1 = e in omega arith), ne-eqb k 2 (λ e. let q : k ≡ 2 = e in omega arith), ne-eqb k 3 (λ e. let q : k ≡ 3 = e in omega arith))
+coloured false = λ f. refl
+
+pub chroma-no : (cb cr : ℕ) (g : ChromaRefGeometry)
+    → chromaNo cb cr g ≡ gatherNo (g .bits) (chromaReachNo (chromaBlock g)) (eqb cb (chromaLength g) && eqb cr (chromaLength g))
+unfolding chromaNo chromaReachNo
+chroma-no cb cr g =
+    let w = eqb cb (chromaLength g) && eqb cr (chromaLength g) in
+    let q = chromaPlaceOk (chromaBlock g) in
+    ap (λ (p : Bool). cond (depthOk (g .bits)) (cond (sizeOk (g .n)) (cond p (cond w (cond q 0 6) 5) 4) 2) 1) (coloured (pictureOk (chromaPicture g)) (g .format))
+    ∙ ap (λ (k : ℕ). cond (depthOk (g .bits)) k 1) (same-number (sizeOk (g .n)) (pictureOk (chromaPicture g) && colour (formatOf (g .format))) q w)
+
+-- the number stands in the reach, and a reach of number 0 is the block's own
+reach-no : (k : ℕ) (r : Reach) → r .no ≡ 0 → served k r (noReach k) .no ≡ k
+reach-no k r z =
+    ⊎-elim (λ e. ap (λ (b : Bool). cond b r (noReach k) .no) e ∙ z ∙ sym (eqb-true k 0 e)) (λ e. ap (λ (b : Bool). cond b r (noReach k) .no) e) (told (eqb k 0))
+
+pub luma-reach-no : (g : LumaRefGeometry) → lumaReach (lumaBlock g) .no ≡ lumaReachNo (lumaBlock g)
+unfolding lumaReach
+luma-reach-no g = reach-no (lumaReachNo (lumaBlock g)) _ refl
+
+pub chroma-reach-no : (g : ChromaRefGeometry) → chromaReach (chromaBlock g) .no ≡ chromaReachNo (chromaBlock g)
+unfolding chromaReach
+chroma-reach-no g = reach-no (chromaReachNo (chromaBlock g)) _ refl
+
+-- no refusal: the depth, the reach and the planes are in order
+pub gather-fine : (bits k : ℕ) (whole : Bool) → gatherNo bits k whole ≡ 0 → (depthOk bits ≡ true) × (k ≡ 0) × (whole ≡ true)
+gather-fine bits k whole e =
+    let a = passed (depthOk bits) _ 1 (omega arith) e in
+    ⊎-elim (λ t. absurd (stuck t (sym (ap (λ (b : Bool). cond b k (cond whole k 5)) t) ∙ a .1)))
+    (λ t. let b = passed whole k 5 (omega arith) (sym (ap (λ (b : Bool). cond b k (cond whole k 5)) t) ∙ a .1) in (a .0, b .1, b .0))
+    (told (eqb k 2 || eqb k 4))
+  where
+    stuck : (eqb k 2 || eqb k 4) ≡ true → k ≡ 0 → ⊥
+    stuck t z = false≢true (ap (λ (v : ℕ). eqb v 2 || eqb v 4) (sym z) ∙ t)
+
+-- What the work of a gather rests on: the rule's counts, the reads inside the plane, and small numbers
+pub record Ready (has : ℤ → ℤ → Bool) (r : Reach) (len width row col n : ℕ) : Type 0 where
+  pub known : Counted has row col n r
+  pub reads : Reads r (spotOf width row col) len n
+  pub row-few : row ≤ 4096
+  pub col-few : col ≤ 4096
+  pub width-few : width ≤ 4096
+
+ready : {has : ℤ → ℤ → Bool} {height width : ℕ} → Rule has height width → (r : Reach) (len row col n : ℕ) → r ≡ reachBy 0 has row col n → len ≡ height * width
+    → n ≤ 32 → row ≤ height → col ≤ width → height ≤ 4096 → width ≤ 4096 → Ready has r len width row col n
+ready {has} {height} {width} rule r len row col n er el small hr hc tall wide =
+    subst (λ (q : Reach). Ready has q len width row col n) (sym er)
+    (subst (λ (l : ℕ). Ready has (reachBy 0 has row col n) l width row col n) (sym el)
+    (record { known = counted rule row col n; reads = reads rule row col n small; row-few = omega arith; col-few = omega arith; width-few = wide }))
+
+pub luma-ready : (len : ℕ) (g : LumaRefGeometry) (r : Reach) → r ≡ lumaReach (lumaBlock g) → lumaNo len g ≡ 0
+    → (depthOk (g .bits) ≡ true) × Ready (lumaHas (lumaBlock g)) r len (g .picture .width) (g .«block_row» .0) (g .«block_col» .0) (g .n)
+unfolding lumaReach
+luma-ready len g r er e =
+    let b = lumaBlock g in
+    let f = gather-fine (g .bits) (lumaReachNo b) (eqb len (g .picture .height * g .picture .width)) (sym (luma-no len g) ∙ e) in
+    let w = luma-fine b (f .1) in (
+      f .0,
+      ready (luma-rule b (w .good)) r len (g .«block_row» .0) (g .«block_col» .0) (g .n)
+          (er ∙ sym (worked (lumaReachNo b) (reachBy 0 (lumaHas b) (b .row .0) (b .col .0) (b .n)) (noReach (lumaReachNo b)) (f .1)))
+          (eqb-true len (g .picture .height * g .picture .width) (f .2)) (size-small (g .n) (w .size) .1)
+          (omega (arith, w .placed .row-in)) (omega (arith, w .placed .col-in)) (w .good .tall .high) (w .good .wide .high),
+    )
+
+pub chroma-ready : (cb cr : ℕ) (g : ChromaRefGeometry) (r : Reach) → r ≡ chromaReach (chromaBlock g) → chromaNo cb cr g ≡ 0
+    → (depthOk (g .bits) ≡ true)
+    × Ready (chromaHas (chromaBlock g)) r cb (chromaWidth (chromaBlock g)) (g .«block_row» .0) (g .«block_col» .0) (g .n)
+    × Ready (chromaHas (chromaBlock g)) r cr (chromaWidth (chromaBlock g)) (g .«block_row» .0) (g .«block_col» .0) (g .n)
+unfolding chromaReach
+chroma-ready cb cr g r er e =
+    let b = chromaBlock g in
+    let f = gather-fine (g .bits) (chromaReachNo b) (eqb cb (chromaLength g) && eqb cr (chromaLength g)) (sym (chroma-no cb cr g) ∙ e) in
+    let w = chroma-fine b (f .1) in
+    let l = both-true (eqb cb (chromaLength g)) (eqb cr (chromaLength g)) (f .2) in
+    let one : (len : ℕ) → eqb len (chromaLength g) ≡ true → Ready (chromaHas b) r len (chromaWidth b) (g .«block_row» .0) (g .«block_col» .0) (g .n) =
+    λ len t.
+    ready (chroma-rule b (w .good)) r len (g .«block_row» .0) (g .«block_col» .0) (g .n)
+    (er ∙ sym (worked (chromaReachNo b) (reachBy 0 (chromaHas b) (b .row .0) (b .col .0) (b .n)) (noReach (chromaReachNo b)) (f .1)))
+    (eqb-true len (chromaLength g) t) (size-small (g .n) (w .size) .1)
+    (omega (arith, w .placed .row-in)) (omega (arith, w .placed .col-in))
+    (omega (arith, w .good .tall .high, div-le-self (g .«luma_h») (subHeight (formatOf (g .format))))) (omega (arith, w .good .wide .high, div-le-self (g .«luma_w») (subWidth (formatOf (g .format))))) in
+    (f .0, one cb (l .0), one cr (l .1))
+
+-- substitution that is not refused
+pub substitute-fine : (bits n : ℕ) → substituteNo bits n ≡ 0 → (depthOk bits ≡ true) × (n ≤ 32)
+unfolding substituteNo
+substitute-fine bits n e =
+    let a = passed (depthOk bits) _ 1 (omega arith) e in
+    let b = passed (sizeOk n) 0 2 (omega arith) (a .1) in
+    (a .0, size-small n (size-of n (b .0)) .1)
+
+-- a door's answer, refused and served, over any answer made of a number and what was worked out
+module _ {A B : Type 0} (answer : ℕ → A → B) (n : ℕ) (work kept : A) where
+  pub refused : {k : ℕ} {given : A} → k ≡ n → (k ≡ 0 → ⊥) → given ≡ kept → answer k given ≡ answer n (served n work kept)
+  refused e h z = ap₂ answer e (z ∙ unserved n work kept (λ q. h (e ∙ q)))
+
+  pub done : {given : A} → n ≡ 0 → given ≡ work → answer 0 given ≡ answer n (served n work kept)
+  done e d = ap₂ answer (sym e) (d ∙ worked n work kept e)
+
+abbrev pub gathered : ℕ → Rows → Gathered
+gathered k v = record { no = k; rows = v }
+
+abbrev pub gatheredPair : ℕ → List Rows → GatheredPair
+gatheredPair k v = record { no = k; planes = v }
+
+-- the number that the code gives is the call's
+pub luma-number : (len : ℕ) (g : LumaRefGeometry) {b : LumaBlock} {r : Reach} {k : ℕ} → b ≡ lumaBlock g → r ≡ lumaReach b
+    → k ≡ gatherNo (g .bits) (r .no) (eqb len (g .picture .height * g .picture .width)) → (r ≡ lumaReach (lumaBlock g)) × (k ≡ lumaNo len g)
+luma-number len g eb er ek =
+    let e = er ∙ ap lumaReach eb in
+    let w = eqb len (g .picture .height * g .picture .width) in
+    (e, ek ∙ ap (λ (x : ℕ). gatherNo (g .bits) x w) (ap (λ (q : Reach). q .no) e ∙ luma-reach-no g) ∙ sym (luma-no len g))
+
+pub chroma-number : (cb cr : ℕ) (g : ChromaRefGeometry) {b : ChromaBlock} {r : Reach} {len k : ℕ} → b ≡ chromaBlock g → r ≡ chromaReach b → len ≡ chromaLength g
+    → k ≡ gatherNo (g .bits) (r .no) (eqb cb len && eqb cr len) → (r ≡ chromaReach (chromaBlock g)) × (k ≡ chromaNo cb cr g)
+chroma-number cb cr g {r = r} eb er el ek =
+    let e = er ∙ ap chromaReach eb in (
+      e,
+      ek ∙ ap₂ (λ (x l : ℕ). gatherNo (g .bits) x (eqb cb l && eqb cr l)) (ap (λ (q : Reach). q .no) e ∙ chroma-reach-no g) el ∙ sym (chroma-no cb cr g),
+    )
+
+-- the rows of a plane, from the parts that the code makes
+module _ {has : ℤ → ℤ → Bool} {r : Reach} (plane : List ℕ) (width row col n bits : ℕ) (y : Ready has r (length plane) width row col n) where
+  pub inside : {w : ℕ} {s : Spot} → w ≡ width → s ≡ spotOf w row col → Reads r s (length plane) n
+  inside e es = subst (λ (t : Spot). Reads r t (length plane) n) (sym (es ∙ ap (λ (x : ℕ). spotOf x row col) e)) (y .reads)
+
+  pub made : {w neutral : ℕ} {s : Spot} {v : Rows} → w ≡ width → s ≡ spotOf w row col → neutral ≡ neutralAt bits → v ≡ planeRows plane s r n neutral
+      → v ≡ gatheredBy has (sampleOf plane width) row col n (neutralAt bits)
+  made e es en ev =
+      ev
+      ∙ ap₂ (λ (t : Spot) (k : ℕ). planeRows plane t r n k) (es ∙ ap (λ (x : ℕ). spotOf x row col) e) en
+      ∙ rows-are has plane width row col n (neutralAt bits) r (y .reads .side) (y .known)
