@@ -44,16 +44,16 @@ cornerOf r c left start = cornerBy (r .corner) (r .left) left c start
 abbrev pub restOf : Reach → (ℕ → ℕ) → ℕ → ℕ
 restOf r above corner = restBy (r .above) above corner
 
--- an edge: the first have of its entries 0 to e are at, the others rest; 0 past them
+-- an edge: of its first count entries have are at, the others rest; 0 past them
 unfoldable pub edgeOf : ℕ → ℕ → (ℕ → ℕ) → ℕ → List ℕ
-edgeOf e have at rest = fill (λ i. cond (ltb i have) (at i) rest) (e + 1) (replicate 65 0)
+edgeOf count have at rest = fill (λ i. cond (ltb i have) (at i) rest) count (replicate 65 0)
 
 -- the rows where a neighbour is there, and where none is
 abbrev pub reached : Reach → ℕ → (ℕ → ℕ) → (ℕ → ℕ) → ℕ → Rows
 reached r c above left n =
     let start = startOf r c above left in
     let corner = cornerOf r c left start in
-    record { corner = corner; above = edgeOf (2 * n) (r .above) above (restOf r above corner); left = edgeOf (2 * n) (r .left) left start }
+    record { corner = corner; above = edgeOf (2 * n + 1) (r .above) above (restOf r above corner); left = edgeOf (2 * n + 1) (r .left) left start }
 
 unfoldable pub fromReach : Reach → ℕ → (ℕ → ℕ) → (ℕ → ℕ) → ℕ → ℕ → Rows
 fromReach r c above left n neutral = cond (anyBy (r .corner) (r .above) (r .left)) (reached r c above left n) (levelRows neutral)

@@ -83,19 +83,21 @@ module _ (marked : ℕ → Bool) (value : ℕ → ℕ) (found : ℕ) where
   unfolding carriedTo
   carried-on p = rw (add-one p)
 
-  pub carried-here : (p : ℕ) → marked p ≡ true → value p ≡ carriedTo marked value found (p + 1)
-  carried-here p here = sym (carried-on p ∙ at p here)
+  -- past a place: its own sample where it is there, what is carried where it is not
+  carried-past : (p : ℕ) → cond (marked p) (value p) (carriedTo marked value found p) ≡ carriedTo marked value found (p + 1)
+  carried-past p = sym (carried-on p ∙ at p)
     where
-      at : (k : ℕ) → marked k ≡ true → settled marked value found k ≡ value k
-      at zero t = unfold settled in simp t
-      at (suc k) t = unfold settled in simp t
+      own : (b : Bool) → value (cond b 0 found) ≡ cond b (value 0) (value found)
+      own true = refl
+      own false = refl
 
-  pub carried-gap : (p : ℕ) → marked p ≡ false → carriedTo marked value found p ≡ carriedTo marked value found (p + 1)
-  carried-gap p gone = sym (carried-on p ∙ at p gone)
-    where
-      at : (k : ℕ) → marked k ≡ false → settled marked value found k ≡ carriedTo marked value found k
-      at zero t = unfold settled in unfold carriedTo in simp t
-      at (suc k) t = unfold settled in unfold carriedTo in simp t
+      at : (k : ℕ) → settled marked value found k ≡ cond (marked k) (value k) (carriedTo marked value found k)
+      at zero = unfold settled in unfold carriedTo in own (marked 0)
+      at (suc k) = unfold settled in unfold carriedTo in refl
+
+  pub carried-next : (p : ℕ) {there : Bool} {v carried next : ℕ} → there ≡ marked p → v ≡ value p → carried ≡ carriedTo marked value found p → next ≡ cond there v carried
+      → next ≡ carriedTo marked value found (p + 1)
+  carried-next p a b c e = e ∙ (λ i. cond (a i) (b i) (c i)) ∙ carried-past p
 
 -- what a search from the first place of the line finds where nothing is there
 pub found-none : (marked : ℕ → Bool) (m : ℕ) → ((j : ℕ) → j < m → marked j ≡ false) → firstMarked marked 0 m ≡ m

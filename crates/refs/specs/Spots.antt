@@ -88,7 +88,7 @@ module _ (plane : List ℕ) (s : Spot) (r : Reach) (n neutral : ℕ) where
       → start ≡ startOf r (cornerOn plane s) (aboveOn plane s) (leftOn plane s)
       → corner ≡ cornerOf r (cornerOn plane s) (leftOn plane s) start
       → rest ≡ restOf r (aboveOn plane s) corner
-      → two ≡ edgeOf (2 * n) (r .above) (aboveOn plane s) rest ∷ edgeOf (2 * n) (r .left) (leftOn plane s) start ∷ []
+      → two ≡ edgeOf (2 * n + 1) (r .above) (aboveOn plane s) rest ∷ edgeOf (2 * n + 1) (r .left) (leftOn plane s) start ∷ []
       → _≡_ {A = Rows} (record { corner = corner; above = getD two 0 []; left = getD two 1 [] }) (planeRows plane s r n neutral)
   unfolding fromReach
   some-rows any p q w t =
@@ -98,6 +98,6 @@ module _ (plane : List ℕ) (s : Spot) (r : Reach) (n neutral : ℕ) where
       (λ i.
       record {
         corner = k i;
-        above = (ap (λ (l : List (List ℕ)). getD l 0 []) t ∙ ap (edgeOf (2 * n) (r .above) (aboveOn plane s)) z) i;
-        left = (ap (λ (l : List (List ℕ)). getD l 1 []) t ∙ ap (edgeOf (2 * n) (r .left) (leftOn plane s)) p) i;
+        above = (ap (λ (l : List (List ℕ)). getD l 0 []) t ∙ ap (edgeOf (2 * n + 1) (r .above) (aboveOn plane s)) z) i;
+        left = (ap (λ (l : List (List ℕ)). getD l 1 []) t ∙ ap (edgeOf (2 * n + 1) (r .left) (leftOn plane s)) p) i;
       })

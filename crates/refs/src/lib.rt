@@ -3,7 +3,7 @@
 ghost use mathlib.Core.Path.{_≡_};
 ghost use mathlib.Core.List.{[], _∷_};
 ghost use Prim.Native.Nat.{ℕ, _+_, _-_, _*_, _/_, _≤_, _<_};
-ghost use mathlib.Core.Bool.{true, false};
+ghost use mathlib.Core.Bool.{true, false, cond};
 ghost use lib.ListN.{length, getD, replicate};
 ghost use Rattle.laws.specs.Fill.{fill};
 ghost use Rattle.h265.specs.Substitution.{firstMarked, settled};
@@ -113,6 +113,13 @@ fn first_marked(left: &[bool; 65], corner: bool, above: &[bool; 65], e: usize) -
     p
 }
 
+// A sample where it is there, another where it is not. Every sample may be 0.
+fn choose(there: bool, v: u16, other: u16) -> u16
+    ensures { λ r. ⌜ r ≡ cond there v other ⌝ }
+{
+    if there { v } else { other }
+}
+
 // The line in the end: each missing place takes the one before it, the places before the first take that one.
 fn settle(
     left: &[u16; 65],
@@ -132,9 +139,9 @@ fn settle(
     let mut carried = sample_on(left, corner, above, e, found);
     let mut p = 0;
     while p < total {
-        if flag_on(has_left, has_corner, has_above, e, p) {
-            carried = sample_on(left, corner, above, e, p);
-        }
+        let there = flag_on(has_left, has_corner, has_above, e, p);
+        let v = sample_on(left, corner, above, e, p);
+        carried = choose(there, v, carried);
         vals[p] = carried;
         p += 1;
     }
@@ -282,10 +289,10 @@ fn spot_of(width: usize, row: usize, col: usize) -> Spot
     }
 }
 
-// Entries 0 to e of an edge: the first `have` out of the plane, each `step` samples further, the others `rest`; 0 past them.
-fn edge(plane: &[u16], at: usize, step: usize, have: usize, e: usize, rest: u16) -> [u16; 65]
-    requires { ⌜ (have ≤ e + 1) × (e ≤ 64) × ((i : ℕ) → i < have → at + i * step < length (now plane)) ⌝ }
-    ensures { λ r. ⌜ r ≡ edgeOf e have (onEdge (now (plane .entry)) at step) rest ⌝ }
+// The first `count` entries of an edge: `have` of them out of the plane, each `step` samples further, the others `rest`; 0 past them.
+fn edge(plane: &[u16], at: usize, step: usize, have: usize, count: usize, rest: u16) -> [u16; 65]
+    requires { ⌜ (have ≤ count) × (count ≤ 65) × ((i : ℕ) → i < have → at + i * step < length (now plane)) ⌝ }
+    ensures { λ r. ⌜ r ≡ edgeOf count have (onEdge (now (plane .entry)) at step) rest ⌝ }
 {
     let mut out = [0u16; 65];
     let mut i = 0;
@@ -293,7 +300,7 @@ fn edge(plane: &[u16], at: usize, step: usize, have: usize, e: usize, rest: u16)
         out[i] = plane[at + i * step];
         i += 1;
     }
-    while i <= e {
+    while i < count {
         out[i] = rest;
         i += 1;
     }
@@ -349,10 +356,10 @@ fn rest_of(plane: &[u16], s: Spot, r: Reach, n: usize, corner: u16) -> u16
 // A plane's two rows, above and left.
 fn two_rows(plane: &[u16], s: Spot, r: Reach, n: usize, rest: u16, start: u16) -> [[u16; 65]; 2]
     requires { ⌜ Reads r s (length (now plane)) n ⌝ }
-    ensures { λ v. ⌜ v ≡ edgeOf (2 * n) (r .above) (aboveOn (now (plane .entry)) s) rest ∷ edgeOf (2 * n) (r .left) (leftOn (now (plane .entry)) s) start ∷ [] ⌝ }
+    ensures { λ v. ⌜ v ≡ edgeOf (2 * n + 1) (r .above) (aboveOn (now (plane .entry)) s) rest ∷ edgeOf (2 * n + 1) (r .left) (leftOn (now (plane .entry)) s) start ∷ [] ⌝ }
 {
-    let above = edge(plane, s.above, 1, r.above, 2 * n, rest);
-    let left = edge(plane, s.left, s.width, r.left, 2 * n, start);
+    let above = edge(plane, s.above, 1, r.above, 2 * n + 1, rest);
+    let left = edge(plane, s.left, s.width, r.left, 2 * n + 1, start);
     [above, left]
 }
 

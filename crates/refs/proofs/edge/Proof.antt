@@ -17,18 +17,18 @@ use Rattle.refs.proofs.edge.Reads as reads
 use Rattle.refs.proofs.edge.Lts as lts
 
 abbrev Inv-loop : tie.InvT-loop
-Inv-loop plane at step have e rest out₀ i₀ out i =
+Inv-loop plane at step have count rest out₀ i₀ out i =
     (i ≤ have) × (out ≡ fill (λ (j : ℕ). cond (ltb j have) (getD plane (at + j * step) 0) rest) i (replicate 65 0))
 
 abbrev μ-loop : tie.MeasureT-loop
-μ-loop plane at step have e rest out₀ i₀ out i = have - i
+μ-loop plane at step have count rest out₀ i₀ out i = have - i
 
 abbrev Inv-loop2 : tie.InvT-loop2
-Inv-loop2 plane at step have e rest out₀ i₀ out i =
-    (have ≤ i) × (i ≤ e + 1) × (out ≡ fill (λ (j : ℕ). cond (ltb j have) (getD plane (at + j * step) 0) rest) i (replicate 65 0))
+Inv-loop2 plane at step have count rest out₀ i₀ out i =
+    (have ≤ i) × (i ≤ count) × (out ≡ fill (λ (j : ℕ). cond (ltb j have) (getD plane (at + j * step) 0) rest) i (replicate 65 0))
 
 abbrev μ-loop2 : tie.MeasureT-loop2
-μ-loop2 plane at step have e rest out₀ i₀ out i = e + 1 - i
+μ-loop2 plane at step have count rest out₀ i₀ out i = count - i
 
 -- src/lib.rt:82:5
 loop-holds : tie.Need-loop-holds Inv-loop μ-loop Inv-loop2 μ-loop2

@@ -1,7 +1,6 @@
 -- The line in the end: what is carried along it. Assumes nothing.
-use mathlib.Core.Path.{_≡_, sym, _∙_}
+use mathlib.Core.Path.{_≡_, _∙_}
 use mathlib.Core.Bool.{Bool, false}
-use mathlib.Core.Logic.{⊎-elim}
 use denote.Ref.{now}
 use Prim.Native.Nat.{ℕ, _+_, _-_, _≤_}
 use native.Mathlib.Omega.{arith}
@@ -10,11 +9,12 @@ use borrow.Author.Needs.{needs}
 use Rattle.laws.specs.Fill.{fill}
 use Rattle.laws.specs.FillLaws.{fill-none, fill-more, fill-done}
 use Rattle.h265.specs.Substitution.{settled}
-use Rattle.refs.specs.Line.{lineOf, carriedTo, carried-start, carried-on, carried-here, carried-gap}
+use Rattle.refs.specs.Line.{lineOf, carriedTo, carried-start, carried-on, carried-next}
 use Rattle.refs.proofs.settle.Statement.{statement}
 use Rattle.refs.proofs.settle.Tie as tie
 use Rattle.refs.proofs.settle.Reads as reads
 use Rattle.refs.proofs.settle.Lts as lts
+use Rattle.refs.proofs.choose.Reads as choose-reads
 use Rattle.refs.proofs.flag_on.Reads as flag-on-reads
 use Rattle.refs.proofs.sample_on.Reads as sample-on-reads
 
@@ -35,60 +35,61 @@ abbrev marks-on : tie.Start Inv-loop μ-loop → ℕ → Bool
 marks-on c = lineOf false (now (c .args .has-left)) (c .args .has-corner) (now (c .args .has-above)) (c .args .e)
 
 -- what is carried past a place
-carry-next : (c : tie.Joined1 Inv-loop μ-loop) → let s = c .before .before .before .before .before in c .if1 .carried ≡ carriedTo (marks-on s) (vals-on s) (s .args .found) (c .before .before .before .loop .p + 1)
+carry-next : (c : tie.After-choose Inv-loop μ-loop) → let s = c .before .before .before .before .before .before in c .choose .result ≡ carriedTo (marks-on s) (vals-on s) (s .args .found) (c .before .before .before .before .loop .p + 1)
 carry-next c =
-    let k = c .before .before .before .loop in
-    let g = sym (c .before .flag-on .ensures) in
-    ⊎-elim
-    (λ w. w .2 ∙ w .1 .ensures ∙ carried-here _ _ _ (k .p) (g ∙ w .0 .taken))
-    (λ w. w .1 ∙ k .inv .1 .0 ∙ carried-gap _ _ _ (k .p) (g ∙ w .0 .left))
-    (c .if1 .came)
+    let k = c .before .before .before .before .loop in
+    let s = c .before .before .before .before .before .before in
+    carried-next (marks-on s) (vals-on s) (s .args .found) (k .p) (c .before .before .flag-on .ensures) (c .before .sample-on2 .ensures) (k .inv .1 .0) (c .choose .ensures)
 
--- src/lib.rt:122:17
+-- src/lib.rt:137:17
 mul-total : tie.Need-mul-total Inv-loop μ-loop
 mul-total c = search needs
 
--- src/lib.rt:122:17
+-- src/lib.rt:137:17
 add-total : tie.Need-add-total Inv-loop μ-loop
 add-total c = search needs
 
--- src/lib.rt:124:9
+-- src/lib.rt:139:9
 sample-on-requires : tie.Need-sample-on-requires Inv-loop μ-loop
 sample-on-requires c κs = search needs
 
--- src/lib.rt:126:5
+-- src/lib.rt:141:5
 loop-holds : tie.Need-loop-holds Inv-loop μ-loop
 loop-holds c = (omega arith, (c .sample-on .ensures ∙ carried-start _ _ _, fill-none _ _))
 
--- src/lib.rt:127:12
+-- src/lib.rt:142:13
 flag-on-requires : tie.Need-flag-on-requires Inv-loop μ-loop
 flag-on-requires c κs = search needs
 
--- src/lib.rt:128:13
+-- src/lib.rt:143:13
 sample-on-requires-2 : tie.Need-sample-on-requires-2 Inv-loop μ-loop
 sample-on-requires-2 c κs = search needs
 
--- src/lib.rt:130:9
+-- src/lib.rt:144:9
+choose-requires : tie.Need-choose-requires Inv-loop μ-loop
+choose-requires c κs = search needs
+
+-- src/lib.rt:145:9
 mul-vals : tie.Need-mul-vals Inv-loop μ-loop
 mul-vals c = search needs
 
--- src/lib.rt:130:9
+-- src/lib.rt:145:9
 array-write-vals : tie.Need-array-write-vals Inv-loop μ-loop
 array-write-vals c = search needs
 
--- src/lib.rt:131:9
+-- src/lib.rt:146:9
 add-p : tie.Need-add-p Inv-loop μ-loop
 add-p c = search needs
 
--- src/lib.rt:126:5
+-- src/lib.rt:141:5
 loop-less : tie.Need-loop-less Inv-loop μ-loop
 loop-less c = search needs
 
--- src/lib.rt:126:5
+-- src/lib.rt:141:5
 loop-again : tie.Need-loop-again Inv-loop μ-loop
-loop-again c = (omega arith, (carry-next c, fill-more _ _ (c .before .before .before .loop .inv .1 .1) (carry-next c ∙ carried-on _ _ _ _)))
+loop-again c = (omega arith, (carry-next c, fill-more _ _ (c .before .before .before .before .loop .inv .1 .1) (carry-next c ∙ carried-on _ _ _ _)))
 
--- src/lib.rt:109:1
+-- src/lib.rt:124:1
 returns : tie.Need-returns Inv-loop μ-loop
 returns c = fill-done _ _ (c .before .loop .inv .0) (c .loop-test .left) (c .before .loop .inv .1 .1)
 
@@ -104,6 +105,7 @@ settle-spec =
     loop-holds
     flag-on-requires
     sample-on-requires-2
+    choose-requires
     mul-vals
     array-write-vals
     add-p
