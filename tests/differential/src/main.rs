@@ -1,17 +1,23 @@
 //! Runs the proved code beside the Rust that it was carried over from, and compares every answer.
 //!
 //! `differential -- HOST..` runs every subject and ends with status 1 where an answer differs.
-//! `differential list -- HOST..` writes the fixed list of the Rust's answers that the replay crates hold.
+//! `differential list -- HOST..` writes the fixed lists of the Rust's answers that the replay crates hold.
 //! `differential demo -- HOST..` prints the decode order of a small picture.
 //!
 //! A subject is a module with one function that makes calls through a `Tally`. To add one: write src/NAME.rs, add its line
 //! to SUBJECTS, and add the entries that it calls to entries.txt.
 mod demo;
+mod differences;
 mod fmt;
 mod host;
 mod list;
+mod list_predict;
 mod order;
+mod predict;
 mod random;
+mod residual;
+mod samples;
+mod smooth;
 mod table;
 mod tally;
 
@@ -33,6 +39,13 @@ const SUBJECTS: &[(&str, Subject)] = &[
     ("order", order::order),
     ("availability", order::availability),
     ("differences", order::differences),
+    ("rule", smooth::rule),
+    ("smoothing", smooth::smoothing),
+    ("planar and DC", predict::flat),
+    ("angular", predict::angular),
+    ("residual", residual::residual),
+    ("reconstruction", residual::reconstruction),
+    ("differences in prediction", differences::prediction),
 ];
 
 fn main() -> ExitCode {
@@ -40,7 +53,10 @@ fn main() -> ExitCode {
     let cut = words.iter().position(|w| w == "--").expect("usage: differential [list | demo] -- HOST..");
     let mut host = Host::start(&words[cut + 1..]);
     match words[..cut].first().map(String::as_str) {
-        Some("list") => list::write(),
+        Some("list") => {
+            list::write();
+            list_predict::write();
+        }
         Some("demo") => demo::print(&mut host),
         Some(other) => panic!("no such command: {other}"),
         None => return compare(&mut host),
