@@ -52,6 +52,16 @@ in-quot : (n a v : ℕ) → 0 < n → a % n ≡ 0 → v / n ≡ a / n → (a ≤
 in-quot n a v pos e q =
     omega (arith, div-add-mod' a n, div-add-mod' v n, mod-lt v pos, ap (λ (u : ℕ). u * n) q)
 
+-- a block's residuals end where a later block's begin, or before
+pub place-up : (plan : ℕ → Block) (i k : ℕ) → i < k → place plan i + plan i .side * plan i .side ≤ place plan k
+unfolding place
+place-up plan i zero h = absurd (omega arith)
+place-up plan i (suc k) h =
+    ⊎-elim
+    (λ e. let q = ap (λ (j : ℕ). place plan j + plan j .side * plan j .side) e in omega arith)
+    (λ l. omega (arith, place-up plan i k l))
+    (eq-or-lt-of-le (le-of-suc-le-suc h))
+
 -- a block's samples are a run of numbers, and so of counts
 module _ {f : Frame} (g : Good (pictureOf f)) (b : Block) (p : Placed f b) where
   v : Level (deep f) (b .side)
@@ -273,3 +283,7 @@ module _ {f : Frame} (g : Good (pictureOf f)) where
     -- and the residuals fill the picture
     pub area : (count : ℕ) → GoodPlan f plan count → place plan count ≡ f .height * f .width
     area count x = good-plan count .1 x .1
+
+    -- block by block, within the picture's samples
+    pub place-in : (count k : ℕ) → GoodPlan f plan count → k < count → place plan k + plan k .side * plan k .side ≤ f .height * f .width
+    place-in count k x l = omega (arith, place-up plan k count l, area count x)
