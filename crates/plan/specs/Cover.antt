@@ -1,8 +1,8 @@
 -- The running count decides exactly whether a plan is good, block by block: the blocks so far cover the samples with fewer
 -- samples ahead of them than these blocks hold. Assumes nothing.
-use mathlib.Core.Path.{_≡_, refl, sym, ap, ap₂, _∙_, subst}
-use mathlib.Core.Bool.{Bool, true, false, _&&_}
-use mathlib.Core.Logic.{_⊎_, _↔_, ⊎-elim}
+use mathlib.Core.Path.{_≡_, refl, sym, ap, _∙_, subst}
+use mathlib.Core.Bool.{true}
+use mathlib.Core.Logic.{_↔_, ⊎-elim}
 use Prim.Native.Nat.{ℕ, zero, suc, _+_, _-_, _*_, _/_, _%_, _^_, _≤_, _<_}
 use native.Mathlib.Nat.{pow-le-pow-right, div-lt-iff-lt-mul, div-eq-of-lt-le, div-add-mod', mod-lt, eq-or-lt-of-le, le-of-suc-le-suc}
 use native.Mathlib.Omega.{arith}
@@ -19,8 +19,7 @@ use Rattle.plan.specs.Plan.{pictureOf, In, cellAt, Of, Covered, Placed, 
 use Rattle.plan.specs.Check.{ahead}
 use Rattle.plan.specs.Cell.{rowOf, colOf, col-of-lt}
 use Rattle.plan.specs.Count.{cnt, cnt-all, cnt-mono, cnt-up, cnt-meets, from-start}
-use Rattle.plan.specs.Area.{deep, across, inside, numbers, w-pos, num-inside, num-lt, is-num, inside-num, picture-area, cnt-most}
-use Rattle.plan.specs.Ahead.{ahead-is}
+use Rattle.plan.specs.Area.{deep, across, inside, numbers, w-pos, num-inside, num-lt, is-num, inside-num, picture-area, cnt-most, ahead-is}
 
 -- the cells of a block of side n
 abbrev cells : ℕ → ℕ

@@ -8,11 +8,10 @@ pub mod Next
 pub mod Tests
 pub mod Cover
 pub mod Verdict
--- The cells counted: the cell that has a number, counts, the picture's cells, and those before a cell by its bits.
+-- The cells counted: the cell that has a number, counts, and the picture's cells.
 pub mod Cell
 pub mod Count
 pub mod Area
-pub mod Ahead
 -- The loops' turns, and small verdicts.
 pub mod Steps
 pub mod Figures
