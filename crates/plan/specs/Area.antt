@@ -106,29 +106,29 @@ module _ {f : Frame} (g : Good (pictureOf f)) where
       let b = both-true (ltb (4 * rowOf k w m) (f .height)) (ltb (4 * colOf k w m) (f .width)) e in
       (4 * rowOf k w m, 4 * colOf k w m, (ltb-true _ _ (b .0), ltb-true _ _ (b .1)), is-num m)
 
-  one-cell : (Y X : ℕ) → X < w * 2 ^ k → cnt p (cellNo k w Y X) 1 ≡ part 1 (H) Y * part 1 (W) X
+  one-cell : (Y X : ℕ) → X < w * 2 ^ k → cnt p (cellNo k w Y X) 1 ≡ part 1 H Y * part 1 W X
   unfolding cnt inside
   one-cell Y X h =
       let z = of-cell k w {y = Y} {x = X} (w-pos) h in
       rw (z .0, z .1) (go (decLt (4 * Y) (f .height)) (decLt (4 * X) (f .width)))
     where
-      go : Dec (4 * Y < f .height) → Dec (4 * X < f .width) → cond (ltb (4 * Y) (f .height) && ltb (4 * X) (f .width)) 1 0 + 0 ≡ part 1 (H) Y * part 1 (W) X
+      go : Dec (4 * Y < f .height) → Dec (4 * X < f .width) → cond (ltb (4 * Y) (f .height) && ltb (4 * X) (f .width)) 1 0 + 0 ≡ part 1 H Y * part 1 W X
       go (yes l) (yes m) =
-          let y : part 1 (H) Y ≡ 1 = omega (arith, g .tall .whole) in
-          let x : part 1 (W) X ≡ 1 = omega (arith, g .wide .whole) in
+          let y : part 1 H Y ≡ 1 = omega (arith, g .tall .whole) in
+          let x : part 1 W X ≡ 1 = omega (arith, g .wide .whole) in
           rw (lt-ltb (4 * Y) (f .height) l, lt-ltb (4 * X) (f .width) m, y, x)
       go (yes l) (no m) =
-          let x : part 1 (W) X ≡ 0 = omega (arith, g .wide .whole) in
+          let x : part 1 W X ≡ 0 = omega (arith, g .wide .whole) in
           simp (lt-ltb (4 * Y) (f .height) l, le-ltb (4 * X) (f .width) (omega arith), x) (omega arith)
       go (no l) _ =
-          let y : part 1 (H) Y ≡ 0 = omega (arith, g .tall .whole) in
+          let y : part 1 H Y ≡ 0 = omega (arith, g .tall .whole) in
           simp (le-ltb (4 * Y) (f .height) (omega arith), y) (omega arith)
 
   -- a block of 2^j by 2^j cells has the cells that lie in the picture
-  block-cells : (j m Y X : ℕ) → j + m ≡ k → X < w * 2 ^ m → cnt p (cellNo m w Y X * 4 ^ j) (4 ^ j) ≡ part (2 ^ j) (H) Y * part (2 ^ j) (W) X
+  block-cells : (j m Y X : ℕ) → j + m ≡ k → X < w * 2 ^ m → cnt p (cellNo m w Y X * 4 ^ j) (4 ^ j) ≡ part (2 ^ j) H Y * part (2 ^ j) W X
   block-cells zero m Y X e h =
       let z : m ≡ k = omega arith in
-      subst (λ (u : ℕ). X < w * 2 ^ u → cnt p (cellNo u w Y X * 1) 1 ≡ part 1 (H) Y * part 1 (W) X) (sym z) (λ l. rw mul-one (one-cell Y X l)) h
+      subst (λ (u : ℕ). X < w * 2 ^ u → cnt p (cellNo u w Y X * 1) 1 ≡ part 1 H Y * part 1 W X) (sym z) (λ l. rw mul-one (one-cell Y X l)) h
   block-cells (suc j) m Y X e h =
       let q = cellNo m w Y X in
       let at : (a b : ℕ) → a < 2 → b < 2 → cnt p ((4 * q + (2 * a + b)) * 4 ^ j) (4 ^ j) ≡ part (2 ^ j) H (2 * Y + a) * part (2 ^ j) W (2 * X + b)
@@ -138,25 +138,25 @@ module _ {f : Frame} (g : Good (pictureOf f)) where
       (halves (2 ^ j) (2 ^ suc j) H Y (omega (arith, dbl 1 j))) (halves (2 ^ j) (2 ^ suc j) W X (omega (arith, dbl 1 j)))
 
   -- the CTUs of a row up to X, and the rows of CTUs up to Y
-  row-cells : (Y X : ℕ) → X ≤ w → cnt p (Y * w * 4 ^ k) (X * 4 ^ k) ≡ part (2 ^ k) (H) Y * min (X * 2 ^ k) (W)
+  row-cells : (Y X : ℕ) → X ≤ w → cnt p (Y * w * 4 ^ k) (X * 4 ^ k) ≡ part (2 ^ k) H Y * min (X * 2 ^ k) W
   row-cells Y zero h =
-      let z : min (0 * 2 ^ k) (W) ≡ 0 = omega arith in
-      cnt-zero p (Y * w * 4 ^ k) (0 * 4 ^ k) (omega arith) ∙ sym (ap (λ (u : ℕ). part (2 ^ k) (H) Y * u) z ∙ omega arith)
+      let z : min (0 * 2 ^ k) W ≡ 0 = omega arith in
+      cnt-zero p (Y * w * 4 ^ k) (0 * 4 ^ k) (omega arith) ∙ sym (ap (λ (u : ℕ). part (2 ^ k) H Y * u) z ∙ omega arith)
   row-cells Y (suc X) h =
       let more = ap (cnt p (Y * w * 4 ^ k)) (let e : suc X * 4 ^ k ≡ X * 4 ^ k + 4 ^ k = omega arith in e) ∙ cnt-add p (Y * w * 4 ^ k) (X * 4 ^ k) (4 ^ k) in
       let at = ap (λ (u : ℕ). cnt p u (4 ^ k)) (let e : Y * w * 4 ^ k + X * 4 ^ k ≡ cellNo 0 w Y X * 4 ^ k = omega (arith, ap (λ (u : ℕ). u * 4 ^ k) (cell-top w Y X)) in e) in
-      two _ _ _ (part (2 ^ k) (H) Y) (min (X * 2 ^ k) (W)) (part (2 ^ k) (W) X) _ more
+      two _ _ _ (part (2 ^ k) H Y) (min (X * 2 ^ k) W) (part (2 ^ k) W X) _ more
       (row-cells Y X (omega arith)) (at ∙ block-cells k 0 Y X (omega arith) (omega arith)) (omega arith)
 
-  all-cells : (Y : ℕ) → cnt p 0 (Y * w * 4 ^ k) ≡ W * min (Y * 2 ^ k) (H)
+  all-cells : (Y : ℕ) → cnt p 0 (Y * w * 4 ^ k) ≡ W * min (Y * 2 ^ k) H
   all-cells zero =
-      let z : min (0 * 2 ^ k) (H) ≡ 0 = omega arith in
+      let z : min (0 * 2 ^ k) H ≡ 0 = omega arith in
       cnt-zero p 0 (0 * w * 4 ^ k) (omega arith) ∙ sym (ap (λ (u : ℕ). W * u) z ∙ omega arith)
   all-cells (suc Y) =
       let more = ap (cnt p 0) (let e : suc Y * w * 4 ^ k ≡ Y * w * 4 ^ k + w * 4 ^ k = omega arith in e) ∙ cnt-add p 0 (Y * w * 4 ^ k) (w * 4 ^ k) in
-      let wide : min (w * 2 ^ k) (W) ≡ W = omega (arith, ctus-cover g .0, ap (λ (u : ℕ). w * u) (sized g .split)) in
-      let row = ap (λ (u : ℕ). cnt p u (w * 4 ^ k)) (zero-add (Y * w * 4 ^ k)) ∙ row-cells Y w (omega arith) ∙ ap (λ (u : ℕ). part (2 ^ k) (H) Y * u) wide ∙ mul-comm (part (2 ^ k) (H) Y) (W) in
-      two _ _ _ (W) (min (Y * 2 ^ k) (H)) (part (2 ^ k) (H) Y) _ more (all-cells Y) row (omega arith)
+      let wide : min (w * 2 ^ k) W ≡ W = omega (arith, ctus-cover g .0, ap (λ (u : ℕ). w * u) (sized g .split)) in
+      let row = ap (λ (u : ℕ). cnt p u (w * 4 ^ k)) (zero-add (Y * w * 4 ^ k)) ∙ row-cells Y w (omega arith) ∙ ap (λ (u : ℕ). part (2 ^ k) H Y * u) wide ∙ mul-comm (part (2 ^ k) H Y) W in
+      two _ _ _ W (min (Y * 2 ^ k) H) (part (2 ^ k) H Y) _ more (all-cells Y) row (omega arith)
 
   pub picture-area : f .height * f .width ≡ 16 * cnt p 0 (numbers f)
   unfolding numbers

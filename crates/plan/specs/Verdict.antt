@@ -88,7 +88,7 @@ module _ (f : Frame) (plan : ℕ → Block) (g : Good (pictureOf f)) where
       at = record { no = n; block = k }
 
   -- the verdict on m blocks from block k on, where those before it are found fine
-  pub told-from : (count m k : ℕ) → k + m ≡ count → Found k → Told f plan count (verdictFrom f plan m k (place plan k))
+  told-from : (count m k : ℕ) → k + m ≡ count → Found k → Told f plan count (verdictFrom f plan m k (place plan k))
   unfolding verdictFrom place
   told-from count zero k e h = go (ℕ-discrete (place plan k) (f .height * f .width))
     where
