@@ -1,7 +1,7 @@
 -- How many of a run of numbers hold, and how much of a piece lies below a limit: what the counting of cells goes by. Assumes nothing.
-use mathlib.Core.Path.{_≡_, refl, sym, ap, ap₂, _∙_, subst}
+use mathlib.Core.Path.{_≡_, refl, ap, ap₂, _∙_}
 use mathlib.Core.Bool.{Bool, true, false, cond}
-use Prim.Native.Nat.{ℕ, zero, suc, _+_, _-_, _*_, _/_, _%_, _^_, _≤_, _<_, min}
+use Prim.Native.Nat.{ℕ, zero, suc, _+_, _-_, _*_, _≤_, _<_, min}
 use native.Mathlib.Nat.{zero-add, add-zero, suc-add}
 use native.Mathlib.Omega.{arith}
 use native.Mathlib.Decide.{decLt}
@@ -11,20 +11,11 @@ unfoldable pub cnt : (ℕ → Bool) → ℕ → ℕ → ℕ
 cnt p a zero = 0
 cnt p a (suc n) = cond (p a) 1 0 + cnt p (suc a) n
 
-one : (b : Bool) → cond b 1 0 ≤ 1
-one true = omega arith
-one false = omega arith
-
 module _ (p : ℕ → Bool) where
   pub cnt-add : (a m n : ℕ) → cnt p a (m + n) ≡ cnt p a m + cnt p (a + m) n
   unfolding cnt
   cnt-add a zero n = rw (zero-add n, add-zero a) (omega arith)
   cnt-add a (suc m) n = rw (suc-add m n) (omega (arith, cnt-add (suc a) m n, ap (λ (u : ℕ). cnt p u n) (let e : suc a + m ≡ a + suc m = omega arith in e)))
-
-  pub cnt-le : (a n : ℕ) → cnt p a n ≤ n
-  unfolding cnt
-  cnt-le a zero = omega arith
-  cnt-le a (suc n) = omega (arith, cnt-le (suc a) n, one (p a))
 
   pub cnt-all : (a n : ℕ) → ((i : ℕ) → a ≤ i → i < a + n → p i ≡ true) → cnt p a n ≡ n
   unfolding cnt

@@ -1,8 +1,8 @@
 -- The running count decides exactly whether a plan is good, block by block: the blocks so far cover the samples with fewer
 -- samples ahead of them than these blocks hold. Assumes nothing.
-use mathlib.Core.Path.{_≡_, refl, sym, ap, ap₂, _∙_, subst}
-use mathlib.Core.Bool.{Bool, true, false, _&&_}
-use mathlib.Core.Logic.{_⊎_, _↔_, ⊎-elim}
+use mathlib.Core.Path.{_≡_, refl, sym, ap, _∙_, subst}
+use mathlib.Core.Bool.{true}
+use mathlib.Core.Logic.{_↔_, ⊎-elim}
 use Prim.Native.Nat.{ℕ, zero, suc, _+_, _-_, _*_, _/_, _%_, _^_, _≤_, _<_}
 use native.Mathlib.Nat.{pow-le-pow-right, div-lt-iff-lt-mul, div-eq-of-lt-le, div-add-mod', mod-lt, eq-or-lt-of-le, le-of-suc-le-suc}
 use native.Mathlib.Omega.{arith}
@@ -19,8 +19,7 @@ use Rattle.plan.specs.Plan.{pictureOf, In, cellAt, Of, Covered, Placed, 
 use Rattle.plan.specs.Check.{ahead}
 use Rattle.plan.specs.Cell.{rowOf, colOf, col-of-lt}
 use Rattle.plan.specs.Count.{cnt, cnt-all, cnt-mono, cnt-up, cnt-meets, from-start}
-use Rattle.plan.specs.Area.{deep, across, inside, numbers, w-pos, num-inside, num-lt, is-num, inside-num, picture-area, cnt-most}
-use Rattle.plan.specs.Ahead.{ahead-is}
+use Rattle.plan.specs.Area.{deep, across, inside, numbers, w-pos, num-inside, num-lt, is-num, inside-num, picture-area, cnt-most, ahead-is}
 
 -- the cells of a block of side n
 abbrev cells : ℕ → ℕ
@@ -51,6 +50,16 @@ quot-in n a v e l h = div-eq-of-lt-le {k = a / n} n {m = v} (omega (arith, div-a
 in-quot : (n a v : ℕ) → 0 < n → a % n ≡ 0 → v / n ≡ a / n → (a ≤ v) × (v < a + n)
 in-quot n a v pos e q =
     omega (arith, div-add-mod' a n, div-add-mod' v n, mod-lt v pos, ap (λ (u : ℕ). u * n) q)
+
+-- a block's residuals end where a later block's begin, or before
+pub place-up : (plan : ℕ → Block) (i k : ℕ) → i < k → place plan i + plan i .side * plan i .side ≤ place plan k
+unfolding place
+place-up plan i zero h = absurd (omega arith)
+place-up plan i (suc k) h =
+    ⊎-elim
+    (λ e. let q = ap (λ (j : ℕ). place plan j + plan j .side * plan j .side) e in omega arith)
+    (λ l. omega (arith, place-up plan i k l))
+    (eq-or-lt-of-le (le-of-suc-le-suc h))
 
 -- a block's samples are a run of numbers, and so of counts
 module _ {f : Frame} (g : Good (pictureOf f)) (b : Block) (p : Placed f b) where
@@ -273,3 +282,7 @@ module _ {f : Frame} (g : Good (pictureOf f)) where
     -- and the residuals fill the picture
     pub area : (count : ℕ) → GoodPlan f plan count → place plan count ≡ f .height * f .width
     area count x = good-plan count .1 x .1
+
+    -- block by block, within the picture's samples
+    pub place-in : (count k : ℕ) → GoodPlan f plan count → k < count → place plan k + plan k .side * plan k .side ≤ f .height * f .width
+    place-in count k x l = omega (arith, place-up plan k count l, area count x)

@@ -1,6 +1,6 @@
 -- The turns of the plan check's loops. Assumes nothing.
-use mathlib.Core.Path.{_≡_, refl, sym, ap, ap₂, _∙_, subst}
-use mathlib.Core.Bool.{Bool, true, false, cond}
+use mathlib.Core.Path.{_≡_, refl, sym, ap, ap₂, _∙_}
+use mathlib.Core.Bool.{Bool, cond}
 use Prim.Native.Nat.{ℕ, zero, suc, _+_, _-_, _*_, _/_, _%_, _^_, _≤_, _<_, min}
 use native.Mathlib.Nat.{mul-le-mul-left, mul-le-mul-right, mul-le-mul, pow-le-pow-right}
 use native.Mathlib.Numerals.{sub-one}
@@ -16,7 +16,7 @@ use Rattle.order.specs.Good.{Good, sized}
 use Rattle.plan.specs.declared.Frame.{Frame}
 use Rattle.plan.specs.declared.Block.{Block}
 use Rattle.plan.specs.declared.Verdict.{Verdict}
-use Rattle.plan.specs.Plan.{pictureOf, In, Placed}
+use Rattle.plan.specs.Plan.{pictureOf, In}
 use Rattle.plan.specs.Check.{aheadBy, ahead, blockNo, verdictFrom}
 use Rattle.plan.specs.Tests.{Numbered, is-fine, not-size, not-mode, not-placed, not-next, numbered}
 use Rattle.plan.specs.Cover.{ahead-lt, block-area}

@@ -6,7 +6,7 @@ use mathlib.Core.Logic.{_↔_, ⊎-elim}
 use mathlib.Core.List.{List}
 use Prim.Native.Nat.{ℕ, zero, suc, _+_, _*_, _≤_, _<_}
 use native.Mathlib.Omega.{arith}
-use native.Mathlib.Decide.{decLt, ℕ-discrete}
+use native.Mathlib.Decide.{ℕ-discrete}
 use native.Mathlib.Nat.{eq-or-lt-of-le, le-of-suc-le-suc}
 use lib.Dec.{eqb}
 use lib.ListN.{length}
@@ -21,7 +21,7 @@ use Rattle.plan.specs.declared.Verdict.{Verdict}
 use Rattle.plan.specs.Plan.{pictureOf, planOf, In, Covered, Placed, Next, GoodPlan, place}
 use Rattle.plan.specs.Check.{ahead, blockNo, verdictFrom, planVerdict}
 use Rattle.plan.specs.Tests.{picture-good, good-picture, Numbered, is-fine, not-size, not-mode, not-placed, not-next, numbered}
-use Rattle.plan.specs.Cover.{Checked, refusal-9, refusal-10, gap, good-plan}
+use Rattle.plan.specs.Cover.{Checked, refusal-9, gap, good-plan}
 
 -- the modes of the first n blocks are modes
 abbrev pub Modes : (ℕ → Block) → ℕ → Type 0
@@ -88,7 +88,7 @@ module _ (f : Frame) (plan : ℕ → Block) (g : Good (pictureOf f)) where
       at = record { no = n; block = k }
 
   -- the verdict on m blocks from block k on, where those before it are found fine
-  pub told-from : (count m k : ℕ) → k + m ≡ count → Found k → Told f plan count (verdictFrom f plan m k (place plan k))
+  told-from : (count m k : ℕ) → k + m ≡ count → Found k → Told f plan count (verdictFrom f plan m k (place plan k))
   unfolding verdictFrom place
   told-from count zero k e h = go (ℕ-discrete (place plan k) (f .height * f .width))
     where

@@ -2,6 +2,7 @@
 // Rests on the decode order's definitions and on the domain's tests.
 ghost use mathlib.Core.Path.{_≡_};
 ghost use Prim.Native.Nat.{ℕ, min, _+_, _-_, _*_, _/_, _%_, _^_, _≤_, _<_};
+ghost use mathlib.Core.Bool.{_&&_};
 ghost use lib.Dec.{eqb};
 ghost use lib.ListN.{length};
 ghost use Rattle.h265.specs.Notation.{log2};
@@ -96,16 +97,16 @@ fn starts_next(f: Frame, row: usize, col: usize, covered: usize) -> bool
     16 * cells_ahead(h, w, m, row / 4, col / 4) == covered
 }
 
-// Whether a number is a multiple of a block's side.
-fn multiple(v: usize, n: usize) -> bool
+// Whether a place is at a multiple of a block's side, down and across.
+fn aligned(row: usize, col: usize, n: usize) -> bool
     requires { ⌜ Size n ⌝ }
-    ensures { λ r. ⌜ r ≡ eqb (v % n) 0 ⌝ }
+    ensures { λ r. ⌜ r ≡ (eqb (row % n) 0 && eqb (col % n) 0) ⌝ }
 {
     match n {
-        4 => v % 4 == 0,
-        8 => v % 8 == 0,
-        16 => v % 16 == 0,
-        _ => v % 32 == 0,
+        4 => (row % 4 == 0) & (col % 4 == 0),
+        8 => (row % 8 == 0) & (col % 8 == 0),
+        16 => (row % 16 == 0) & (col % 16 == 0),
+        _ => (row % 32 == 0) & (col % 32 == 0),
     }
 }
 
@@ -117,7 +118,7 @@ fn placed_ok(f: Frame, b: Block) -> bool
     let n = b.side as usize;
     let row = b.row as usize;
     let col = b.col as usize;
-    let at = multiple(row, n) & multiple(col, n);
+    let at = aligned(row, col, n);
     at & (row + n <= (f.height as usize)) & (col + n <= (f.width as usize)) & (b.side <= f.ctu)
 }
 

@@ -1,6 +1,6 @@
 -- `plan::cells_ahead` meets its contract: each turn adds what one halving leaves before the cell.
-use mathlib.Core.Path.{_≡_, _∙_, ap, ap₂, sym}
-use Prim.Native.Nat.{ℕ, min, _+_, _-_, _*_, _/_, _%_, _≤_, _<_}
+use mathlib.Core.Path.{_≡_, _∙_, ap}
+use Prim.Native.Nat.{ℕ, min, _+_, _-_, _*_, _/_, _%_, _≤_}
 use native.Mathlib.Omega.{arith}
 use borrow.Author.Needs.{needs}
 use Rattle.plan.specs.Check.{aheadBy}

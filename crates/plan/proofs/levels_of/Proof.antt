@@ -1,7 +1,7 @@
 -- `plan::levels_of` meets its contract: at each CTU the logarithm computes.
-use mathlib.Core.Path.{_≡_, refl}
+use mathlib.Core.Path.{_≡_}
 use mathlib.Core.Logic.{⊎-elim}
-use Rattle.h265.specs.Notation.{log2, halvings}
+use Rattle.h265.specs.Notation.{halvings}
 use Rattle.plan.proofs.levels_of.Statement.{statement}
 use Rattle.plan.proofs.levels_of.Tie as tie
 

@@ -12,11 +12,8 @@ cast-row c = search needs
 cast-col : tie.Need-cast-col
 cast-col c = search needs
 
-multiple-requires : tie.Need-multiple-requires
-multiple-requires c κs = search needs
-
-multiple-requires-2 : tie.Need-multiple-requires-2
-multiple-requires-2 c κs = search needs
+aligned-requires : tie.Need-aligned-requires
+aligned-requires c κs = search needs
 
 add-result : tie.Need-add-result
 add-result c = search needs
@@ -31,7 +28,7 @@ cast-result-2 : tie.Need-cast-result-2
 cast-result-2 c = search needs
 
 returns : tie.Need-returns
-returns c = simp (c .before .before .before .before .before .multiple .ensures, c .before .before .before .before .multiple2 .ensures)
+returns c = simp (c .before .before .before .before .aligned .ensures)
 
 pub placed-ok-spec : {M : Type 1} → statement M
 placed-ok-spec =
@@ -40,8 +37,7 @@ placed-ok-spec =
     cast-n
     cast-row
     cast-col
-    multiple-requires
-    multiple-requires-2
+    aligned-requires
     add-result
     cast-result
     add-result-2
