@@ -1,15 +1,17 @@
 // Replays the Rust's answers on the doors of smoothing, prediction and residuals: the list is standard input, the file stdin,
 // and what is printed is tested against the file stdout. Rests on the doors' contracts for its safety.
 //
-// The list is made by `tests/differential/run list`. A line is 42 words of eight hex digits: the kind of the call, its side,
-// mode, edge and depth, the seed and the largest of its samples, the place of the window, the number and the value that it is
-// to answer, and the 32 entries of what it wrote from that place on. A line that opens with # is a comment.
+// The list is made by `tests/differential/run list`. A line is 43 words of eight hex digits: the kind of the call, its side,
+// mode, edge and depth, the seed and the largest of its samples, the entries of the row on the left, the place of the window,
+// the number and the value that it is to answer, and the 32 entries of what it wrote from that place on. A residual is two
+// samples, of which it is the difference, the first in the upper half. A line that opens with # is a comment.
 //
 // A call's samples come from its seed: each is the next number, brought to at most the largest; a largest of 1 stands for
 // samples of either end. The corner has the seed's own, the row above the numbers that follow, the row on the left and the
 // second block those that follow `other` of the seed.
 ghost use Prim.Native.Nat.{_+_, _≤_, _<_};
 ghost use lib.ListN.{length};
+ghost use mathlib.Core.Path.{_≡_};
 
 fn digit(b: u8) -> u32
     ensures { λ r. ⌜ r < 16 ⌝ }
@@ -43,13 +45,23 @@ struct Call {
     bits: u32,
     seed: u32,
     top: u32,
+    entries: usize,
     place: usize,
     no: u32,
     value: u32,
 }
 
+fn at_most(entries: usize, most: usize) -> usize
+    ensures { λ r. ⌜ r ≤ most ⌝ }
+{
+    if entries > most {
+        return most;
+    }
+    entries
+}
+
 fn call_of(line: &[u8]) -> Call
-    requires { ⌜ 378 ≤ length (now line) ⌝ }
+    requires { ⌜ 387 ≤ length (now line) ⌝ }
 {
     Call {
         n: word(line, 9) as usize,
@@ -58,9 +70,10 @@ fn call_of(line: &[u8]) -> Call
         bits: word(line, 36),
         seed: word(line, 45),
         top: word(line, 54),
-        place: word(line, 63) as usize,
-        no: word(line, 72),
-        value: word(line, 81),
+        entries: word(line, 63) as usize,
+        place: word(line, 72) as usize,
+        no: word(line, 81),
+        value: word(line, 90),
     }
 }
 
@@ -84,7 +97,9 @@ fn sample(x: u32, top: u32) -> u16 {
 }
 
 // The numbers that follow a seed, as a row and as a block.
-fn row_of(seed: u32, top: u32) -> [u16; 65] {
+fn row_of(seed: u32, top: u32) -> [u16; 65]
+    ensures { λ r. ⌜ 65 ≡ length r ⌝ }
+{
     let mut row = [0u16; 65];
     let mut x = seed;
     for i in 0..65 {
@@ -121,18 +136,37 @@ fn is(wanted: u32, sample: u16) -> bool {
 
 // Whether the 32 entries from a place on are those of the line.
 fn same(line: &[u8], written: &[u16], place: usize) -> bool
-    requires { ⌜ (378 ≤ length (now line)) × (32 ≤ length (now written)) ⌝ }
+    requires { ⌜ (387 ≤ length (now line)) × (32 ≤ length (now written)) ⌝ }
 {
     let from = within(place, written.len());
     let mut all = true;
     for i in 0..32 {
-        all = all & is(word(line, 90 + 9 * i), written[from + i]);
+        all = all & is(word(line, 99 + 9 * i), written[from + i]);
+    }
+    all
+}
+
+fn difference(o: u16, p: u16) -> i32 {
+    (o as i32) - (p as i32)
+}
+
+fn is_residual(wanted: u32, residual: i32) -> bool {
+    residual == difference((wanted / 65536) as u16, (wanted % 65536) as u16)
+}
+
+fn same_residuals(line: &[u8], written: &[i32], place: usize) -> bool
+    requires { ⌜ (387 ≤ length (now line)) × (32 ≤ length (now written)) ⌝ }
+{
+    let from = within(place, written.len());
+    let mut all = true;
+    for i in 0..32 {
+        all = all & is_residual(word(line, 99 + 9 * i), written[from + i]);
     }
     all
 }
 
 fn row_same(line: &[u8], row: [u16; 65], place: usize) -> bool
-    requires { ⌜ 378 ≤ length (now line) ⌝ }
+    requires { ⌜ 387 ≤ length (now line) ⌝ }
 {
     same(line, &row, place)
 }
@@ -143,12 +177,10 @@ fn rule_same(call: Call) -> bool {
 }
 
 // The row above, or where the edge is asked for the row on the left.
-fn weak_same(line: &[u8], call: Call) -> bool
-    requires { ⌜ 378 ≤ length (now line) ⌝ }
+fn weak_same(line: &[u8], call: Call, above: &[u16], left: &[u16]) -> bool
+    requires { ⌜ 387 ≤ length (now line) ⌝ }
 {
-    let above = row_of(call.seed, call.top);
-    let left = row_of(other(call.seed), call.top);
-    let answer = smooth::filter_references(sample(call.seed, call.top), &above, &left, call.n);
+    let answer = smooth::filter_references(sample(call.seed, call.top), above, left, call.n);
     let up = answer.above;
     let side = answer.left;
     let number = answer.no == call.no;
@@ -158,13 +190,11 @@ fn weak_same(line: &[u8], call: Call) -> bool
     number & row_same(line, up, call.place)
 }
 
-fn luma_same(line: &[u8], call: Call) -> bool
-    requires { ⌜ 378 ≤ length (now line) ⌝ }
+fn luma_same(line: &[u8], call: Call, above: &[u16], left: &[u16]) -> bool
+    requires { ⌜ 387 ≤ length (now line) ⌝ }
 {
-    let above = row_of(call.seed, call.top);
-    let left = row_of(other(call.seed), call.top);
     let corner = sample(call.seed, call.top);
-    let answer = smooth::filter_luma_refs(corner, &above, &left, call.n, call.bits);
+    let answer = smooth::filter_luma_refs(corner, above, left, call.n, call.bits);
     let up = answer.rows.above;
     let side = answer.rows.left;
     let number = (answer.no == call.no) & ((answer.rows.corner as u32) == call.value);
@@ -174,39 +204,33 @@ fn luma_same(line: &[u8], call: Call) -> bool
     number & row_same(line, up, call.place)
 }
 
-fn planar_same(line: &[u8], call: Call) -> bool
-    requires { ⌜ 378 ≤ length (now line) ⌝ }
+fn planar_same(line: &[u8], call: Call, above: &[u16], left: &[u16]) -> bool
+    requires { ⌜ 387 ≤ length (now line) ⌝ }
 {
-    let above = row_of(call.seed, call.top);
-    let left = row_of(other(call.seed), call.top);
     let mut pred = [4660u16; 1024];
-    let no = flat::predict_planar_into(&above, &left, call.n, &mut pred);
+    let no = flat::predict_planar_into(above, left, call.n, &mut pred);
     (no == call.no) & same(line, &pred, call.place)
 }
 
-fn dc_same(line: &[u8], call: Call) -> bool
-    requires { ⌜ 378 ≤ length (now line) ⌝ }
+fn dc_same(line: &[u8], call: Call, above: &[u16], left: &[u16]) -> bool
+    requires { ⌜ 387 ≤ length (now line) ⌝ }
 {
-    let above = row_of(call.seed, call.top);
-    let left = row_of(other(call.seed), call.top);
     let mut pred = [4660u16; 1024];
-    let no = flat::predict_dc_into(&above, &left, call.n, call.edge, &mut pred);
+    let no = flat::predict_dc_into(above, left, call.n, call.edge, &mut pred);
     (no == call.no) & same(line, &pred, call.place)
 }
 
-fn angular_same(line: &[u8], call: Call) -> bool
-    requires { ⌜ 378 ≤ length (now line) ⌝ }
+fn angular_same(line: &[u8], call: Call, above: &[u16], left: &[u16]) -> bool
+    requires { ⌜ 387 ≤ length (now line) ⌝ }
 {
-    let above = row_of(call.seed, call.top);
-    let left = row_of(other(call.seed), call.top);
     let mut pred = [4660u16; 1024];
     let mut refs = [4660u16; 193];
     let mut indices = [4660u32; 32];
     let mut fractions = [4660u32; 32];
     let no = angular::predict_angular_slices(
         sample(call.seed, call.top),
-        &above,
-        &left,
+        above,
+        left,
         call.n,
         call.mode,
         call.edge,
@@ -219,9 +243,20 @@ fn angular_same(line: &[u8], call: Call) -> bool
     (no == call.no) & same(line, &pred, call.place)
 }
 
+// The residual of the two blocks.
+fn residual_same(line: &[u8], call: Call) -> bool
+    requires { ⌜ 387 ≤ length (now line) ⌝ }
+{
+    let pred = block_of(call.seed, call.top);
+    let orig = block_of(other(call.seed), call.top);
+    let mut residual = [4660i32; 1024];
+    let no = residual::compute_residual_i32_into(&orig, &pred, call.n, &mut residual);
+    (no == call.no) & same_residuals(line, &residual, call.place)
+}
+
 // The residual of the two blocks, added to the first: the number is that of the second call, the value that of the first.
 fn rebuilt_same(line: &[u8], call: Call) -> bool
-    requires { ⌜ 378 ≤ length (now line) ⌝ }
+    requires { ⌜ 387 ≤ length (now line) ⌝ }
 {
     let pred = block_of(call.seed, call.top);
     let orig = block_of(other(call.seed), call.top);
@@ -232,19 +267,23 @@ fn rebuilt_same(line: &[u8], call: Call) -> bool
     (first == call.value) & (no == call.no) & same(line, &out, call.place)
 }
 
-// Whether a door gives what the line has. Kinds 1 to 7; others never do.
+// Whether a door gives what the line has. Kinds 1 to 8; others never do.
 fn agrees(line: &[u8], kind: u32) -> bool
-    requires { ⌜ 378 ≤ length (now line) ⌝ }
+    requires { ⌜ 387 ≤ length (now line) ⌝ }
 {
     let call = call_of(line);
+    let above = row_of(call.seed, call.top);
+    let row = row_of(other(call.seed), call.top);
+    let left = &row[..at_most(call.entries, 65)];
     match kind {
         1 => rule_same(call),
-        2 => weak_same(line, call),
-        3 => luma_same(line, call),
-        4 => planar_same(line, call),
-        5 => dc_same(line, call),
-        6 => angular_same(line, call),
-        7 => rebuilt_same(line, call),
+        2 => weak_same(line, call, &above, left),
+        3 => luma_same(line, call, &above, left),
+        4 => planar_same(line, call, &above, left),
+        5 => dc_same(line, call, &above, left),
+        6 => angular_same(line, call, &above, left),
+        7 => residual_same(line, call),
+        8 => rebuilt_same(line, call),
         _ => false,
     }
 }
@@ -257,10 +296,10 @@ struct Count {
 impl Count {
     // The count with one line more, of which so many bytes were read.
     fn with(self, line: &[u8], read: usize) -> Count
-        requires { ⌜ (378 ≤ length (now line)) × ((self .calls + 1 < 4294967296) × (self .differ + 1 < 4294967296)) ⌝ }
+        requires { ⌜ (387 ≤ length (now line)) × ((self .calls + 1 < 4294967296) × (self .differ + 1 < 4294967296)) ⌝ }
         ensures { λ r. ⌜ (r .calls ≤ self .calls + 1) × (r .differ ≤ self .differ + 1) ⌝ }
     {
-        if (read != 378) | (line[0] == 35) {
+        if (read != 387) | (line[0] == 35) {
             return self;
         }
         if agrees(line, word(line, 0)) {
@@ -283,7 +322,7 @@ fn replay() -> Count {
         differ: 0,
     };
     for i in 0..4096usize {
-        let mut line = [0u8; 378];
+        let mut line = [0u8; 387];
         let read = io::read_full(0, &mut line);
         count = count.with(&line, read);
     }

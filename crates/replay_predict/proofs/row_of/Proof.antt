@@ -7,7 +7,7 @@ use Rattle.replay_predict.proofs.row_of.Statement.{statement}
 use Rattle.replay_predict.proofs.row_of.Tie as tie
 
 abbrev Inv-loop : tie.InvT-loop
-Inv-loop seed top row₀ x₀ i₀ row x i = (i ≤ 65) × (length row ≡ 65)
+Inv-loop seed top row₀ x₀ i₀ row x i = (i ≤ 65) × (65 ≡ length row)
 
 abbrev μ-loop : tie.MeasureT-loop
 μ-loop seed top row₀ x₀ i₀ row x i = 65 - i
