@@ -1,0 +1,82 @@
+//! The 33 angular modes, edge on.
+use crate::entries::salvrunde_probe_predict_angular_slices;
+use crate::inputs::{Rows, SIDES, rows};
+use crate::oracle::intra::{AngularScratch, predict_angular_into};
+use crate::race::{Times, race};
+use crate::table::{Table, mean};
+use std::hint::black_box;
+
+/// The scratch that the proved code is lent.
+struct Scratch {
+    refs: [u16; 193],
+    indices: [u32; 32],
+    fractions: [u32; 32],
+}
+
+#[inline(never)]
+fn rust(r: &Rows, n: usize, mode: u8, pred: &mut [u16], scratch: &mut AngularScratch) {
+    predict_angular_into(r.corner, &r.above, &r.left, n, mode, true, r.largest() as i32, pred, scratch)
+}
+
+#[inline(never)]
+fn proved(r: &Rows, n: usize, mode: u8, pred: &mut [u16], s: &mut Scratch) -> u32 {
+    // the lengths are those of the six slices
+    unsafe {
+        salvrunde_probe_predict_angular_slices(
+            r.corner,
+            r.above.as_ptr(),
+            r.above.len(),
+            r.left.as_ptr(),
+            r.left.len(),
+            n,
+            mode,
+            true,
+            r.bits,
+            pred.as_mut_ptr(),
+            pred.len(),
+            s.refs.as_mut_ptr(),
+            s.refs.len(),
+            s.indices.as_mut_ptr(),
+            s.indices.len(),
+            s.fractions.as_mut_ptr(),
+            s.fractions.len(),
+        )
+    }
+}
+
+pub fn time(table: &mut Table) {
+    let rows = rows(2);
+    let (mut p, mut q) = ([0u16; 1024], [0u16; 1024]);
+    let mut rust_scratch = AngularScratch::new();
+    let mut scratch = Scratch { refs: [0; 193], indices: [0; 32], fractions: [0; 32] };
+    let (mut all, mut worst) = (Vec::new(), (0.0, 0, 0));
+    for n in SIDES {
+        let (mut sum, mut ratios) = (Times { rust: 0.0, rattle: 0.0 }, Vec::new());
+        for mode in 2..=34 {
+            for r in &rows {
+                rust(r, n, mode, &mut p, &mut rust_scratch);
+                assert_eq!((proved(r, n, mode, &mut q, &mut scratch), q), (0, p), "mode {mode}");
+            }
+            let times = race(
+                &rows,
+                |r| rust(r, black_box(n), black_box(mode), black_box(&mut p), &mut rust_scratch),
+                |r| drop(black_box(proved(r, black_box(n), black_box(mode), black_box(&mut q), &mut scratch))),
+            );
+            if table.modes {
+                table.show(&format!("angular, mode {mode}"), n, times);
+            }
+            sum.rust += times.rust;
+            sum.rattle += times.rattle;
+            ratios.push(times.ratio());
+            if times.ratio() > worst.0 {
+                worst = (times.ratio(), mode, n);
+            }
+        }
+        let each = Times { rust: sum.rust / 33.0, rattle: sum.rattle / 33.0 };
+        table.show("angular, mean time of 33 modes", n, each);
+        table.ratio("angular, geometric mean of 33 ratios", n, mean(&ratios), 1.0);
+        all.extend(ratios);
+    }
+    table.ratio("angular, geometric mean of 132 ratios", 0, mean(&all), 0.8);
+    table.ratio(&format!("angular, greatest ratio (mode {}, side {})", worst.1, worst.2), 0, worst.0, 1.5);
+}

@@ -1,0 +1,71 @@
+//! Smoothing: the weak form at every side, by either function, and the strong one at side 32.
+use crate::entries::{References, TwoRows, salvrunde_probe_filter_luma_refs, salvrunde_probe_filter_references};
+use crate::inputs::{Rows, SIDES, rows, straight_rows};
+use crate::oracle::intra;
+use crate::race::race;
+use crate::table::Table;
+use std::hint::black_box;
+
+type RustRows = ([u16; 65], [u16; 65]);
+
+#[inline(never)]
+fn references_rust(r: &Rows, n: usize) -> RustRows {
+    intra::filter_references(r.corner, &r.above, &r.left, n)
+}
+
+#[inline(never)]
+fn references_proved(r: &Rows, n: usize) -> TwoRows {
+    let (a, l) = (r.above.as_ptr(), r.left.as_ptr());
+    // the lengths are those of the two rows
+    unsafe { salvrunde_probe_filter_references(r.corner, a, r.above.len(), l, r.left.len(), n) }
+}
+
+#[inline(never)]
+fn luma_rust(r: &Rows, n: usize) -> (u16, [u16; 65], [u16; 65]) {
+    intra::filter_luma_refs(r.corner, &r.above, &r.left, n, r.bits)
+}
+
+#[inline(never)]
+fn luma_proved(r: &Rows, n: usize) -> References {
+    let (a, l) = (r.above.as_ptr(), r.left.as_ptr());
+    // the lengths are those of the two rows
+    unsafe { salvrunde_probe_filter_luma_refs(r.corner, a, r.above.len(), l, r.left.len(), n, r.bits) }
+}
+
+/// Whether the strong form is due.
+fn strong(r: &Rows) -> bool {
+    let bend = |row: &[u16; 65]| (r.corner as i32 + row[63] as i32 - 2 * row[31] as i32).abs();
+    bend(&r.above) < 1 << (r.bits - 5) && bend(&r.left) < 1 << (r.bits - 5)
+}
+
+fn time_luma(table: &mut Table, what: &str, rows: &[Rows], n: usize) {
+    for r in rows {
+        let got = luma_proved(r, n);
+        assert_eq!((got.no, (got.corner, got.above, got.left)), (0, luma_rust(r, n)));
+    }
+    let times = race(rows, |r| drop(black_box(&luma_rust(r, black_box(n)))), |r| drop(black_box(&luma_proved(r, black_box(n)))));
+    table.line(what, n, times, 1.0);
+}
+
+pub fn time(table: &mut Table) {
+    let mut weak = rows(3);
+    weak.retain(|r| !strong(r));
+    for n in SIDES {
+        for r in &weak {
+            let got = references_proved(r, n);
+            assert_eq!((got.no, (got.above, got.left)), (0, references_rust(r, n)));
+        }
+        let times = race(
+            &weak,
+            |r| drop(black_box(&references_rust(r, black_box(n)))),
+            |r| drop(black_box(&references_proved(r, black_box(n)))),
+        );
+        table.line("filter_references", n, times, 1.0);
+    }
+    for n in SIDES {
+        time_luma(table, "filter_luma_refs, weak form", &weak, n);
+    }
+    let straight = straight_rows(4);
+    assert!(straight.iter().all(strong));
+    time_luma(table, "filter_luma_refs, strong form", &straight, 32);
+}
