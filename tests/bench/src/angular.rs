@@ -60,7 +60,9 @@ pub fn time(table: &mut Table) {
             let times = race(
                 &rows,
                 |r| rust(r, black_box(n), black_box(mode), black_box(&mut p), &mut rust_scratch),
-                |r| drop(black_box(proved(r, black_box(n), black_box(mode), black_box(&mut q), &mut scratch))),
+                |r| {
+                    black_box(proved(r, black_box(n), black_box(mode), black_box(&mut q), &mut scratch));
+                },
             );
             if table.modes {
                 table.show(&format!("angular, mode {mode}"), n, times);

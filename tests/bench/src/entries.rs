@@ -1,4 +1,5 @@
-//! The entries of crate probes as C sees them: a slice is its address and its length.
+//! The entries of crate probes as C sees them on x86-64: a slice is its address and its length, and a result of more than two
+//! words is written where a first argument says, which comes back. Said so, it holds wherever the module is compiled for.
 
 /// A call's number, and two rows.
 #[repr(C)]
@@ -12,17 +13,7 @@ pub struct TwoRows {
 #[repr(C)]
 pub struct References {
     pub no: u32,
-    pub corner: u16,
-    pub above: [u16; 65],
-    pub left: [u16; 65],
-}
-
-/// The corner and two rows of one plane.
-#[repr(C)]
-pub struct PlaneRows {
-    pub corner: u16,
-    pub above: [u16; 65],
-    pub left: [u16; 65],
+    pub rows: PlaneRows,
 }
 
 /// A call's number, and the rows of Cb and of Cr.
@@ -30,6 +21,23 @@ pub struct PlaneRows {
 pub struct ReferencePair {
     pub no: u32,
     pub planes: [PlaneRows; 2],
+}
+
+#[repr(C)]
+#[derive(Clone, Copy)]
+pub struct PlaneRows {
+    pub corner: u16,
+    pub above: [u16; 65],
+    pub left: [u16; 65],
+}
+
+impl PlaneRows {
+    pub const ZERO: PlaneRows = PlaneRows { corner: 0, above: [0; 65], left: [0; 65] };
+
+    /// As the Rust has them.
+    pub fn tuple(&self) -> (u16, [u16; 65], [u16; 65]) {
+        (self.corner, self.above, self.left)
+    }
 }
 
 unsafe extern "C" {
@@ -75,15 +83,17 @@ unsafe extern "C" {
     ) -> u32;
 
     pub fn salvrunde_probe_filter_references(
+        out: *mut TwoRows,
         corner: u16,
         above: *const u16,
         above_len: usize,
         left: *const u16,
         left_len: usize,
         n: usize,
-    ) -> TwoRows;
+    ) -> *mut TwoRows;
 
     pub fn salvrunde_probe_filter_luma_refs(
+        out: *mut References,
         corner: u16,
         above: *const u16,
         above_len: usize,
@@ -91,9 +101,10 @@ unsafe extern "C" {
         left_len: usize,
         n: usize,
         bits: u32,
-    ) -> References;
+    ) -> *mut References;
 
     pub fn salvrunde_probe_get_reference_samples(
+        out: *mut References,
         plane: *const u16,
         plane_len: usize,
         bits: u32,
@@ -104,9 +115,10 @@ unsafe extern "C" {
         row: u32,
         col: u32,
         n: usize,
-    ) -> References;
+    ) -> *mut References;
 
     pub fn salvrunde_probe_get_reference_samples_chroma_pair(
+        out: *mut ReferencePair,
         plane_cb: *const u16,
         plane_cb_len: usize,
         plane_cr: *const u16,
@@ -121,7 +133,7 @@ unsafe extern "C" {
         n: usize,
         cur_luma_row: u32,
         cur_luma_col: u32,
-    ) -> ReferencePair;
+    ) -> *mut ReferencePair;
 
     pub fn salvrunde_probe_compute_residual_i32_into(
         orig: *const u16,

@@ -41,7 +41,9 @@ pub fn time(table: &mut Table) {
         let times = race(
             &rows,
             |r| planar_rust(r, black_box(n), black_box(&mut p)),
-            |r| drop(black_box(planar_proved(r, black_box(n), black_box(&mut q)))),
+            |r| {
+                black_box(planar_proved(r, black_box(n), black_box(&mut q)));
+            },
         );
         table.line("planar", n, times, 1.0);
     }
@@ -54,7 +56,9 @@ pub fn time(table: &mut Table) {
             let times = race(
                 &rows,
                 |r| dc_rust(r, black_box(n), black_box(edge), black_box(&mut p)),
-                |r| drop(black_box(dc_proved(r, black_box(n), black_box(edge), black_box(&mut q)))),
+                |r| {
+                    black_box(dc_proved(r, black_box(n), black_box(edge), black_box(&mut q)));
+                },
             );
             table.line(what, n, times, 1.0);
         }

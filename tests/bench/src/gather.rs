@@ -1,5 +1,5 @@
 //! The luma gather: places spread over a picture of 1280 × 960.
-use crate::entries::{References, salvrunde_probe_get_reference_samples};
+use crate::entries::{PlaneRows, References, salvrunde_probe_get_reference_samples};
 use crate::inputs::{HEIGHT, PLACES, SIDES, WIDTH, place, plane};
 use crate::oracle::intra::{LumaRefGeometry, get_reference_samples};
 use crate::race::race;
@@ -35,16 +35,19 @@ fn rust(plane: &[u16], b: &Block) -> (u16, [u16; 65], [u16; 65]) {
 }
 
 #[inline(never)]
-fn proved(plane: &[u16], b: &Block) -> References {
+fn proved(plane: &[u16], b: &Block, out: &mut References) {
     let [width, height, ctu, unit] = [WIDTH, HEIGHT, b.ctu, b.unit].map(|v| v as u32);
     let (row, col) = (b.row as u32, b.col as u32);
     // the length is that of the plane
-    unsafe { salvrunde_probe_get_reference_samples(plane.as_ptr(), plane.len(), BITS, width, height, ctu, unit, row, col, b.n) }
+    unsafe {
+        salvrunde_probe_get_reference_samples(out, plane.as_ptr(), plane.len(), BITS, width, height, ctu, unit, row, col, b.n)
+    };
 }
 
 pub fn time(table: &mut Table) {
     let mut random = Random::new(7);
     let plane = plane(&mut random, WIDTH * HEIGHT, BITS);
+    let mut got = References { no: 1, rows: PlaneRows::ZERO };
     for ctu in [64, 16] {
         for unit in [8, 4] {
             // a unit above the side, or a side above the CTU, is refused
@@ -55,13 +58,15 @@ pub fn time(table: &mut Table) {
                 };
                 let blocks: Vec<Block> = (0..PLACES).map(|_| block()).collect();
                 for b in &blocks {
-                    let got = proved(&plane, b);
-                    assert_eq!((got.no, (got.corner, got.above, got.left)), (0, rust(&plane, b)));
+                    proved(&plane, b, &mut got);
+                    assert_eq!((got.no, got.rows.tuple()), (0, rust(&plane, b)));
                 }
                 let times = race(
                     &blocks,
-                    |b| drop(black_box(&rust(black_box(&plane), b))),
-                    |b| drop(black_box(&proved(black_box(&plane), b))),
+                    |b| {
+                        black_box(&rust(black_box(&plane), b));
+                    },
+                    |b| proved(black_box(&plane), b, black_box(&mut got)),
                 );
                 table.line(&format!("luma gather, CTU {ctu}, unit {unit}"), n, times, 0.15);
             }

@@ -43,7 +43,9 @@ pub fn time(table: &mut Table) {
         let times = race(
             &blocks,
             |b| residual_rust(b, black_box(n), black_box(&mut p)),
-            |b| drop(black_box(residual_proved(b, black_box(n), black_box(&mut q)))),
+            |b| {
+                black_box(residual_proved(b, black_box(n), black_box(&mut q)));
+            },
         );
         table.line("residual", n, times, 1.0);
     }
@@ -57,7 +59,9 @@ pub fn time(table: &mut Table) {
         let times = race(
             &blocks,
             |b| reconstruct_rust(b, black_box(n), black_box(&mut p)),
-            |b| drop(black_box(reconstruct_proved(b, black_box(n), black_box(&mut q)))),
+            |b| {
+                black_box(reconstruct_proved(b, black_box(n), black_box(&mut q)));
+            },
         );
         table.line("reconstruction", n, times, 1.0);
     }

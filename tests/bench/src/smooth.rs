@@ -1,5 +1,5 @@
 //! Smoothing: the weak form at every side, by either function, and the strong one at side 32.
-use crate::entries::{References, TwoRows, salvrunde_probe_filter_luma_refs, salvrunde_probe_filter_references};
+use crate::entries::{PlaneRows, References, TwoRows, salvrunde_probe_filter_luma_refs, salvrunde_probe_filter_references};
 use crate::inputs::{Rows, SIDES, rows, straight_rows};
 use crate::oracle::intra;
 use crate::race::race;
@@ -14,10 +14,10 @@ fn references_rust(r: &Rows, n: usize) -> RustRows {
 }
 
 #[inline(never)]
-fn references_proved(r: &Rows, n: usize) -> TwoRows {
+fn references_proved(r: &Rows, n: usize, out: &mut TwoRows) {
     let (a, l) = (r.above.as_ptr(), r.left.as_ptr());
     // the lengths are those of the two rows
-    unsafe { salvrunde_probe_filter_references(r.corner, a, r.above.len(), l, r.left.len(), n) }
+    unsafe { salvrunde_probe_filter_references(out, r.corner, a, r.above.len(), l, r.left.len(), n) };
 }
 
 #[inline(never)]
@@ -26,10 +26,10 @@ fn luma_rust(r: &Rows, n: usize) -> (u16, [u16; 65], [u16; 65]) {
 }
 
 #[inline(never)]
-fn luma_proved(r: &Rows, n: usize) -> References {
+fn luma_proved(r: &Rows, n: usize, out: &mut References) {
     let (a, l) = (r.above.as_ptr(), r.left.as_ptr());
     // the lengths are those of the two rows
-    unsafe { salvrunde_probe_filter_luma_refs(r.corner, a, r.above.len(), l, r.left.len(), n, r.bits) }
+    unsafe { salvrunde_probe_filter_luma_refs(out, r.corner, a, r.above.len(), l, r.left.len(), n, r.bits) };
 }
 
 /// Whether the strong form is due.
@@ -39,26 +39,36 @@ fn strong(r: &Rows) -> bool {
 }
 
 fn time_luma(table: &mut Table, what: &str, rows: &[Rows], n: usize) {
+    let mut got = References { no: 1, rows: PlaneRows::ZERO };
     for r in rows {
-        let got = luma_proved(r, n);
-        assert_eq!((got.no, (got.corner, got.above, got.left)), (0, luma_rust(r, n)));
+        luma_proved(r, n, &mut got);
+        assert_eq!((got.no, got.rows.tuple()), (0, luma_rust(r, n)));
     }
-    let times = race(rows, |r| drop(black_box(&luma_rust(r, black_box(n)))), |r| drop(black_box(&luma_proved(r, black_box(n)))));
+    let times = race(
+        rows,
+        |r| {
+            black_box(&luma_rust(r, black_box(n)));
+        },
+        |r| luma_proved(r, black_box(n), black_box(&mut got)),
+    );
     table.line(what, n, times, 1.0);
 }
 
 pub fn time(table: &mut Table) {
     let mut weak = rows(3);
     weak.retain(|r| !strong(r));
+    let mut got = TwoRows { no: 1, above: [0; 65], left: [0; 65] };
     for n in SIDES {
         for r in &weak {
-            let got = references_proved(r, n);
+            references_proved(r, n, &mut got);
             assert_eq!((got.no, (got.above, got.left)), (0, references_rust(r, n)));
         }
         let times = race(
             &weak,
-            |r| drop(black_box(&references_rust(r, black_box(n)))),
-            |r| drop(black_box(&references_proved(r, black_box(n)))),
+            |r| {
+                black_box(&references_rust(r, black_box(n)));
+            },
+            |r| references_proved(r, black_box(n), black_box(&mut got)),
         );
         table.line("filter_references", n, times, 1.0);
     }
