@@ -28,7 +28,7 @@ pub fn depth(random: &mut Random) -> u32 {
 
 pub fn rows(seed: u64) -> Vec<Rows> {
     let mut random = Random::new(seed);
-    let mut row = |bits, random: &mut Random| std::array::from_fn(|_| sample(random, bits));
+    let row = |bits, random: &mut Random| std::array::from_fn(|_| sample(random, bits));
     let mut one = || {
         let bits = depth(&mut random);
         Rows { bits, corner: sample(&mut random, bits), above: row(bits, &mut random), left: row(bits, &mut random) }

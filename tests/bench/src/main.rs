@@ -8,7 +8,7 @@
 //! A subject whose entries the probes do not have yet is left out; see build.rs.
 #[cfg(entry = "predict_angular_slices")]
 mod angular;
-#[allow(dead_code)] // those of subjects that are left out
+#[allow(dead_code)] // what subjects that are left out call
 mod entries;
 #[cfg(all(entry = "predict_planar_into", entry = "predict_dc_into"))]
 mod flat;
@@ -16,6 +16,7 @@ mod flat;
 mod gather;
 #[cfg(entry = "get_reference_samples_chroma_pair")]
 mod gather_chroma;
+#[allow(dead_code)] // what subjects that are left out call
 mod inputs;
 mod race;
 #[path = "../../differential/src/random.rs"]
@@ -24,6 +25,7 @@ mod random;
 mod residual;
 #[cfg(all(entry = "filter_references", entry = "filter_luma_refs"))]
 mod smooth;
+#[allow(dead_code)] // what subjects that are left out call
 mod table;
 
 /// The Rust of docs/src, unchanged; see tests/differential/build.rs.
