@@ -18,7 +18,7 @@ fn rust(r: &Rows, n: usize, mode: u8, pred: &mut [u16], scratch: &mut AngularScr
     predict_angular_into(r.corner, &r.above, &r.left, n, mode, true, r.largest() as i32, pred, scratch)
 }
 
-#[inline(never)]
+#[inline(always)]
 fn proved(r: &Rows, n: usize, mode: u8, pred: &mut [u16], s: &mut Scratch) -> u32 {
     // the lengths are those of the six slices
     unsafe {

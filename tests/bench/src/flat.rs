@@ -11,7 +11,7 @@ fn planar_rust(r: &Rows, n: usize, pred: &mut [u16]) {
     intra::predict_planar_into(&r.above, &r.left, n, pred)
 }
 
-#[inline(never)]
+#[inline(always)]
 fn planar_proved(r: &Rows, n: usize, pred: &mut [u16]) -> u32 {
     let (a, l, p) = (r.above.as_ptr(), r.left.as_ptr(), pred.as_mut_ptr());
     // the lengths are those of the three slices
@@ -23,7 +23,7 @@ fn dc_rust(r: &Rows, n: usize, edge: bool, pred: &mut [u16]) {
     intra::predict_dc_into(&r.above, &r.left, n, edge, pred)
 }
 
-#[inline(never)]
+#[inline(always)]
 fn dc_proved(r: &Rows, n: usize, edge: bool, pred: &mut [u16]) -> u32 {
     let (a, l, p) = (r.above.as_ptr(), r.left.as_ptr(), pred.as_mut_ptr());
     // the lengths are those of the three slices

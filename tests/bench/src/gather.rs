@@ -34,7 +34,7 @@ fn rust(plane: &[u16], b: &Block) -> (u16, [u16; 65], [u16; 65]) {
     get_reference_samples(plane, geo)
 }
 
-#[inline(never)]
+#[inline(always)]
 fn proved(plane: &[u16], b: &Block, out: &mut References) {
     let [width, height, ctu, unit] = [WIDTH, HEIGHT, b.ctu, b.unit].map(|v| v as u32);
     let (row, col) = (b.row as u32, b.col as u32);

@@ -45,7 +45,7 @@ fn rust(cb: &[u16], cr: &[u16], b: &Block) -> (RustRows, RustRows) {
     get_reference_samples_chroma_pair(cb, cr, geo)
 }
 
-#[inline(never)]
+#[inline(always)]
 fn proved(cb: &[u16], cr: &[u16], b: &Block, out: &mut ReferencePair) {
     // the lengths are those of the two planes
     unsafe {

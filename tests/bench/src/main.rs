@@ -1,9 +1,9 @@
 //! Times the proved code beside the Rust of docs/src: the same inputs, in one process, by the same loop. A markdown table of
 //! the least time of a call on either side goes to standard output, with the ratio that each line is to keep to.
 //!
-//! Every call is made through a function that is not inlined, on either side, and the proved one is the whole door with its
-//! checks. Buffers are lent again and again and not cleared between calls. Both sides' answers are compared before they are
-//! timed. `bench modes` adds a line for every angular mode and side.
+//! Either side costs one call that is not inlined: the Rust's function stands in one of its own, the proved one is the entry with
+//! the whole door behind it. Buffers are lent again and again and not cleared between calls. Both sides' answers are compared
+//! before they are timed. `bench modes` adds a line for every angular mode and side.
 //!
 //! A subject whose entries the probes do not have yet is left out; see build.rs.
 #[cfg(entry = "predict_angular_slices")]

@@ -11,7 +11,7 @@ fn residual_rust(b: &Blocks, n: usize, out: &mut [i32]) {
     intra::compute_residual_i32_into(&b.original, &b.predicted, n, out)
 }
 
-#[inline(never)]
+#[inline(always)]
 fn residual_proved(b: &Blocks, n: usize, out: &mut [i32]) -> u32 {
     let (o, p) = (b.original.as_ptr(), b.predicted.as_ptr());
     let (ol, pl, len) = (b.original.len(), b.predicted.len(), out.len());
@@ -24,7 +24,7 @@ fn reconstruct_rust(b: &Blocks, n: usize, out: &mut [u16]) {
     intra::reconstruct_into(&b.predicted, &b.residual, n, ((1u32 << b.bits) - 1) as u16, out)
 }
 
-#[inline(never)]
+#[inline(always)]
 fn reconstruct_proved(b: &Blocks, n: usize, out: &mut [u16]) -> u32 {
     let (p, r) = (b.predicted.as_ptr(), b.residual.as_ptr());
     let (pl, rl, len) = (b.predicted.len(), b.residual.len(), out.len());

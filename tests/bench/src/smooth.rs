@@ -13,7 +13,7 @@ fn references_rust(r: &Rows, n: usize) -> RustRows {
     intra::filter_references(r.corner, &r.above, &r.left, n)
 }
 
-#[inline(never)]
+#[inline(always)]
 fn references_proved(r: &Rows, n: usize, out: &mut TwoRows) {
     let (a, l) = (r.above.as_ptr(), r.left.as_ptr());
     // the lengths are those of the two rows
@@ -25,7 +25,7 @@ fn luma_rust(r: &Rows, n: usize) -> (u16, [u16; 65], [u16; 65]) {
     intra::filter_luma_refs(r.corner, &r.above, &r.left, n, r.bits)
 }
 
-#[inline(never)]
+#[inline(always)]
 fn luma_proved(r: &Rows, n: usize, out: &mut References) {
     let (a, l) = (r.above.as_ptr(), r.left.as_ptr());
     // the lengths are those of the two rows
