@@ -1,5 +1,6 @@
 //! The 33 angular modes, edge on.
 use crate::entries::salvrunde_probe_predict_angular_slices;
+use crate::inlined::intra;
 use crate::inputs::{Rows, SIDES, rows};
 use crate::oracle::intra::{AngularScratch, predict_angular_into};
 use crate::race::{Times, race};
@@ -13,9 +14,13 @@ struct Scratch {
     fractions: [u32; 32],
 }
 
+/// The Rust's function, called as it stands.
+type Rust = fn(u16, &[u16], &[u16], usize, u8, bool, i32, &mut [u16], &mut AngularScratch);
+
+/// The same, built into a function that knows the rows' lengths.
 #[inline(never)]
-fn rust(r: &Rows, n: usize, mode: u8, pred: &mut [u16], scratch: &mut AngularScratch) {
-    predict_angular_into(r.corner, &r.above, &r.left, n, mode, true, r.largest() as i32, pred, scratch)
+fn inlined(r: &Rows, n: usize, mode: u8, pred: &mut [u16], scratch: &mut intra::AngularScratch) {
+    intra::predict_angular_into(r.corner, &r.above, &r.left, n, mode, true, r.largest() as i32, pred, scratch)
 }
 
 #[inline(always)]
@@ -45,9 +50,14 @@ fn proved(r: &Rows, n: usize, mode: u8, pred: &mut [u16], s: &mut Scratch) -> u3
 }
 
 pub fn time(table: &mut Table) {
+    let call: Rust = black_box(predict_angular_into);
+    let rust = |r: &Rows, n: usize, mode: u8, pred: &mut [u16], scratch: &mut AngularScratch| {
+        call(r.corner, &r.above, &r.left, n, mode, true, r.largest() as i32, pred, scratch)
+    };
     let rows = rows(2);
     let (mut p, mut q) = ([0u16; 1024], [0u16; 1024]);
     let mut rust_scratch = AngularScratch::new();
+    let mut inlined_scratch = intra::AngularScratch::new();
     let mut scratch = Scratch { refs: [0; 193], indices: [0; 32], fractions: [0; 32] };
     let (mut all, mut worst) = (Vec::new(), (0.0, 0, 0));
     for n in SIDES {
@@ -57,13 +67,16 @@ pub fn time(table: &mut Table) {
                 rust(r, n, mode, &mut p, &mut rust_scratch);
                 assert_eq!((proved(r, n, mode, &mut q, &mut scratch), q), (0, p), "mode {mode}");
             }
-            let times = race(
+            let mut proved = |r: &Rows| {
+                black_box(proved(r, black_box(n), black_box(mode), black_box(&mut q), &mut scratch));
+            };
+            let times =
+                race(&rows, |r| rust(r, black_box(n), black_box(mode), black_box(&mut p), &mut rust_scratch), &mut proved);
+            let times = times.best(race(
                 &rows,
-                |r| rust(r, black_box(n), black_box(mode), black_box(&mut p), &mut rust_scratch),
-                |r| {
-                    black_box(proved(r, black_box(n), black_box(mode), black_box(&mut q), &mut scratch));
-                },
-            );
+                |r| inlined(r, black_box(n), black_box(mode), black_box(&mut p), &mut inlined_scratch),
+                &mut proved,
+            ));
             if table.modes {
                 table.show(&format!("angular, mode {mode}"), n, times);
             }

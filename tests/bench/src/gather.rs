@@ -18,9 +18,11 @@ struct Block {
     col: usize,
 }
 
-#[inline(never)]
-fn rust(plane: &[u16], b: &Block) -> (u16, [u16; 65], [u16; 65]) {
-    let geo = LumaRefGeometry {
+/// The Rust's function, called as it stands.
+type Rust = fn(&[u16], LumaRefGeometry) -> (u16, [u16; 65], [u16; 65]);
+
+fn geometry(b: &Block) -> LumaRefGeometry {
+    LumaRefGeometry {
         stride: WIDTH,
         block_row: b.row,
         block_col: b.col,
@@ -30,8 +32,7 @@ fn rust(plane: &[u16], b: &Block) -> (u16, [u16; 65], [u16; 65]) {
         ctus_x: WIDTH.div_ceil(b.ctu),
         min_pu: b.unit,
         neutral: 1 << (BITS - 1),
-    };
-    get_reference_samples(plane, geo)
+    }
 }
 
 #[inline(always)]
@@ -45,6 +46,8 @@ fn proved(plane: &[u16], b: &Block, out: &mut References) {
 }
 
 pub fn time(table: &mut Table) {
+    let call: Rust = black_box(get_reference_samples);
+    let rust = |plane: &[u16], b: &Block| call(plane, geometry(b));
     let mut random = Random::new(7);
     let plane = plane(&mut random, WIDTH * HEIGHT, BITS);
     let mut got = References { no: 1, rows: PlaneRows::ZERO };

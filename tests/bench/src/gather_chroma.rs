@@ -24,9 +24,11 @@ struct Block {
 
 type RustRows = (u16, [u16; 65], [u16; 65]);
 
-#[inline(never)]
-fn rust(cb: &[u16], cr: &[u16], b: &Block) -> (RustRows, RustRows) {
-    let geo = ChromaRefGeometry {
+/// The Rust's function, called as it stands.
+type Rust = fn(&[u16], &[u16], ChromaRefGeometry) -> (RustRows, RustRows);
+
+fn geometry(b: &Block) -> ChromaRefGeometry {
+    ChromaRefGeometry {
         stride: WIDTH / b.sub_w,
         block_row: b.row,
         block_col: b.col,
@@ -41,8 +43,7 @@ fn rust(cb: &[u16], cr: &[u16], b: &Block) -> (RustRows, RustRows) {
         cur_luma_row: b.luma_row,
         cur_luma_col: b.luma_col,
         neutral: 1 << (BITS - 1),
-    };
-    get_reference_samples_chroma_pair(cb, cr, geo)
+    }
 }
 
 #[inline(always)]
@@ -70,6 +71,8 @@ fn proved(cb: &[u16], cr: &[u16], b: &Block, out: &mut ReferencePair) {
 }
 
 pub fn time(table: &mut Table) {
+    let call: Rust = black_box(get_reference_samples_chroma_pair);
+    let rust = |cb: &[u16], cr: &[u16], b: &Block| call(cb, cr, geometry(b));
     let mut random = Random::new(8);
     let mut got = ReferencePair { no: 1, planes: [PlaneRows::ZERO; 2] };
     for (what, idc, sub_w, sub_h) in [("4:2:0", 1, 2, 2), ("4:2:2", 2, 2, 1), ("4:4:4", 3, 1, 1)] {

@@ -1,8 +1,9 @@
 //! Times the proved code beside the Rust of docs/src: the same inputs, in one process, by the same loop. A markdown table of
 //! the least time of a call on either side goes to standard output, with the ratio that each line is to keep to.
 //!
-//! Either side costs one call that is not inlined: the Rust's function stands in one of its own, the proved one is the entry with
-//! the whole door behind it. Buffers are lent again and again and not cleared between calls. Both sides' answers are compared
+//! Either side costs one call that is not inlined: the Rust's function itself, through a pointer that the compiler cannot see
+//! through, and the entry with the whole door behind it. Functions that take rows are also timed built into one that knows the
+//! rows' lengths, and the better of both counts for the Rust. Buffers are lent again and again and not cleared between calls. Both sides' answers are compared
 //! before they are timed. `bench modes` adds a line for every angular mode and side.
 //!
 //! A subject whose entries the probes do not have yet is left out; see build.rs.
@@ -31,6 +32,12 @@ mod table;
 /// The Rust of docs/src, unchanged; see tests/differential/build.rs.
 #[allow(dead_code)]
 mod oracle {
+    include!(concat!(env!("OUT_DIR"), "/oracle.rs"));
+}
+
+/// Once more, for functions that are to be built into their callers, which the compiler does where there is one caller alone.
+#[allow(dead_code)]
+mod inlined {
     include!(concat!(env!("OUT_DIR"), "/oracle.rs"));
 }
 

@@ -14,6 +14,11 @@ pub struct Times {
 }
 
 impl Times {
+    /// The better of two on either side.
+    pub fn best(self, other: Times) -> Times {
+        Times { rust: self.rust.min(other.rust), rattle: self.rattle.min(other.rattle) }
+    }
+
     pub fn ratio(self) -> f64 {
         self.rattle / self.rust
     }

@@ -6,10 +6,9 @@ use crate::race::race;
 use crate::table::Table;
 use std::hint::black_box;
 
-#[inline(never)]
-fn residual_rust(b: &Blocks, n: usize, out: &mut [i32]) {
-    intra::compute_residual_i32_into(&b.original, &b.predicted, n, out)
-}
+/// The Rust's functions, called as they stand.
+type RustResidual = fn(&[u16], &[u16], usize, &mut [i32]);
+type RustReconstruct = fn(&[u16], &[i32], usize, u16, &mut [u16]);
 
 #[inline(always)]
 fn residual_proved(b: &Blocks, n: usize, out: &mut [i32]) -> u32 {
@@ -17,11 +16,6 @@ fn residual_proved(b: &Blocks, n: usize, out: &mut [i32]) -> u32 {
     let (ol, pl, len) = (b.original.len(), b.predicted.len(), out.len());
     // the lengths are those of the three slices
     unsafe { salvrunde_probe_compute_residual_i32_into(o, ol, p, pl, n, out.as_mut_ptr(), len) }
-}
-
-#[inline(never)]
-fn reconstruct_rust(b: &Blocks, n: usize, out: &mut [u16]) {
-    intra::reconstruct_into(&b.predicted, &b.residual, n, ((1u32 << b.bits) - 1) as u16, out)
 }
 
 #[inline(always)]
@@ -33,6 +27,11 @@ fn reconstruct_proved(b: &Blocks, n: usize, out: &mut [u16]) -> u32 {
 }
 
 pub fn time(table: &mut Table) {
+    let residual: RustResidual = black_box(intra::compute_residual_i32_into);
+    let residual_rust = |b: &Blocks, n: usize, out: &mut [i32]| residual(&b.original, &b.predicted, n, out);
+    let reconstruct: RustReconstruct = black_box(intra::reconstruct_into);
+    let reconstruct_rust =
+        |b: &Blocks, n: usize, out: &mut [u16]| reconstruct(&b.predicted, &b.residual, n, ((1u32 << b.bits) - 1) as u16, out);
     let (mut p, mut q) = ([0i32; 1024], [0i32; 1024]);
     for n in SIDES {
         let blocks = blocks(5, n);
