@@ -59,9 +59,10 @@ pub fn time(table: &mut Table) {
     let mut rust_scratch = AngularScratch::new();
     let mut inlined_scratch = intra::AngularScratch::new();
     let mut scratch = Scratch { refs: [0; 193], indices: [0; 32], fractions: [0; 32] };
-    let (mut all, mut worst) = (Vec::new(), (0.0, 0, 0));
+    let (mut all, mut all_called, mut worst) = (Vec::new(), Vec::new(), (0.0, 0.0, 0, 0));
     for n in SIDES {
-        let (mut sum, mut ratios) = (Times { rust: 0.0, rattle: 0.0 }, Vec::new());
+        let mut sum = Times { rust: 0.0, inlined: 0.0, rattle: 0.0 };
+        let (mut ratios, mut called) = (Vec::new(), Vec::new());
         for mode in 2..=34 {
             for r in &rows {
                 rust(r, n, mode, &mut p, &mut rust_scratch);
@@ -72,7 +73,7 @@ pub fn time(table: &mut Table) {
             };
             let times =
                 race(&rows, |r| rust(r, black_box(n), black_box(mode), black_box(&mut p), &mut rust_scratch), &mut proved);
-            let times = times.best(race(
+            let times = times.inlined(race(
                 &rows,
                 |r| inlined(r, black_box(n), black_box(mode), black_box(&mut p), &mut inlined_scratch),
                 &mut proved,
@@ -81,17 +82,20 @@ pub fn time(table: &mut Table) {
                 table.show(&format!("angular, mode {mode}"), n, times);
             }
             sum.rust += times.rust;
+            sum.inlined += times.inlined;
             sum.rattle += times.rattle;
             ratios.push(times.ratio());
+            called.push(times.to_called());
             if times.ratio() > worst.0 {
-                worst = (times.ratio(), mode, n);
+                worst = (times.ratio(), times.to_called(), mode, n);
             }
         }
-        let each = Times { rust: sum.rust / 33.0, rattle: sum.rattle / 33.0 };
+        let each = Times { rust: sum.rust / 33.0, inlined: sum.inlined / 33.0, rattle: sum.rattle / 33.0 };
         table.show("angular, mean time of 33 modes", n, each);
-        table.ratio("angular, geometric mean of 33 ratios", n, mean(&ratios), 1.0);
+        table.ratio("angular, geometric mean of 33 ratios", n, mean(&called), mean(&ratios), 1.0);
         all.extend(ratios);
+        all_called.extend(called);
     }
-    table.ratio("angular, geometric mean of 132 ratios", 0, mean(&all), 0.8);
-    table.ratio(&format!("angular, greatest ratio (mode {}, side {})", worst.1, worst.2), 0, worst.0, 1.5);
+    table.ratio("angular, geometric mean of 132 ratios", 0, mean(&all_called), mean(&all), 0.8);
+    table.ratio(&format!("angular, greatest ratio (mode {}, side {})", worst.2, worst.3), 0, worst.1, worst.0, 1.5);
 }

@@ -51,7 +51,7 @@ pub fn time(table: &mut Table) {
         let proved = |r: &Rows, q: &mut [u16]| black_box(planar_proved(r, black_box(n), black_box(q)));
         let times = race(&rows, |r| planar_rust(r, black_box(n), black_box(&mut p)), |r| _ = proved(r, &mut q));
         let inlined = race(&rows, |r| planar_inlined(r, black_box(n), black_box(&mut p)), |r| _ = proved(r, &mut q));
-        table.line("planar", n, times.best(inlined), 1.0);
+        table.line("planar", n, times.inlined(inlined), 1.0);
     }
     for (what, edge) in [("DC", false), ("DC, edge on", true)] {
         for n in SIDES {
@@ -63,7 +63,7 @@ pub fn time(table: &mut Table) {
             let times = race(&rows, |r| dc_rust(r, black_box(n), black_box(edge), black_box(&mut p)), |r| _ = proved(r, &mut q));
             let inlined =
                 race(&rows, |r| dc_inlined(r, black_box(n), black_box(edge), black_box(&mut p)), |r| _ = proved(r, &mut q));
-            table.line(what, n, times.best(inlined), 1.0);
+            table.line(what, n, times.inlined(inlined), 1.0);
         }
     }
 }

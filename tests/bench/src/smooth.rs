@@ -52,7 +52,7 @@ fn time_luma(table: &mut Table, what: &str, rows: &[Rows], n: usize) {
     }
     let mut proved = |r: &Rows| luma_proved(r, black_box(n), black_box(&mut got));
     let times = race(rows, |r| _ = black_box(&luma_rust(r, black_box(n))), &mut proved);
-    let times = times.best(race(rows, |r| _ = black_box(&luma_inlined(r, black_box(n))), &mut proved));
+    let times = times.inlined(race(rows, |r| _ = black_box(&luma_inlined(r, black_box(n))), &mut proved));
     table.line(what, n, times, 1.0);
 }
 
@@ -69,7 +69,7 @@ pub fn time(table: &mut Table) {
         }
         let mut proved = |r: &Rows| references_proved(r, black_box(n), black_box(&mut got));
         let times = race(&weak, |r| _ = black_box(&references_rust(r, black_box(n))), &mut proved);
-        let times = times.best(race(&weak, |r| _ = black_box(&references_inlined(r, black_box(n))), &mut proved));
+        let times = times.inlined(race(&weak, |r| _ = black_box(&references_inlined(r, black_box(n))), &mut proved));
         table.line("filter_references", n, times, 1.0);
     }
     for n in SIDES {

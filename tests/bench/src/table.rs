@@ -8,6 +8,12 @@ pub struct Table {
     missed: Vec<String>,
 }
 
+/// The times, and the ratio to the Rust as it stands.
+fn figures(t: Times) -> String {
+    let inlined = if t.inlined.is_nan() { String::new() } else { format!("{:.1}", t.inlined) };
+    format!("{:.1} | {inlined} | {:.1} | {:.2}", t.rust, t.rattle, t.to_called())
+}
+
 /// The geometric mean.
 pub fn mean(ratios: &[f64]) -> f64 {
     (ratios.iter().map(|r| r.ln()).sum::<f64>() / ratios.len() as f64).exp()
@@ -15,30 +21,26 @@ pub fn mean(ratios: &[f64]) -> f64 {
 
 impl Table {
     pub fn new(modes: bool) -> Table {
-        println!("| Call | Side | Rust, ns | Proved, ns | Ratio | At most |");
-        println!("|---|--:|--:|--:|--:|--:|");
+        println!("| Call | Side | Rust, ns | built in | Proved, ns | To called | Ratio | At most |");
+        println!("|---|--:|--:|--:|--:|--:|--:|--:|");
         Table { modes, kept: 0, missed: Vec::new() }
     }
 
     /// A line with no target.
     pub fn show(&mut self, what: &str, side: usize, times: Times) {
-        println!("| {what} | {side} | {:.1} | {:.1} | {:.2} | |", times.rust, times.rattle, times.ratio());
+        println!("| {what} | {side} | {} | {:.2} | |", figures(times), times.ratio());
     }
 
     pub fn line(&mut self, what: &str, side: usize, times: Times, most: f64) {
-        let ratio = times.ratio();
-        println!(
-            "| {what} | {side} | {:.1} | {:.1} | {} | {most} |",
-            times.rust,
-            times.rattle,
-            self.held(what, side, ratio, most)
-        );
+        let ratio = self.held(what, side, times.ratio(), most);
+        println!("| {what} | {side} | {} | {ratio} | {most} |", figures(times));
     }
 
-    /// A ratio of many lines; side 0 stands for all sides.
-    pub fn ratio(&mut self, what: &str, side: usize, ratio: f64, most: f64) {
+    /// A ratio of many lines, and that to the Rust as it stands; side 0 stands for all sides.
+    pub fn ratio(&mut self, what: &str, side: usize, to_called: f64, ratio: f64, most: f64) {
         let sides = if side == 0 { "all".into() } else { side.to_string() };
-        println!("| {what} | {sides} | | | {} | {most} |", self.held(what, side, ratio, most));
+        let ratio = self.held(what, side, ratio, most);
+        println!("| {what} | {sides} | | | | {to_called:.2} | {ratio} | {most} |");
     }
 
     /// Counts a target, and writes its ratio: bold where it is missed.
