@@ -40,7 +40,7 @@ pub mod reach {
 }
 "#;
 
-fn main() {
+pub fn main() {
     let here = env::var("CARGO_MANIFEST_DIR").unwrap();
     let source = Path::new(&here).join("../../docs/src/src");
     let out = env::var("OUT_DIR").unwrap();

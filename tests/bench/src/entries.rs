@@ -1,0 +1,158 @@
+//! The entries of crate probes as C sees them on x86-64: a slice is its address and its length, and a result of more than two
+//! words is written where a first argument says, which comes back. Said so, it holds wherever the module is compiled for.
+
+/// A call's number, and two rows.
+#[repr(C)]
+pub struct TwoRows {
+    pub no: u32,
+    pub above: [u16; 65],
+    pub left: [u16; 65],
+}
+
+/// A call's number, and the corner and two rows.
+#[repr(C)]
+pub struct References {
+    pub no: u32,
+    pub rows: PlaneRows,
+}
+
+/// A call's number, and the rows of Cb and of Cr.
+#[repr(C)]
+pub struct ReferencePair {
+    pub no: u32,
+    pub planes: [PlaneRows; 2],
+}
+
+#[repr(C)]
+#[derive(Clone, Copy)]
+pub struct PlaneRows {
+    pub corner: u16,
+    pub above: [u16; 65],
+    pub left: [u16; 65],
+}
+
+impl PlaneRows {
+    pub const ZERO: PlaneRows = PlaneRows { corner: 0, above: [0; 65], left: [0; 65] };
+
+    /// As the Rust has them.
+    pub fn tuple(&self) -> (u16, [u16; 65], [u16; 65]) {
+        (self.corner, self.above, self.left)
+    }
+}
+
+unsafe extern "C" {
+    pub fn salvrunde_probe_predict_planar_into(
+        above: *const u16,
+        above_len: usize,
+        left: *const u16,
+        left_len: usize,
+        n: usize,
+        pred: *mut u16,
+        pred_len: usize,
+    ) -> u32;
+
+    pub fn salvrunde_probe_predict_dc_into(
+        above: *const u16,
+        above_len: usize,
+        left: *const u16,
+        left_len: usize,
+        n: usize,
+        filter_boundary: bool,
+        pred: *mut u16,
+        pred_len: usize,
+    ) -> u32;
+
+    pub fn salvrunde_probe_predict_angular_slices(
+        corner: u16,
+        above: *const u16,
+        above_len: usize,
+        left: *const u16,
+        left_len: usize,
+        n: usize,
+        mode: u8,
+        filter_boundary: bool,
+        bits: u32,
+        pred: *mut u16,
+        pred_len: usize,
+        refs: *mut u16,
+        refs_len: usize,
+        indices: *mut u32,
+        indices_len: usize,
+        fractions: *mut u32,
+        fractions_len: usize,
+    ) -> u32;
+
+    pub fn salvrunde_probe_filter_references(
+        out: *mut TwoRows,
+        corner: u16,
+        above: *const u16,
+        above_len: usize,
+        left: *const u16,
+        left_len: usize,
+        n: usize,
+    ) -> *mut TwoRows;
+
+    pub fn salvrunde_probe_filter_luma_refs(
+        out: *mut References,
+        corner: u16,
+        above: *const u16,
+        above_len: usize,
+        left: *const u16,
+        left_len: usize,
+        n: usize,
+        bits: u32,
+    ) -> *mut References;
+
+    pub fn salvrunde_probe_get_reference_samples(
+        out: *mut References,
+        plane: *const u16,
+        plane_len: usize,
+        bits: u32,
+        width: u32,
+        height: u32,
+        ctu: u32,
+        unit: u32,
+        row: u32,
+        col: u32,
+        n: usize,
+    ) -> *mut References;
+
+    pub fn salvrunde_probe_get_reference_samples_chroma_pair(
+        out: *mut ReferencePair,
+        plane_cb: *const u16,
+        plane_cb_len: usize,
+        plane_cr: *const u16,
+        plane_cr_len: usize,
+        bits: u32,
+        format: u32,
+        luma_w: u32,
+        luma_h: u32,
+        min_luma_pu: u32,
+        row: u32,
+        col: u32,
+        n: usize,
+        cur_luma_row: u32,
+        cur_luma_col: u32,
+    ) -> *mut ReferencePair;
+
+    pub fn salvrunde_probe_compute_residual_i32_into(
+        orig: *const u16,
+        orig_len: usize,
+        pred: *const u16,
+        pred_len: usize,
+        n: usize,
+        residual: *mut i32,
+        residual_len: usize,
+    ) -> u32;
+
+    pub fn salvrunde_probe_reconstruct_into(
+        pred: *const u16,
+        pred_len: usize,
+        residual: *const i32,
+        residual_len: usize,
+        n: usize,
+        bits: u32,
+        out: *mut u16,
+        out_len: usize,
+    ) -> u32;
+}
