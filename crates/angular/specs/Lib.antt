@@ -10,6 +10,5 @@ pub mod Door
 pub mod Grid
 pub mod Reach
 pub mod Blocks
--- Mean: what a predictor without edge filter is; Range: angular prediction is one, and what it reads.
-pub mod Mean
+-- Range: angular prediction without edge filter is a mean, and what it reads.
 pub mod Range

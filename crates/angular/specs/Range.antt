@@ -15,7 +15,7 @@ use Rattle.angular.specs.Unsigned.{angles, inverses, interpOf, startOf, 
 use Rattle.angular.specs.Lines.{firstOf, first-le}
 use Rattle.angular.specs.Tables.{side-reach}
 use Rattle.angular.specs.Reach.{side-falls}
-use Rattle.angular.specs.Mean.{Under, Agree, even, Mean, agree-under}
+use Rattle.h265.specs.Mean.{Under, Agree, even, Mean, agree-under}
 use Rattle.laws.specs.Diff.{order}
 use Rattle.angular.specs.Bridge.{angular-same, angle-most}
 

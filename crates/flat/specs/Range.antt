@@ -12,7 +12,7 @@ use Rattle.h265.specs.Planar.{planar}
 use Rattle.h265.specs.Dc.{sum, dcVal, dc}
 use Rattle.flat.specs.Flat.{planarMix, blended, cornered}
 use Rattle.flat.specs.Text.{planar-mix, dc-mean}
-use Rattle.flat.specs.Mean.{Under, level, Mean, Agree, between, alone}
+use Rattle.h265.specs.Mean.{Under, even, Mean, Agree, between, alone}
 
 -- a total weight w of one value
 weighed : (w v h : ℕ) → h < w → (w * v + h) / w ≡ v
@@ -51,7 +51,7 @@ mean-planar n x y s hx hy = record {
   rises = λ a b u.
       rw (← planar-mix n s a y x, ← planar-mix n s b y x)
       (mix-rises n y x _ _ _ _ _ _ _ _ (omega arith) (u .left y (omega arith)) (u .above n (omega arith)) (u .above x (omega arith)) (u .left n (omega arith)));
-  flat = λ v. rw (← planar-mix n s (level v) y x) (mix-flat n y x v hx hy);
+  flat = λ v. rw (← planar-mix n s (even v) y x) (mix-flat n y x v hx hy);
 }
 
 sum-rises : (f g : ℕ → ℕ) (k : ℕ) → ((i : ℕ) → i < k → f i ≤ g i) → sum f k ≤ sum g k
@@ -76,7 +76,7 @@ mean-value n s = record {
       let h = size-small n s in
       let t = twice n v in
       let p = sum-flat v n in
-      rw (← dc-mean n s (level v) _ refl)
+      rw (← dc-mean n s (even v) _ refl)
       (ap (λ (k : ℕ). k / (2 * n)) (let e : sum (λ (i : ℕ). v) n + sum (λ (i : ℕ). v) n + n ≡ 2 * n * v + n = omega arith in e) ∙ weighed (2 * n) v n (omega arith));
 }
 
@@ -125,7 +125,7 @@ module _ (n x y : ℕ) (s : Size n) (hx : x < n) (hy : y < n) (a b : Neighbours)
   dc-alone edge = alone n (λ (nb : Neighbours). dc edge n nb x y) (mean-dc edge n x y s hx hy) a b′ agree
 
 -- every sample lies between any bounds of the corner and entries 0 .. 2n - 1
-module _ (n x y : ℕ) (s : Size n) (hx : x < n) (hy : y < n) (lo hi : ℕ) (nb : Neighbours) (low : Under n (level lo) nb) (high : Under n nb (level hi)) where
+module _ (n x y : ℕ) (s : Size n) (hx : x < n) (hy : y < n) (lo hi : ℕ) (nb : Neighbours) (low : Under n (even lo) nb) (high : Under n nb (even hi)) where
   pub planar-between : (lo ≤ planar n nb x y) × (planar n nb x y ≤ hi)
   planar-between = between n (λ (m : Neighbours). planar n m x y) (mean-planar n x y s hx hy) lo hi nb low high
 

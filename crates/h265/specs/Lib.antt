@@ -19,5 +19,7 @@ pub mod Dc
 pub mod Angular
 -- 8.4.4.2.1, how the clauses make a block's prediction
 pub mod Prediction
+-- neighbours that agree where prediction reads them, and predictors that are means
+pub mod Mean
 -- small evaluations
 pub mod Examples

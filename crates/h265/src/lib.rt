@@ -1,2 +1,2 @@
 // H.265 as definitions, a file of specs/ for each clause; no code. A library has at least one function.
-pub fn nothing() {}
+fn nothing() {}

@@ -1,10 +1,10 @@
 -- The cases of a sign, as a test finds them, and what an absolute value and a clamp are in each. Assumes nothing.
 use mathlib.Core.Path.{_≡_, refl, sym, ap, _∙_}
-use mathlib.Core.Bool.{true, false, true≢false}
+use mathlib.Core.Bool.{true, false, true≢false, false≢true}
 use Prim.Native.Nat.{ℕ, zero, suc, _+_, _-_, _≤_, _<_}
 use native.Mathlib.Nat.{not-suc-le-zero, min-eq-left, min-eq-right}
 use native.Mathlib.Omega.{arith}
-use borrow.Author.Tests.{ltb-true}
+use borrow.Author.Tests.{ltb-true, ltb-false}
 use mir.Syntax.{w32}
 use mir.Val.{Fits, SFits, toZ, ofZ}
 use mir.Facts.{toZ-ofZ, fits-natAbs}
@@ -65,3 +65,38 @@ within m (negsuc k) t h = absurd t
 pub over : (m : ℕ) (z : ℤ) → T (nonNeg z) → m ≤ natAbs z → m ≡ clipTo m z
 over m (pos k) t h = sym (min-eq-right h)
 over m (negsuc k) t h = absurd t
+
+-- r stands for v in every clamp to 32767 or less, and is an i16
+pub record Narrowed (v r : ℤ) : Type 0 where
+  pub short : mag r < 32768
+  pub same : (m : ℕ) → m ≤ 32767 → clipTo m r ≡ clipTo m v
+
+pub narrow-low : (v : ℤ) → ltZ v (negsuc 32767) ≡ true → Narrowed v (negsuc 32767)
+narrow-low (pos k) e = absurd (false≢true e)
+narrow-low (negsuc k) e = record { short = omega arith; same = λ m h. refl }
+
+pub narrow-high : (v : ℤ) → ltZ (pos 32767) v ≡ true → Narrowed v (pos 32767)
+narrow-high (pos k) e = let l = ltb-true 32767 k e in record { short = omega arith; same = λ m h. omega arith }
+narrow-high (negsuc k) e = absurd (false≢true e)
+
+pub narrow-none : (v : ℤ) → ltZ v (negsuc 32767) ≡ false → ltZ (pos 32767) v ≡ false → Narrowed v v
+narrow-none (pos k) e f = let l = ltb-false 32767 k f in record { short = omega arith; same = λ m h. refl }
+narrow-none (negsuc k) e f = let l = ltb-false 32767 k e in record { short = omega arith; same = λ m h. refl }
+
+-- an i16 that is not below 0
+pub as-clipped : (z : ℤ) → T (nonNeg z) → mag z < 32768 → z ≡ pos (clipTo 32767 z)
+as-clipped (pos k) t h = ap pos (sym (min-eq-left (omega arith)))
+as-clipped (negsuc k) t h = absurd t
+
+-- a clamp to less, from the clamp to 32767
+pub short-under : (l : ℕ) (v : ℤ) → l ≤ 32767 → clipTo 32767 v < l → clipTo 32767 v ≡ clipTo l v
+short-under l (pos k) h e = omega arith
+short-under l (negsuc k) h e = refl
+
+pub short-over : (l : ℕ) (v : ℤ) → l ≤ 32767 → l ≤ clipTo 32767 v → l ≡ clipTo l v
+short-over l (pos k) h e = omega arith
+short-over l (negsuc k) h e = omega arith
+
+pub clip-most : (m : ℕ) (z : ℤ) → clipTo m z ≤ m
+clip-most m (pos k) = omega arith
+clip-most m (negsuc k) = omega arith

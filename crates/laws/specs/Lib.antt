@@ -2,6 +2,8 @@
 -- Fill: lists given by a function of the index, with FillLaws, the steps of the loops that make them.
 pub mod Fill
 pub mod FillLaws
+-- Paint: a block in a flat list, such as a plane's.
+pub mod Paint
 -- Choose: answers by tests, and the first check that fails.
 pub mod Choose
 -- Table: a rule at every entry of a table, by one computed test.

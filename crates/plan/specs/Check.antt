@@ -1,11 +1,11 @@
 -- Document 01: the plan check, 4, then each block in list order by 2, 3, 6, 9, then 10. Number 9 and 10 go by a running count of the
--- samples that are covered; that this decides 'next uncovered cell' and 'covers all' exactly is proved in Ahead. Assumes nothing.
+-- samples that are covered; that this decides 'next uncovered cell' and 'covers all' exactly is proved in Cover. Assumes nothing.
 use Prim.Native.Nat.{ℕ, zero, suc, _+_, _-_, _*_, _/_, _%_, min}
-use mathlib.Core.Bool.{Bool, true, false, cond, _&&_}
+use mathlib.Core.Bool.{Bool, cond, _&&_}
 use mathlib.Core.List.{List, [], _∷_}
 use lib.Dec.{leb, eqb}
 use lib.ListN.{length}
-use Rattle.laws.specs.Choose.{_unless_, firstFail, served}
+use Rattle.laws.specs.Choose.{_unless_, firstFail}
 use Rattle.h265.specs.Notation.{log2}
 use Rattle.domain.specs.Domain.{sizeOk, modeOk}
 use Rattle.order.specs.Order.{pictureOk}

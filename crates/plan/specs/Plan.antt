@@ -1,6 +1,6 @@
 -- Document 01, 'Plan, walk, replay': when a plan is good, by what its blocks cover. A plan is count blocks, plan 0 to plan (count - 1).
 -- A cell of 4 by 4 samples is named by any of its samples. Assumes nothing.
-use Prim.Native.Nat.{ℕ, zero, suc, _+_, _-_, _*_, _/_, _%_, _≤_, _<_}
+use Prim.Native.Nat.{ℕ, zero, suc, _+_, _*_, _%_, _≤_, _<_}
 use mathlib.Core.Path.{_≡_}
 use mathlib.Core.List.{List, []}
 use lib.ListN.{getD}

@@ -15,6 +15,7 @@ use borrow.Author.Tests.{lt-ltb, le-ltb, le-leb, lt-leb, eq-eqb, ne-eqb, leb-tru
 use Rattle.laws.specs.Choose.{both-true, passed}
 use Rattle.laws.specs.Fill.{fill}
 use Rattle.laws.specs.FillLaws.{fill-at, length-fill}
+use Rattle.h265.specs.Mean.{Agree}
 use Rattle.h265.specs.Notation.{Neighbours, near}
 use Rattle.h265.specs.Setting.{lumaAt}
 use Rattle.h265.specs.Availability.{available}
@@ -36,12 +37,6 @@ use Rattle.refs.specs.Substitution.{onLine, flagsOn, samplesOn, levelRow
 use Rattle.refs.specs.Gather.{flagsBy, samplesBy, gatheredBy, sampleOf}
 use Rattle.refs.specs.Door.{neutralAt, lumaBlock, lumaNo, lumaRows}
 use Rattle.refs.specs.Shorter.{Shared, shorter}
-
--- two blocks of side n have the same neighbours: the corner and entries 0 to 2n - 1 of both rows
-pub record Agree (n : ℕ) (a b : Neighbours) : Type 0 where
-  pub corner : a .corner ≡ b .corner
-  pub above : (i : ℕ) → i < 2 * n → a .above i ≡ b .above i
-  pub left : (i : ℕ) → i < 2 * n → a .left i ≡ b .left i
 
 -- the places of our line
 module _ {A : Type 0} (l : ℕ → A) (c : A) (u : ℕ → A) (e : ℕ) where

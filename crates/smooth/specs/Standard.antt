@@ -7,26 +7,37 @@ use Prim.Native.Nat.{ℕ, zero, suc, _+_, _-_, _*_, _≤_, _<_}
 use native.Mathlib.Omega.{arith}
 use borrow.Author.Tests.{lt-ltb, le-ltb, eqb-true}
 use lib.Dec.{eqb}
-use lib.ListN.{getD, replicate, length-replicate}
+use lib.ListN.{length, getD, replicate, length-replicate}
 use lib.IntN.{pos, _-ℤ_}
-use Rattle.laws.specs.FillLaws.{fill-at}
+use Rattle.laws.specs.FillLaws.{fill-at, fill-past}
 use Rattle.laws.specs.Diff.{order, sub-pos}
+use Rattle.h265.specs.Mean.{Agree}
 use Rattle.h265.specs.Notation.{Neighbours, fromRows}
 use Rattle.h265.specs.Filtering.{biIntFlag, strongAt, weakAt, filtered}
 use Rattle.rows.specs.Neighbours.{neighboursOf}
-use Rattle.smooth.specs.Smoothing.{rowEntry, rowOf, smoothed}
+use Rattle.smooth.specs.Smoothing.{rowEntry, rowOf, smoothed, lumaNo, lumaDoor}
+use Rattle.smooth.specs.Steps.{luma-ready}
 use Rattle.smooth.specs.Forms.{line, weakRow, strong-side, strong-is, weak-is}
-
--- two neighbourhoods of a block of side n: the same corner and entries 0 to 2n - 1
-pub record Agree (n : ℕ) (p q : Neighbours) : Type 0 where
-  pub corner : p .corner ≡ q .corner
-  pub above : (i : ℕ) → i < 2 * n → p .above i ≡ q .above i
-  pub left : (i : ℕ) → i < 2 * n → p .left i ≡ q .left i
 
 row-at : (n : ℕ) (pF : ℕ → ℕ) (row : List ℕ) → n ≤ 32 → (i : ℕ) → i < 2 * n → getD (rowOf n pF row) i 0 ≡ pF i
 unfolding rowOf
 row-at n pF row h i l =
     fill-at (rowEntry n pF row) (2 * n + 1) (replicate 65 0) i 0 (omega arith) (rw length-replicate (omega arith)) ∙ rw (lt-ltb i (2 * n) l)
+
+-- entry 2n is copied, and what lies past it is 0
+pub row-kept : (n : ℕ) (pF : ℕ → ℕ) (row : List ℕ) → n ≤ 32 → getD (rowOf n pF row) (2 * n) 0 ≡ getD row (2 * n) 0
+unfolding rowOf
+row-kept n pF row h =
+    fill-at (rowEntry n pF row) (2 * n + 1) (replicate 65 0) (2 * n) 0 (omega arith) (rw length-replicate (omega arith)) ∙ rw (le-ltb (2 * n) (2 * n) (omega arith))
+
+zeros : (k i : ℕ) → _≡_ {A = ℕ} (getD (replicate k 0) i 0) 0
+zeros zero i = refl
+zeros (suc k) zero = refl
+zeros (suc k) (suc i) = zeros k i
+
+pub row-past : (n : ℕ) (pF : ℕ → ℕ) (row : List ℕ) (i : ℕ) → 2 * n < i → getD (rowOf n pF row) i 0 ≡ 0
+unfolding rowOf
+row-past n pF row i h = fill-past (rowEntry n pF row) (2 * n + 1) (replicate 65 0) i 0 (omega arith) ∙ zeros 65 i
 
 -- what smoothing gives is the standard's
 pub is-standard : (allowed : Bool) (bits n corner : ℕ) (above left : List ℕ) → n ≤ 32
@@ -35,6 +46,13 @@ unfolding smoothed
 is-standard allowed bits n corner above left h =
     let pF = filtered allowed bits n (fromRows corner above left) in
     record { corner = refl; above = row-at n (pF .above) above h; left = row-at n (pF .left) left h }
+
+-- at the door: a call that is served
+pub door-is-standard : (allowed : Bool) (corner : ℕ) (above left : List ℕ) (n bits : ℕ) → lumaNo bits n (length above) (length left) ≡ 0
+    → Agree n (neighboursOf (lumaDoor allowed corner above left n bits .rows)) (filtered allowed bits n (fromRows corner above left))
+unfolding lumaDoor
+door-is-standard allowed corner above left n bits e =
+    rw e (is-standard allowed bits n corner above left (luma-ready bits n (length above) (length left) e .1 .high))
 
 -- what an entry is made of agrees, so it does
 module _ (n c d : ℕ) (row other : ℕ → ℕ) (e : c ≡ d) (same : (i : ℕ) → i < 2 * n → row i ≡ other i) where

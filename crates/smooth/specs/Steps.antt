@@ -1,4 +1,4 @@
--- The entries of a smoothed row as the code works them out, and the tests of the rule. Assumes nothing.
+-- The entries of a smoothed row as the code works them out, and what a call that is not refused knows. Assumes nothing.
 use mathlib.Core.Path.{_≡_, refl, ap}
 use mathlib.Core.Bool.{Bool, true, false, _&&_}
 use mathlib.Core.Logic.{⊎-elim}

@@ -1,31 +1,20 @@
--- `helpers::clamp` meets its contract. Below 0, within, and over. Assumes nothing.
-use native.Mathlib.Omega.{arith}
+-- `helpers::clamp` meets its contract. What the shorter or the longer way ensures. Assumes nothing.
 use borrow.Author.Needs.{needs}
 use mir.Facts.{toZ-ofZ}
-use Rattle.helpers.specs.Ways.{nonneg, unsigned, under, within, over}
 use Rattle.helpers.proofs.clamp.Statement.{statement}
 use Rattle.helpers.proofs.clamp.Tie as tie
 
+clamp-short-requires : tie.Need-clamp-short-requires
+clamp-short-requires c κs = search needs
+
 returns : tie.Need-returns
-returns c = let a = c .before .args in under (a .largest) (a .v) (rw (toZ-ofZ (c .before .fits .v)) at (c .if1 .taken))
+returns c = rw (toZ-ofZ (c .before .before .fits .v)) at (c .clamp-short .ensures)
 
-cast-w : tie.Need-cast-w
-cast-w c = unsigned (c .before .args .v) (c .before .fits .v) (c .if1 .left)
-
-cast-result : tie.Need-cast-result
-cast-result c = search needs
+clamp-long-requires : tie.Need-clamp-long-requires
+clamp-long-requires c κs = search needs
 
 returns-2 : tie.Need-returns-2
-returns-2 c =
-    let s = c .before .before in
-    let b = toZ-ofZ (s .fits .v) in
-    rw b (within (s .args .largest) (s .args .v) (nonneg (s .args .v) (rw b at (c .before .if1 .left))) (let h = rw b at (c .if2 .taken) in omega arith))
-
-returns-3 : tie.Need-returns-3
-returns-3 c =
-    let s = c .before .before in
-    let b = toZ-ofZ (s .fits .v) in
-    over (s .args .largest) (s .args .v) (nonneg (s .args .v) (rw b at (c .before .if1 .left))) (let h = rw b at (c .if2 .left) in omega arith)
+returns-2 c = rw (toZ-ofZ (c .before .before .fits .v)) at (c .clamp-long .ensures)
 
 pub clamp-spec : {M : Type 1} → statement M
-clamp-spec = tie.close (tie.spec returns cast-w cast-result returns-2 returns-3)
+clamp-spec = tie.close (tie.spec clamp-short-requires returns clamp-long-requires returns-2)

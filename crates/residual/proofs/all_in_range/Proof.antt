@@ -12,6 +12,8 @@ use Rattle.residual.specs.Laws.{none-in, one-more}
 use Rattle.residual.proofs.all_in_range.Statement.{statement}
 use Rattle.residual.proofs.all_in_range.Tie as tie
 
+-- Assumes nothing.
+
 abbrev Inv-loop : tie.InvT-loop
 Inv-loop residual runs ok₀ i₀ i-end ok i = (i ≤ runs * 16) × (ok ≡ allInRange residual i)
 

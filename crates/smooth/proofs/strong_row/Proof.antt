@@ -11,6 +11,8 @@ use Rattle.smooth.specs.Steps.{strongEntry, strong-mid, strong-last, str
 use Rattle.smooth.proofs.strong_row.Statement.{statement}
 use Rattle.smooth.proofs.strong_row.Tie as tie
 
+-- Assumes nothing.
+
 abbrev Inv-loop : tie.InvT-loop
 Inv-loop corner row to₀ far x₀ to x = (x ≤ 63) × ((length to ≡ 65) × (to ≡ fill (strongEntry corner row) x (replicate 65 0)))
 

@@ -12,6 +12,8 @@ use Rattle.smooth.specs.Steps.{weakEntry, weak-first, weak-mid, weak-end
 use Rattle.smooth.proofs.weak_row.Statement.{statement}
 use Rattle.smooth.proofs.weak_row.Tie as tie
 
+-- Assumes nothing.
+
 abbrev Inv-loop : tie.InvT-loop
 Inv-loop corner row n to₀ ext last x₀ to x = (1 ≤ x) × ((x ≤ last) × ((length to ≡ 65) × (to ≡ fill (weakEntry n corner row) x (replicate 65 0))))
 

@@ -1,10 +1,10 @@
--- What a predictor without edge filter is: it never falls where references rise, and gives a constant back. Range and reach follow, once for all predictors.
+-- Neighbours compared where prediction reads them, and what a predictor without edge filter is: it never falls where references rise, and gives a constant back. Range and reach follow, once for all predictors.
 -- Assumes nothing.
 use mathlib.Core.Path.{_≡_, subst}
 use Prim.Native.Nat.{ℕ, _*_, _≤_, _<_}
 use native.Mathlib.Nat.{le-antisymm}
 use native.Mathlib.Omega.{arith}
 use Rattle.h265.specs.Notation.{Neighbours}
 
 -- neighbours that are nowhere above others, in the corner and in entries 0 .. 2n - 1
 pub record Under (n : ℕ) (p q : Neighbours) : Type 0 where

@@ -1,0 +1,124 @@
+-- The turns of the plan check's loops. Assumes nothing.
+use mathlib.Core.Path.{_≡_, refl, sym, ap, ap₂, _∙_}
+use mathlib.Core.Bool.{Bool, cond}
+use Prim.Native.Nat.{ℕ, zero, suc, _+_, _-_, _*_, _/_, _%_, _^_, _≤_, _<_, min}
+use native.Mathlib.Nat.{mul-le-mul-left, mul-le-mul-right, mul-le-mul, pow-le-pow-right}
+use native.Mathlib.Numerals.{sub-one}
+use native.Mathlib.Omega.{arith}
+use lib.Dec.{eqb}
+use lib.Pow.{pow-pos}
+use borrow.Author.Tests.{eq-eqb, ne-eqb}
+use Rattle.laws.specs.Choose.{if-yes, if-no}
+use Rattle.h265.specs.Notation.{log2}
+use Rattle.domain.specs.Facts.{size-small}
+use Rattle.order.specs.Cells.{dbl}
+use Rattle.order.specs.Good.{Good, sized}
+use Rattle.plan.specs.declared.Frame.{Frame}
+use Rattle.plan.specs.declared.Block.{Block}
+use Rattle.plan.specs.declared.Verdict.{Verdict}
+use Rattle.plan.specs.Plan.{pictureOf, In}
+use Rattle.plan.specs.Check.{aheadBy, ahead, blockNo, verdictFrom}
+use Rattle.plan.specs.Tests.{Numbered, is-fine, not-size, not-mode, not-placed, not-next, numbered}
+use Rattle.plan.specs.Cover.{ahead-lt, block-area}
+
+-- a turn of the loop that counts them, from the cell up to the CTU
+abbrev pub Counts : ℕ → ℕ → ℕ → ℕ → ℕ → ℕ → ℕ → ℕ → ℕ → ℕ → Type 0
+Counts h w T row col s z left y x = (aheadBy h w left s y x + z ≡ T) × ((y * s ≤ row) × ((x * s ≤ col) × (s * 2 ^ left ≤ 16)))
+
+pub count-more : (h w T row col s z left y x : ℕ) → 0 < left → Counts h w T row col s z left y x
+    → Counts h w T row col (2 * s) (z + (x % 2 * (s * min s (h - y * s)) + y % 2 * (s * min (2 * s) (w - x / 2 * (2 * s))))) (left - 1) (y / 2) (x / 2) × (s ≤ 8)
+unfolding aheadBy
+count-more h w T row col s z zero y x l c = absurd (omega arith)
+count-more h w T row col s z (suc k) y x l c =
+    let half : (v : ℕ) → v / 2 * (2 * s) ≤ v * s = λ v. let m : v / 2 * 2 * s ≤ v * s = mul-le-mul-right s (omega arith) in omega arith in
+    let two = dbl s k in
+    let one = mul-le-mul-left s (pow-pos k) in
+    rw (sub-one (suc k)) ((omega (arith, c), (omega (arith, c, half y), (omega (arith, c, half x), omega (arith, c, two)))), omega (arith, c, two, one))
+
+pub count-start : (h w m row col : ℕ) → m ≤ 4 → Counts h w (aheadBy h w m 1 row col) row col 1 0 m row col
+count-start h w m row col l = (omega arith, (omega arith, (omega arith, let p : 2 ^ m ≤ 2 ^ 4 = pow-le-pow-right (omega arith) l in omega arith)))
+
+pub count-end : (h w T row col s z left y x : ℕ) → left ≤ 0 → Counts h w T row col s z left y x → (z + (y * s * w + x * (s * min s (h - y * s))) ≡ T) × ((y * s ≤ row) × (s ≤ 16))
+unfolding aheadBy
+count-end h w T row col s z zero y x l c = (omega (arith, c), (c .1 .0, omega (arith, c)))
+count-end h w T row col s z (suc k) y x l c = absurd (omega arith)
+
+-- a good picture's area
+pub area-small : {f : Frame} → Good (pictureOf f) → f .height * f .width ≤ 16777216
+area-small {f} g = mul-le-mul (g .tall .high) (g .wide .high)
+
+-- what the count asks, of a place in a good picture
+pub asks : {f : Frame} → Good (pictureOf f) → (r c m : ℕ) → In f r c → m ≡ log2 (f .ctu) - 2
+    → (f .height / 4 ≤ 1024) × (f .width / 4 ≤ 1024) × (m ≤ 4) × (r / 4 < f .height / 4) × (c / 4 < f .width / 4) × (aheadBy (f .height / 4) (f .width / 4) m 1 (r / 4) (c / 4) < 2 ^ 32)
+unfolding ahead
+asks {f} g r c m i e = (
+  omega (arith, g .tall .high),
+  omega (arith, g .wide .high),
+  omega (arith, e, sized g .bounds),
+  omega (arith, i .0, g .tall .whole),
+  omega (arith, i .1, g .wide .whole),
+  omega (arith, ap (λ (u : ℕ). aheadBy (f .height / 4) (f .width / 4) u 1 (r / 4) (c / 4)) e, ahead-lt g r c i, area-small g),
+)
+
+-- the loop over the blocks: block i is next, and `covered` samples lie before it; v is the whole verdict
+pub record Running (f : Frame) (plan : ℕ → Block) (v : Verdict) (count i covered : ℕ) : Type 0 where
+  pub within : i ≤ count
+  pub few : 16 * i ≤ covered
+  pub fits : covered ≤ f .height * f .width
+  pub same : verdictFrom f plan (count - i) i covered ≡ v
+
+pub running-none : (f : Frame) (plan : ℕ → Block) (count : ℕ) → Running f plan (verdictFrom f plan count 0 0) count 0 0
+running-none f plan count = record { within = omega arith; few = omega arith; fits = omega arith; same = ap (λ (m : ℕ). verdictFrom f plan m 0 0) (let e : count - 0 ≡ count = omega arith in e) }
+
+pub running-end : {f : Frame} {plan : ℕ → Block} {v : Verdict} {count i covered : ℕ} → Running f plan v count i covered → count ≤ i
+    → (b : Bool) → eqb covered (f .height * f .width) ≡ b → record { no = cond b 0 10; block = 0 } ≡ v
+unfolding verdictFrom
+running-end {f} {plan} {v} {count} {i} {covered} h l b e =
+    ap (λ (x : Bool). record { no = cond x 0 10; block = 0 }) (sym e)
+    ∙ ap (λ (m : ℕ). verdictFrom f plan m i covered) (let z : 0 ≡ count - i = omega (arith, h .within) in z) ∙ h .same
+
+-- a list number is small
+pub running-small : {f : Frame} → Good (pictureOf f) → {plan : ℕ → Block} {v : Verdict} {count i covered : ℕ} → Running f plan v count i covered → i < 4294967296
+running-small g h = omega (arith, h .few, h .fits, area-small g)
+
+-- a turn: b is block i, and n its number
+module _ {f : Frame} (g : Good (pictureOf f)) {plan : ℕ → Block} {v : Verdict} {count i covered : ℕ} (h : Running f plan v count i covered) (l : i < count)
+    (b : Block) (q : b ≡ plan i) (n : ℕ) (e : n ≡ blockNo f b covered) where
+  abbrev after : ℕ
+  after = covered + b .side * b .side
+
+  step : cond (eqb n 0) (verdictFrom f plan (count - (i + 1)) (i + 1) after) (record { no = n; block = i }) ≡ v
+  unfolding verdictFrom
+  step =
+      let a : suc (count - (i + 1)) ≡ count - i = omega arith in
+      let z : i + 1 ≡ suc i = omega arith in
+      ap₂ (λ (x y : ℕ). cond (eqb x 0) (verdictFrom f plan (count - (i + 1)) y after) (record { no = x; block = i })) e z
+      ∙ ap (λ (u : Block). cond (eqb (blockNo f u covered) 0) (verdictFrom f plan (count - (i + 1)) (suc i) (covered + u .side * u .side)) (record { no = blockNo f u covered; block = i })) q
+      ∙ ap (λ (m : ℕ). verdictFrom f plan m i covered) a ∙ h .same
+
+  -- a block that is refused ends it
+  pub running-stops : (n ≡ 0 → ⊥) → record { no = n; block = i } ≡ v
+  running-stops d = if-no (eqb n 0) _ (record { no = n; block = i }) (record { no = n; block = i }) (ne-eqb n 0 d) refl ∙ step
+
+  -- one that is not adds its samples, which the picture has
+  pub running-fits : n ≡ 0 → (b .side * b .side ≤ 1024) × ((16 ≤ b .side * b .side) × (after ≤ f .height * f .width))
+  running-fits z = go (numbered f b covered)
+    where
+      go : Numbered f b covered (blockNo f b covered) → (b .side * b .side ≤ 1024) × ((16 ≤ b .side * b .side) × (after ≤ f .height * f .width))
+      go (is-fine x p m a) =
+          let s = size-small (b .side) (p .size) in
+          (mul-le-mul (s .1) (s .1), (mul-le-mul (s .0) (s .0), omega (arith, a, block-area g b p .1)))
+      go (not-size x p) = absurd (omega (arith, x, e, z))
+      go (not-mode x p m) = absurd (omega (arith, x, e, z))
+      go (not-placed x p m a) = absurd (omega (arith, x, e, z))
+      go (not-next x p m a) = absurd (omega (arith, x, e, z))
+
+  pub running-more : n ≡ 0 → Running f plan v count (i + 1) after
+  running-more z =
+      let s = running-fits z in
+      record {
+        within = omega arith;
+        few = omega (arith, s .1 .0, h .few);
+        fits = s .1 .1;
+        same = if-yes (eqb n 0) _ (record { no = n; block = i }) _ (eq-eqb n 0 z) refl ∙ step;
+      }

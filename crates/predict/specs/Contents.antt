@@ -1,0 +1,72 @@
+-- What a served block holds is the standard's, 8.4.4.2.1: chroma from its neighbours as they are, luma from rows that are smoothed where the rule says.
+-- Rests on the modes' laws and on smoothing.
+use mathlib.Core.Path.{_≡_, refl, sym, ap, _∙_}
+use mathlib.Core.Bool.{Bool, true, false, cond}
+use mathlib.Core.List.{List}
+use Prim.Native.Nat.{ℕ, _≤_}
+use native.Mathlib.Omega.{arith}
+use lib.ListN.{length}
+use Rattle.laws.specs.Fill.{block}
+use Rattle.laws.specs.FillLaws.{rows-same}
+use Rattle.domain.specs.Facts.{Size, size-small}
+use Rattle.h265.specs.Notation.{Neighbours}
+use Rattle.h265.specs.Setting.{Component, lumaAt, first}
+use Rattle.h265.specs.Filtering.{filterFlag, filtered}
+use Rattle.h265.specs.Prediction.{filters, prepared, predSamples}
+use Rattle.h265.specs.Mean.{Agree}
+use Rattle.rows.specs.declared.Rows.{Rows}
+use Rattle.rows.specs.Neighbours.{neighboursOf}
+use Rattle.smooth.specs.declared.Rule.{Rule}
+use Rattle.smooth.specs.declared.Smoothed.{Smoothed}
+use Rattle.smooth.specs.Smoothing.{smoothed, ruleDoor, lumaDoor}
+use Rattle.smooth.specs.Standard.{is-standard}
+use Rattle.predict.specs.Door.{Block}
+use Rattle.predict.specs.Modes.{byMode, plain, is-by-mode, by-mode-alone}
+
+-- chroma of the first edition; how it is sampled, here 4:2:0, plays no part once the neighbours are there
+abbrev pub chromaAt : ℕ → Component
+chromaAt bits = record { luma = false; bits = bits; subWidth = 2; subHeight = 2; full = false }
+
+-- the rows that a luma block is predicted from
+unfoldable pub lumaRows : ℕ → ℕ → ℕ → Rows → Rows
+lumaRows bits n mode rows = cond (filterFlag n mode) (smoothed true bits n (rows .corner) (rows .above) (rows .left)) rows
+
+-- what the rule and smoothing answer for a block that is served
+module _ (bits n mode : ℕ) (b : Block bits n mode) where
+  rule-says : (r : Rule) → r ≡ ruleDoor mode n → r .yes ≡ filterFlag n mode
+  unfolding ruleDoor
+  rule-says r e = ap (λ (q : Rule). q .yes) e ∙ rw (b .size, b .inside)
+
+  pub rows-smoothed : (rows : Rows) → length (rows .above) ≡ 65 → length (rows .left) ≡ 65 → (r : Rule) → r ≡ ruleDoor mode n → r .yes ≡ true → (m : Smoothed) → m ≡ lumaDoor true (rows .corner) (rows .above) (rows .left) n bits → m .rows ≡ lumaRows bits n mode rows
+  unfolding lumaDoor lumaRows
+  rows-smoothed rows ha hl r e y m f = rw (sym (rule-says r e) ∙ y) (ap (λ (q : Smoothed). q .rows) f ∙ rw (b .depth, b .size, ha, hl))
+
+  pub rows-kept : (rows : Rows) (r : Rule) → r ≡ ruleDoor mode n → r .yes ≡ false → rows ≡ lumaRows bits n mode rows
+  unfolding lumaRows
+  rows-kept rows r e y = rw (sym (rule-says r e) ∙ y)
+
+-- chroma, however it is sampled, is predicted with nothing filtered
+pub chroma-plain : (c : Component) (strong : Bool) (n mode : ℕ) (nb : Neighbours) (x y : ℕ) → c .luma ≡ false → c .full ≡ false → predSamples c (first strong) n mode nb x y ≡ plain (c .bits) n mode nb x y
+unfolding prepared filters
+chroma-plain c strong n mode nb x y p q = is-by-mode c (first strong) n mode nb x y ∙ rw (p, q)
+
+module _ (bits n mode : ℕ) (s : Size n) (d : List ℕ) where
+  pub chroma-block : (nb : Neighbours) → block (λ (y x : ℕ). byMode bits false false n mode nb x y) n d ≡ block (λ (y x : ℕ). predSamples (chromaAt bits) (first true) n mode nb x y) n d
+  chroma-block nb =
+      let h = size-small n s in
+      rows-same _ _ n n d (λ y x hy hx. sym (chroma-plain (chromaAt bits) true n mode nb x y refl refl)) (omega arith)
+
+  -- luma's rows are the neighbours that the standard prepares, as far as a sample reads
+  rows-agree : (rows : Rows) → Agree n (neighboursOf (lumaRows bits n mode rows)) (prepared (lumaAt bits) (first true) n mode (neighboursOf rows))
+  unfolding lumaRows prepared filters
+  rows-agree rows = go (filterFlag n mode) where
+    go : (t : Bool) → Agree n (neighboursOf (cond t (smoothed true bits n (rows .corner) (rows .above) (rows .left)) rows)) (cond t (filtered true bits n (neighboursOf rows)) (neighboursOf rows))
+    go true = is-standard true bits n (rows .corner) (rows .above) (rows .left) (size-small n s .1)
+    go false = record { corner = refl; above = λ i h. refl; left = λ i h. refl }
+
+  pub luma-block : mode ≤ 34 → (rows : Rows) → block (λ (y x : ℕ). byMode bits true true n mode (neighboursOf (lumaRows bits n mode rows)) x y) n d ≡ block (λ (y x : ℕ). predSamples (lumaAt bits) (first true) n mode (neighboursOf rows) x y) n d
+  luma-block m rows =
+      let h = size-small n s in
+      rows-same _ _ n n d
+      (λ y x hy hx. rw (is-by-mode (lumaAt bits) (first true) n mode (neighboursOf rows) x y) (by-mode-alone n mode s m x y hx hy bits true true _ _ (rows-agree rows)))
+      (omega arith)

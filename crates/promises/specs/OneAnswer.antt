@@ -1,0 +1,193 @@
+-- Document 01, 'What the contracts settle': for each public function at most one answer, and one later content of what it writes, meets its
+-- contract. Stated over the contract itself as the prover reads it: `Post` takes the arguments, the answer and what is lent at exit. What
+-- the scratch tables hold afterwards is the one exception. tests/doors finds a public function that is missing here. Assumes nothing.
+use Prim.Native.Nat.{ℕ}
+use mathlib.Core.Path.{_≡_, sym, ap, _∙_}
+use mathlib.Core.List.{List}
+use contract.Lifetimes.{Lfts}
+use denote.Ref.{now}
+use Rattle.laws.specs.Choose.{served}
+use Rattle.domain.proofs.depth_ok.Reads as domain-depth-ok
+use Rattle.domain.proofs.size_ok.Reads as domain-size-ok
+use Rattle.domain.proofs.mode_ok.Reads as domain-mode-ok
+use Rattle.domain.proofs.side_ok.Reads as domain-side-ok
+use Rattle.domain.proofs.ctu_ok.Reads as domain-ctu-ok
+use Rattle.domain.proofs.unit_ok.Reads as domain-unit-ok
+use Rattle.fmt.proofs.BitDepth.from_bits.Reads as fmt-from-bits
+use Rattle.fmt.proofs.BitDepth.bits.Reads as fmt-bits
+use Rattle.fmt.proofs.BitDepth.max_val.Reads as fmt-max-val
+use Rattle.fmt.proofs.BitDepth.neutral.Reads as fmt-neutral
+use Rattle.fmt.proofs.ChromaFormat.from_idc.Reads as fmt-from-idc
+use Rattle.fmt.proofs.ChromaFormat.sub_w.Reads as fmt-sub-w
+use Rattle.fmt.proofs.ChromaFormat.sub_h.Reads as fmt-sub-h
+use Rattle.fmt.proofs.ChromaFormat.luma_row.Reads as fmt-luma-row
+use Rattle.fmt.proofs.ChromaFormat.luma_col.Reads as fmt-luma-col
+use Rattle.fmt.proofs.ChromaFormat.chroma_row.Reads as fmt-chroma-row
+use Rattle.fmt.proofs.ChromaFormat.chroma_col.Reads as fmt-chroma-col
+use Rattle.order.proofs.decode_order.Reads as order-decode-order
+use Rattle.order.proofs.is_available.Reads as order-is-available
+use Rattle.order.proofs.luma_reach.Reads as order-luma-reach
+use Rattle.order.proofs.chroma_reach.Reads as order-chroma-reach
+use Rattle.rows.proofs.zero_rows.Reads as rows-zero-rows
+use Rattle.helpers.proofs.min.Reads as helpers-min
+use Rattle.helpers.proofs.abs_diff.Reads as helpers-abs-diff
+use Rattle.helpers.proofs.abs.Reads as helpers-abs
+use Rattle.helpers.proofs.clamp.Reads as helpers-clamp
+use Rattle.smooth.proofs.should_filter_refs.Reads as smooth-should-filter-refs
+use Rattle.smooth.proofs.filter_references.Reads as smooth-filter-references
+use Rattle.smooth.proofs.filter_luma_refs.Reads as smooth-filter-luma-refs
+use Rattle.refs.proofs.substitute_refs.Reads as refs-substitute-refs
+use Rattle.refs.proofs.get_reference_samples.Reads as refs-get-reference-samples
+use Rattle.refs.proofs.get_reference_samples_chroma_pair.Reads as refs-get-reference-samples-chroma-pair
+use Rattle.plan.proofs.check_plan.Reads as plan-check-plan
+use Rattle.flat.proofs.predict_planar_into.Reads as flat-predict-planar-into
+use Rattle.flat.proofs.predict_dc_into.Reads as flat-predict-dc-into
+use Rattle.angular.proofs.predict_angular_slices.Reads as angular-predict-angular-slices
+use Rattle.predict.proofs.predict_chroma_tb_slices.Reads as predict-predict-chroma-tb-slices
+use Rattle.predict.proofs.predict_luma_tb_slices.Reads as predict-predict-luma-tb-slices
+use Rattle.residual.proofs.compute_residual_i32_into.Reads as residual-compute-residual-i32-into
+use Rattle.residual.proofs.reconstruct_into.Reads as residual-reconstruct-into
+
+-- at most one answer meets a contract
+abbrev Once : {A X S : Type 0} → (A → X → S → Type 0) → Type 0
+Once {A} {X} {S} post = (a : A) (x y : X) (s t : S) → post a x s → post a y t → x ≡ y
+
+-- and at most one later content
+abbrev OnceLeft : {A X S L : Type 0} → (S → L) → (A → X → S → Type 0) → Type 0
+OnceLeft {A} {X} {S} lent post = (a : A) (x y : X) (s t : S) → post a x s → post a y t → (x ≡ y) × (lent s ≡ lent t)
+
+-- contents that go by the answer's number
+by-number : {L : Type 0} (work kept : L) {n x y : ℕ} {l m : L} → x ≡ n → y ≡ n → l ≡ served x work kept → m ≡ served y work kept → (x ≡ y) × (l ≡ m)
+by-number work kept p q u v = (p ∙ sym q, u ∙ ap (λ (k : ℕ). served k work kept) (p ∙ sym q) ∙ sym v)
+
+-- domain
+domain-depth-ok-once : Once (domain-depth-ok.Post tt)
+domain-depth-ok-once a x y s t p q = p ∙ sym q
+
+domain-size-ok-once : Once (domain-size-ok.Post tt)
+domain-size-ok-once a x y s t p q = p ∙ sym q
+
+domain-mode-ok-once : Once (domain-mode-ok.Post tt)
+domain-mode-ok-once a x y s t p q = p ∙ sym q
+
+domain-side-ok-once : Once (domain-side-ok.Post tt)
+domain-side-ok-once a x y s t p q = p ∙ sym q
+
+domain-ctu-ok-once : Once (domain-ctu-ok.Post tt)
+domain-ctu-ok-once a x y s t p q = p ∙ sym q
+
+domain-unit-ok-once : Once (domain-unit-ok.Post tt)
+domain-unit-ok-once a x y s t p q = p ∙ sym q
+
+-- fmt
+fmt-from-bits-once : Once (fmt-from-bits.Post tt)
+fmt-from-bits-once a x y s t p q = p ∙ sym q
+
+fmt-bits-once : Once (fmt-bits.Post tt)
+fmt-bits-once a x y s t p q = p ∙ sym q
+
+fmt-max-val-once : Once (fmt-max-val.Post tt)
+fmt-max-val-once a x y s t p q = p ∙ sym q
+
+fmt-neutral-once : Once (fmt-neutral.Post tt)
+fmt-neutral-once a x y s t p q = p ∙ sym q
+
+fmt-from-idc-once : Once (fmt-from-idc.Post tt)
+fmt-from-idc-once a x y s t p q = p ∙ sym q
+
+fmt-sub-w-once : Once (fmt-sub-w.Post tt)
+fmt-sub-w-once a x y s t p q = p ∙ sym q
+
+fmt-sub-h-once : Once (fmt-sub-h.Post tt)
+fmt-sub-h-once a x y s t p q = p ∙ sym q
+
+fmt-luma-row-once : Once (fmt-luma-row.Post tt)
+fmt-luma-row-once a x y s t p q = p ∙ sym q
+
+fmt-luma-col-once : Once (fmt-luma-col.Post tt)
+fmt-luma-col-once a x y s t p q = p ∙ sym q
+
+fmt-chroma-row-once : Once (fmt-chroma-row.Post tt)
+fmt-chroma-row-once a x y s t p q = p ∙ sym q
+
+fmt-chroma-col-once : Once (fmt-chroma-col.Post tt)
+fmt-chroma-col-once a x y s t p q = p ∙ sym q
+
+-- order
+order-decode-order-once : Once (order-decode-order.Post tt)
+order-decode-order-once a x y s t p q = p ∙ sym q
+
+order-is-available-once : Once (order-is-available.Post tt)
+order-is-available-once a x y s t p q = p ∙ sym q
+
+order-luma-reach-once : Once (order-luma-reach.Post tt)
+order-luma-reach-once a x y s t p q = p ∙ sym q
+
+order-chroma-reach-once : Once (order-chroma-reach.Post tt)
+order-chroma-reach-once a x y s t p q = p ∙ sym q
+
+-- rows
+rows-zero-rows-once : Once (rows-zero-rows.Post tt)
+rows-zero-rows-once a x y s t p q = p ∙ sym q
+
+-- helpers
+helpers-min-once : Once (helpers-min.Post tt)
+helpers-min-once a x y s t p q = p ∙ sym q
+
+helpers-abs-diff-once : Once (helpers-abs-diff.Post tt)
+helpers-abs-diff-once a x y s t p q = p ∙ sym q
+
+helpers-abs-once : Once (helpers-abs.Post tt)
+helpers-abs-once a x y s t p q = p ∙ sym q
+
+helpers-clamp-once : Once (helpers-clamp.Post tt)
+helpers-clamp-once a x y s t p q = p ∙ sym q
+
+-- smooth
+smooth-should-filter-refs-once : Once (smooth-should-filter-refs.Post tt)
+smooth-should-filter-refs-once a x y s t p q = p ∙ sym q
+
+smooth-filter-references-once : (κs : Lfts 2) → Once (smooth-filter-references.Post κs)
+smooth-filter-references-once κs a x y s t p q = p ∙ sym q
+
+smooth-filter-luma-refs-once : (κs : Lfts 2) → Once (smooth-filter-luma-refs.Post κs)
+smooth-filter-luma-refs-once κs a x y s t p q = p ∙ sym q
+
+-- refs
+refs-substitute-refs-once : Once (refs-substitute-refs.Post tt)
+refs-substitute-refs-once a x y s t p q = p ∙ sym q
+
+refs-get-reference-samples-once : (κs : Lfts 1) → Once (refs-get-reference-samples.Post κs)
+refs-get-reference-samples-once κs a x y s t p q = p ∙ sym q
+
+refs-get-reference-samples-chroma-pair-once : (κs : Lfts 2) → Once (refs-get-reference-samples-chroma-pair.Post κs)
+refs-get-reference-samples-chroma-pair-once κs a x y s t p q = p ∙ sym q
+
+-- plan
+plan-check-plan-once : (κs : Lfts 1) → Once (plan-check-plan.Post κs)
+plan-check-plan-once κs a x y s t p q = p ∙ sym q
+
+-- flat
+flat-predict-planar-into-once : (κs : Lfts 3) → OnceLeft (λ s. now (s .1 .1 .1 .0)) (flat-predict-planar-into.Post κs)
+flat-predict-planar-into-once κs a x y s t p q = by-number _ _ (p .0) (q .0) (p .1) (q .1)
+
+flat-predict-dc-into-once : (κs : Lfts 3) → OnceLeft (λ s. now (s .1 .1 .1 .1 .0)) (flat-predict-dc-into.Post κs)
+flat-predict-dc-into-once κs a x y s t p q = by-number _ _ (p .0) (q .0) (p .1) (q .1)
+
+-- angular
+angular-predict-angular-slices-once : (κs : Lfts 6) → OnceLeft (λ s. now (s .1 .1 .1 .1 .1 .1 .1 .0)) (angular-predict-angular-slices.Post κs)
+angular-predict-angular-slices-once κs a x y s t p q = by-number _ _ (p .0) (q .0) (p .1 .0) (q .1 .0)
+
+-- predict
+predict-predict-chroma-tb-slices-once : (κs : Lfts 6) → OnceLeft (λ s. now (s .1 .1 .1 .1 .1 .1 .0)) (predict-predict-chroma-tb-slices.Post κs)
+predict-predict-chroma-tb-slices-once κs a x y s t p q = by-number _ _ (p .0) (q .0) (p .1 .0) (q .1 .0)
+
+predict-predict-luma-tb-slices-once : (κs : Lfts 4) → OnceLeft (λ s. now (s .1 .1 .1 .1 .0)) (predict-predict-luma-tb-slices.Post κs)
+predict-predict-luma-tb-slices-once κs a x y s t p q = by-number _ _ (p .0) (q .0) (p .1 .0) (q .1 .0)
+
+-- residual
+residual-compute-residual-i32-into-once : (κs : Lfts 3) → OnceLeft (λ s. now (s .1 .1 .1 .0)) (residual-compute-residual-i32-into.Post κs)
+residual-compute-residual-i32-into-once κs a x y s t p q = (p .0 ∙ sym (q .0), p .1 ∙ sym (q .1))
+
+residual-reconstruct-into-once : (κs : Lfts 3) → OnceLeft (λ s. now (s .1 .1 .1 .1 .0)) (residual-reconstruct-into.Post κs)
+residual-reconstruct-into-once κs a x y s t p q = (p .0 ∙ sym (q .0), p .1 ∙ sym (q .1))

@@ -1,0 +1,3 @@
+-- Block: one block of walk and replay. Door: what a call refuses, gives and leaves behind.
+pub mod Block
+pub mod Door

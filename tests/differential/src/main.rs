@@ -1,0 +1,78 @@
+//! Runs the proved code beside the Rust that it was carried over from, and compares every answer.
+//!
+//! `differential -- HOST..` runs every subject and ends with status 1 where an answer differs.
+//! `differential list -- HOST..` writes the fixed lists of the Rust's answers that the replay crates hold.
+//! `differential demo -- HOST..` prints the decode order of a small picture.
+//!
+//! A subject is a module with one function that makes calls through a `Tally`. To add one: write src/NAME.rs, add its line
+//! to SUBJECTS, and add the entries that it calls to entries.txt.
+mod demo;
+mod differences;
+mod fmt;
+mod host;
+mod list;
+mod list_predict;
+mod order;
+mod predict;
+mod random;
+mod residual;
+mod samples;
+mod smooth;
+mod table;
+mod tally;
+
+/// The Rust of docs/src, unchanged; see build.rs.
+mod oracle {
+    include!(concat!(env!("OUT_DIR"), "/oracle.rs"));
+}
+
+use host::Host;
+use std::process::ExitCode;
+use tally::Tally;
+
+type Subject = fn(&mut Tally);
+
+const SUBJECTS: &[(&str, Subject)] = &[
+    ("depth", fmt::depth),
+    ("format", fmt::format),
+    ("places", fmt::places),
+    ("order", order::order),
+    ("availability", order::availability),
+    ("differences", order::differences),
+    ("rule", smooth::rule),
+    ("smoothing", smooth::smoothing),
+    ("planar and DC", predict::flat),
+    ("angular", predict::angular),
+    ("residual", residual::residual),
+    ("reconstruction", residual::reconstruction),
+    ("differences in prediction", differences::prediction),
+];
+
+fn main() -> ExitCode {
+    let words: Vec<String> = std::env::args().skip(1).collect();
+    let cut = words.iter().position(|w| w == "--").expect("usage: differential [list | demo] -- HOST..");
+    let mut host = Host::start(&words[cut + 1..]);
+    match words[..cut].first().map(String::as_str) {
+        Some("list") => {
+            list::write();
+            list_predict::write();
+        }
+        Some("demo") => demo::print(&mut host),
+        Some(other) => panic!("no such command: {other}"),
+        None => return compare(&mut host),
+    }
+    ExitCode::SUCCESS
+}
+
+fn compare(host: &mut Host) -> ExitCode {
+    let (mut calls, mut differ) = (0, 0);
+    for (name, subject) in SUBJECTS {
+        let mut tally = Tally::new(name, host);
+        subject(&mut tally);
+        let (c, d) = tally.finish();
+        calls += c;
+        differ += d;
+    }
+    println!("differential: {calls} calls compared, {differ} differ");
+    if differ == 0 && calls > 0 { ExitCode::SUCCESS } else { ExitCode::FAILURE }
+}

@@ -1,0 +1,91 @@
+//! Document 01's table of numbers as plain tests. Written from the table, not from the proved code.
+
+/// Number 1.
+pub fn depth(bits: u32) -> bool {
+    [8, 10, 12].contains(&bits)
+}
+
+fn side(side: u32) -> bool {
+    (8..=4096).contains(&side) && side.is_multiple_of(8)
+}
+
+/// A picture as a door is told of it: its luma sides, its CTU, its least unit.
+#[derive(Clone, Copy, Debug)]
+pub struct Picture {
+    pub width: u32,
+    pub height: u32,
+    pub ctu: u32,
+    pub unit: u32,
+}
+
+impl Picture {
+    pub fn new(width: u32, height: u32, ctu: u32, unit: u32) -> Picture {
+        Picture { width, height, ctu, unit }
+    }
+
+    /// Number 4.
+    pub fn sides_and_ctu(self) -> bool {
+        side(self.width) && side(self.height) && [16, 32, 64].contains(&self.ctu)
+    }
+
+    /// Number 6 at the order and availability doors.
+    pub fn holds(self, row: u32, col: u32) -> bool {
+        [4, 8].contains(&self.unit) && row < self.height && col < self.width
+    }
+
+    /// The number of a call at the order and availability doors.
+    pub fn order_number(self, row: u32, col: u32) -> u32 {
+        if !self.sides_and_ctu() {
+            4
+        } else if !self.holds(row, col) {
+            6
+        } else {
+            0
+        }
+    }
+
+    /// CTUs in a row: the width over the CTU, rounded up.
+    pub fn ctus_x(self) -> usize {
+        (self.width as usize).div_ceil(self.ctu as usize)
+    }
+}
+
+/// Number 2.
+pub fn size(n: usize) -> bool {
+    [4, 8, 16, 32].contains(&n)
+}
+
+/// Number 3 at the smoothing rule.
+pub fn mode(mode: u8) -> bool {
+    mode <= 34
+}
+
+/// Number 3 at the angular door.
+pub fn angular(mode: u8) -> bool {
+    (2..=34).contains(&mode)
+}
+
+/// Number 5 of reference rows with so many entries.
+pub fn rows(above: usize, left: usize) -> bool {
+    above >= 65 && left >= 65
+}
+
+/// Number 5 of a block buffer. A side that is none has no such number, and is refused before.
+pub fn block(n: usize, entries: usize) -> bool {
+    n.checked_mul(n).is_some_and(|least| entries >= least)
+}
+
+/// Number 5 of the lent scratch.
+pub fn scratch(refs: usize, indices: usize, fractions: usize) -> bool {
+    refs >= 193 && indices >= 32 && fractions >= 32
+}
+
+/// Number 8 of a residual.
+pub fn residual(r: i32) -> bool {
+    (-65535..=65535).contains(&r)
+}
+
+/// The least number whose test fails, or 0: a door checks in ascending number.
+pub fn first(tests: &[(u32, bool)]) -> u32 {
+    tests.iter().filter(|t| !t.1).map(|t| t.0).min().unwrap_or(0)
+}
