@@ -1,25 +1,25 @@
 -- The rows of a block from how far its neighbours reach: the form that the code goes by. Every rule whose neighbours are counted so has
 -- these rows. Assumes nothing.
-use mathlib.Core.Path.{_≡_, refl, sym, ap, ap₂, _∙_}
+use mathlib.Core.Path.{_≡_, sym, ap, ap₂, _∙_}
 use mathlib.Core.Bool.{Bool, true, false, cond}
 use mathlib.Core.Logic.{⊎-elim}
 use mathlib.Core.List.{List}
-use Prim.Native.Nat.{ℕ, zero, suc, _+_, _-_, _*_, _≤_, _<_}
+use Prim.Native.Nat.{ℕ, _+_, _-_, _*_, _≤_, _<_}
 use native.Mathlib.Omega.{arith}
-use lib.Dec.{ltb, leb, eqb}
+use lib.Dec.{ltb}
 use lib.IntN.{ℤ}
 use lib.ListN.{length, getD, replicate, length-replicate}
 use lib.Seq.{ext-getD}
-use borrow.Author.Tests.{lt-ltb, le-ltb, le-leb, lt-leb, eq-eqb, ne-eqb}
+use borrow.Author.Tests.{lt-ltb, le-ltb}
 use Rattle.laws.specs.Fill.{fill}
 use Rattle.laws.specs.FillLaws.{length-fill, fill-at, fill-past, fill-same}
 use Rattle.laws.specs.Diff.{order}
 use Rattle.laws.specs.Choose.{if-yes, if-no}
-use Rattle.h265.specs.Substitution.{firstMarked, settled}
+use Rattle.h265.specs.Substitution.{firstMarked}
 use Rattle.order.specs.declared.Reach.{Reach}
 use Rattle.order.specs.Reach.{cornerHas, aboveHas, leftHas}
 use Rattle.rows.specs.declared.Rows.{Rows}
-use Rattle.refs.specs.Substitution.{onLine, flagsOn, samplesOn, levelRows, fromLine, substituted}
+use Rattle.refs.specs.Substitution.{flagsOn, samplesOn, levelRows, substituted}
 use Rattle.refs.specs.Gather.{flagsBy, samplesBy, gatheredBy}
 use Rattle.refs.specs.Line.{on-left, on-corner, on-above, anyBy, startBy, leftBy, cornerBy, restBy, aboveBy, CountedLine, told, settled-left, settled-corner, settled-above, starts, nothing}
 

@@ -3,11 +3,11 @@
 use mathlib.Core.Path.{_≡_, refl, sym, ap, ap₂, _∙_}
 use mathlib.Core.Bool.{Bool, true, false, _&&_, _||_, false≢true}
 use mathlib.Core.Logic.{_⊎_, inl, inr, ⊎-elim}
-use Prim.Native.Nat.{ℕ, zero, suc, _+_, _-_, _*_, _/_, _≤_, _<_}
+use Prim.Native.Nat.{ℕ, _+_, _-_, _*_, _≤_, _<_}
 use native.Mathlib.Nat.{mul-le-mul-right}
 use native.Mathlib.Omega.{arith}
 use lib.Arith.{digits-lt}
-use lib.Dec.{ltb, leb, eqb}
+use lib.Dec.{ltb, eqb}
 use lib.IntN.{ℤ, pos, negsuc, _-ℤ_}
 use borrow.Author.Tests.{lt-ltb, le-ltb, ltb-true, eq-eqb, eqb-true}
 use Rattle.laws.specs.Choose.{both-true, either-true}
@@ -19,7 +19,7 @@ use Rattle.order.specs.Order.{before, numberAt}
 use Rattle.order.specs.Good.{Good}
 use Rattle.order.specs.Leading.{leading-from-leads}
 use Rattle.order.specs.Laws.{row-rises, col-rises, before-up, before-left}
-use Rattle.order.specs.Reach.{cornerHas, aboveHas, leftHas, leading, reachBy, lumaHas, chromaHas, chromaHeight, chromaWidth}
+use Rattle.order.specs.Reach.{aboveHas, leftHas, leading, reachBy, lumaHas, chromaHas, chromaHeight, chromaWidth}
 use Rattle.refs.specs.Counts.{Counted}
 use Rattle.refs.specs.Spots.{spotOf, Reads}
 use Rattle.refs.specs.Line.{told}

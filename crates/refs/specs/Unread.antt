@@ -8,7 +8,6 @@ use lib.IntN.{ℤ, pos, _-ℤ_}
 use lib.ListN.{replicate}
 use Rattle.laws.specs.FillLaws.{fill-same}
 use Rattle.order.specs.Reach.{lumaHas, chromaHas, chromaWidth}
-use Rattle.rows.specs.declared.Rows.{Rows}
 use Rattle.refs.specs.declared.LumaRefGeometry.{LumaRefGeometry}
 use Rattle.refs.specs.declared.ChromaRefGeometry.{ChromaRefGeometry}
 use Rattle.refs.specs.Substitution.{substituted}

@@ -1,6 +1,6 @@
 -- The work of the chroma pair gather: nothing is read outside the planes. Assumes nothing.
 use mathlib.Core.Path.{ap, ap₂, _∙_, subst, sym}
-use mathlib.Core.List.{List, [], _∷_}
+use mathlib.Core.List.{[], _∷_}
 use Prim.Native.Nat.{ℕ, _/_}
 use native.Mathlib.Omega.{arith}
 use Rattle.fmt.specs.Fmt.{subWidth}
@@ -13,52 +13,34 @@ use Rattle.refs.specs.Served.{chroma-ready, inside, made}
 use borrow.Author.Needs.{needs}
 use Rattle.refs.proofs.chroma_rows.Statement.{statement}
 use Rattle.refs.proofs.chroma_rows.Tie as tie
-use Rattle.refs.proofs.chroma_rows.Reads as reads
-use Rattle.refs.proofs.chroma_rows.Lts as lts
-use Rattle.fmt.proofs.ChromaFormat.sub_w.Reads as sub-w-reads
-use Rattle.refs.proofs.format_of.Reads as format-of-reads
-use Rattle.refs.proofs.neutral_of.Reads as neutral-of-reads
-use Rattle.refs.proofs.over.Reads as over-reads
-use Rattle.refs.proofs.plane_rows.Reads as plane-rows-reads
-use Rattle.refs.proofs.spot_of.Reads as spot-of-reads
 
--- src/lib.rt:482:34
 format-of-requires : tie.Need-format-of-requires
 format-of-requires c κs = search needs
 
--- src/lib.rt:482:34
 sub-w-requires : tie.Need-sub-w-requires
 sub-w-requires c κs = search needs
 
--- src/lib.rt:482:9
 over-requires : tie.Need-over-requires
 over-requires c κs = subst Step (sym (c .sub-w .ensures)) (step-width (c .before .format-of .result))
 
--- src/lib.rt:483:28
 cast-spot-of : tie.Need-cast-spot-of
 cast-spot-of c = search needs
 
--- src/lib.rt:483:54
 cast-spot-of-2 : tie.Need-cast-spot-of-2
 cast-spot-of-2 c = search needs
 
--- src/lib.rt:483:9
 spot-of-requires : tie.Need-spot-of-requires
 spot-of-requires c κs = let s = c .before .before .before .before .before .before .before in let g = s .args .geo in let y = (chroma-ready _ _ g (s .args .reach) (s .pre .0) (s .pre .1) .1) in let w = (c .before .before .over .ensures .0 ∙ ap (λ (d : ℕ). g .«luma_w» / d) (c .before .before .before .sub-w .ensures ∙ ap subWidth (c .before .before .before .before .format-of .ensures))) in (omega (arith, y .width-few), y .row-few, y .col-few)
 
--- src/lib.rt:484:9
 neutral-of-requires : tie.Need-neutral-of-requires
 neutral-of-requires c κs = let s = c .before .before .before .before .before .before .before .before in let g = s .args .geo in (chroma-ready _ _ g (s .args .reach) (s .pre .0) (s .pre .1) .0)
 
--- src/lib.rt:486:9
 plane-rows-requires : tie.Need-plane-rows-requires
 plane-rows-requires c κs = let s = c .before .before .before .before .before .before .before .before .before in let g = s .args .geo in inside (s .args .plane-cb .now) (chromaWidth (chromaBlock g)) (g .«block_row» .0) (g .«block_col» .0) (g .n) (g .bits) (chroma-ready _ _ g (s .args .reach) (s .pre .0) (s .pre .1) .1) (c .before .before .before .before .over .ensures .0 ∙ ap (λ (d : ℕ). g .«luma_w» / d) (c .before .before .before .before .before .sub-w .ensures ∙ ap subWidth (c .before .before .before .before .before .before .format-of .ensures))) (c .before .spot-of .ensures)
 
--- src/lib.rt:487:9
 plane-rows-requires-2 : tie.Need-plane-rows-requires-2
 plane-rows-requires-2 c κs = let s = c .before .before .before .before .before .before .before .before .before .before in let g = s .args .geo in inside (s .args .plane-cr .now) (chromaWidth (chromaBlock g)) (g .«block_row» .0) (g .«block_col» .0) (g .n) (g .bits) (chroma-ready _ _ g (s .args .reach) (s .pre .0) (s .pre .1) .2) (c .before .before .before .before .before .over .ensures .0 ∙ ap (λ (d : ℕ). g .«luma_w» / d) (c .before .before .before .before .before .before .sub-w .ensures ∙ ap subWidth (c .before .before .before .before .before .before .before .format-of .ensures))) (c .before .before .spot-of .ensures)
 
--- src/lib.rt:473:1
 returns : tie.Need-returns
 unfolding chromaRows
 returns c = let s = c .before .before .before .before .before .before .before .before .before .before .before in let g = s .args .geo in ap₂ (λ (a b : Rows). a ∷ b ∷ []) (made (s .args .plane-cb .now) (chromaWidth (chromaBlock g)) (g .«block_row» .0) (g .«block_col» .0) (g .n) (g .bits) (chroma-ready _ _ g (s .args .reach) (s .pre .0) (s .pre .1) .1) (c .before .before .before .before .before .before .over .ensures .0 ∙ ap (λ (d : ℕ). g .«luma_w» / d) (c .before .before .before .before .before .before .before .sub-w .ensures ∙ ap subWidth (c .before .before .before .before .before .before .before .before .format-of .ensures))) (c .before .before .before .spot-of .ensures) (c .before .before .neutral-of .ensures) (c .before .plane-rows .ensures)) (made (s .args .plane-cr .now) (chromaWidth (chromaBlock g)) (g .«block_row» .0) (g .«block_col» .0) (g .n) (g .bits) (chroma-ready _ _ g (s .args .reach) (s .pre .0) (s .pre .1) .2) (c .before .before .before .before .before .before .over .ensures .0 ∙ ap (λ (d : ℕ). g .«luma_w» / d) (c .before .before .before .before .before .before .before .sub-w .ensures ∙ ap subWidth (c .before .before .before .before .before .before .before .before .format-of .ensures))) (c .before .before .before .spot-of .ensures) (c .before .before .neutral-of .ensures) (c .plane-rows2 .ensures))

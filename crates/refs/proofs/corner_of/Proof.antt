@@ -6,27 +6,19 @@ use Rattle.laws.specs.Choose.{if-yes, if-no}
 use Rattle.refs.specs.Spots.{at-first}
 use Rattle.refs.proofs.corner_of.Statement.{statement}
 use Rattle.refs.proofs.corner_of.Tie as tie
-use Rattle.refs.proofs.corner_of.Reads as reads
-use Rattle.refs.proofs.corner_of.Lts as lts
-use Rattle.refs.proofs.sample.Reads as sample-reads
 
--- src/lib.rt:134:9
 sample-requires : tie.Need-sample-requires
 sample-requires c κs = c .before .before .pre .corner-in (c .if1 .taken)
 
--- src/lib.rt:134:9
 returns : tie.Need-returns
 returns c = if-yes _ _ _ _ (c .before .if1 .taken) (c .sample .ensures)
 
--- src/lib.rt:137:9
 sample-requires-2 : tie.Need-sample-requires-2
 sample-requires-2 c κs = omega (arith, c .before .before .before .before .pre .left-in 0 (c .if2 .taken))
 
--- src/lib.rt:137:9
 returns-2 : tie.Need-returns-2
 returns-2 c = let a = c .before .before .before .before .before .args in if-no _ _ _ _ (c .before .before .before .if1 .left) (if-yes _ _ (a .start) _ (lt-ltb _ _ (c .before .if2 .taken)) (c .sample2 .ensures ∙ at-first (a .plane .now) (a .s .left) (a .s .width)))
 
--- src/lib.rt:129:1
 returns-3 : tie.Need-returns-3
 returns-3 c = if-no _ _ _ _ (c .before .before .if1 .left) (if-no _ _ _ _ (le-ltb _ _ (c .if2 .left)) refl)
 

@@ -5,7 +5,6 @@ use Prim.Native.Nat.{ℕ, _+_, _-_, _*_, _≤_}
 use native.Mathlib.Omega.{arith}
 use lib.Dec.{ltb}
 use lib.ListN.{getD, replicate}
-use borrow.Author.Needs.{needs}
 use borrow.Author.Tests.{lt-ltb, le-ltb}
 use Rattle.laws.specs.Choose.{if-yes, if-no}
 use Rattle.laws.specs.Fill.{fill}
@@ -13,8 +12,6 @@ use Rattle.laws.specs.FillLaws.{fill-none, fill-more, fill-done}
 use Rattle.refs.specs.Counts.{edgeOf}
 use Rattle.refs.proofs.edge.Statement.{statement}
 use Rattle.refs.proofs.edge.Tie as tie
-use Rattle.refs.proofs.edge.Reads as reads
-use Rattle.refs.proofs.edge.Lts as lts
 
 abbrev Inv-loop : tie.InvT-loop
 Inv-loop plane at step have count rest out₀ i₀ out i =
@@ -30,71 +27,54 @@ Inv-loop2 plane at step have count rest out₀ i₀ out i =
 abbrev μ-loop2 : tie.MeasureT-loop2
 μ-loop2 plane at step have count rest out₀ i₀ out i = count - i
 
--- src/lib.rt:82:5
 loop-holds : tie.Need-loop-holds Inv-loop μ-loop Inv-loop2 μ-loop2
 loop-holds c = (omega arith, fill-none _ _)
 
--- src/lib.rt:83:29
 mul-out : tie.Need-mul-out Inv-loop μ-loop Inv-loop2 μ-loop2
 mul-out c = omega (arith, c .before .before .pre .2 (c .before .loop .i) (c .loop-test .taken))
 
--- src/lib.rt:83:24
 add-out : tie.Need-add-out Inv-loop μ-loop Inv-loop2 μ-loop2
 add-out c = omega (arith, c .before .before .pre .2 (c .before .loop .i) (c .loop-test .taken))
 
--- src/lib.rt:83:18
 mul-out-2 : tie.Need-mul-out-2 Inv-loop μ-loop Inv-loop2 μ-loop2
 mul-out-2 c = omega (arith, c .before .before .pre .2 (c .before .loop .i) (c .loop-test .taken))
 
--- src/lib.rt:83:18
 shared-slice-read-out : tie.Need-shared-slice-read-out Inv-loop μ-loop Inv-loop2 μ-loop2
 shared-slice-read-out c = c .before .before .before .pre .2 (c .before .before .loop .i) (c .before .loop-test .taken)
 
--- src/lib.rt:83:9
 mul-out-3 : tie.Need-mul-out-3 Inv-loop μ-loop Inv-loop2 μ-loop2
 mul-out-3 c = omega arith
 
--- src/lib.rt:83:9
 array-write-out : tie.Need-array-write-out Inv-loop μ-loop Inv-loop2 μ-loop2
 array-write-out c = omega arith
 
--- src/lib.rt:84:9
 add-i : tie.Need-add-i Inv-loop μ-loop Inv-loop2 μ-loop2
 add-i c = omega arith
 
--- src/lib.rt:82:5
 loop-less : tie.Need-loop-less Inv-loop μ-loop Inv-loop2 μ-loop2
 loop-less c = omega arith
 
--- src/lib.rt:82:5
 loop-again : tie.Need-loop-again Inv-loop μ-loop Inv-loop2 μ-loop2
 loop-again c = (omega arith, fill-more _ _ (c .before .before .loop .inv .1) (if-yes _ _ _ _ (lt-ltb _ _ (c .before .loop-test .taken)) refl))
 
--- src/lib.rt:86:5
 loop2-holds : tie.Need-loop2-holds Inv-loop μ-loop Inv-loop2 μ-loop2
 loop2-holds c = (omega arith, omega arith, c .before .loop .inv .1)
 
--- src/lib.rt:87:9
 mul-out-4 : tie.Need-mul-out-4 Inv-loop μ-loop Inv-loop2 μ-loop2
 mul-out-4 c = omega arith
 
--- src/lib.rt:87:9
 array-write-out-2 : tie.Need-array-write-out-2 Inv-loop μ-loop Inv-loop2 μ-loop2
 array-write-out-2 c = omega arith
 
--- src/lib.rt:88:9
 add-i-2 : tie.Need-add-i-2 Inv-loop μ-loop Inv-loop2 μ-loop2
 add-i-2 c = omega arith
 
--- src/lib.rt:86:5
 loop2-less : tie.Need-loop2-less Inv-loop μ-loop Inv-loop2 μ-loop2
 loop2-less c = omega arith
 
--- src/lib.rt:86:5
 loop2-again : tie.Need-loop2-again Inv-loop μ-loop Inv-loop2 μ-loop2
 loop2-again c = (omega arith, omega arith, fill-more _ _ (c .before .loop2 .inv .2) (if-no _ _ _ _ (le-ltb _ _ (c .before .loop2 .inv .0)) refl))
 
--- src/lib.rt:76:1
 returns : tie.Need-returns Inv-loop μ-loop Inv-loop2 μ-loop2
 unfolding edgeOf
 returns c = fill-done _ _ (c .before .loop2 .inv .1) (omega arith) (c .before .loop2 .inv .2)

@@ -8,9 +8,6 @@ use Rattle.h265.specs.Substitution.{firstMarked}
 use Rattle.refs.specs.Line.{lineOf, first-here, first-skip, first-end}
 use Rattle.refs.proofs.first_marked.Statement.{statement}
 use Rattle.refs.proofs.first_marked.Tie as tie
-use Rattle.refs.proofs.first_marked.Reads as reads
-use Rattle.refs.proofs.first_marked.Lts as lts
-use Rattle.refs.proofs.flag_on.Reads as flag-on-reads
 
 abbrev Inv-loop : tie.InvT-loop
 Inv-loop left corner above e total p₀ p =
@@ -19,39 +16,30 @@ Inv-loop left corner above e total p₀ p =
 abbrev μ-loop : tie.MeasureT-loop
 μ-loop left corner above e total p₀ p = total - p
 
--- src/lib.rt:97:17
 mul-total : tie.Need-mul-total Inv-loop μ-loop
 mul-total c = search needs
 
--- src/lib.rt:97:17
 add-total : tie.Need-add-total Inv-loop μ-loop
 add-total c = search needs
 
--- src/lib.rt:99:5
 loop-holds : tie.Need-loop-holds Inv-loop μ-loop
 loop-holds c = (omega arith, ap (firstMarked _ 0) (omega arith))
 
--- src/lib.rt:100:12
 flag-on-requires : tie.Need-flag-on-requires Inv-loop μ-loop
 flag-on-requires c κs = search needs
 
--- src/lib.rt:101:13
 returns : tie.Need-returns Inv-loop μ-loop
 returns c = sym (c .before .before .before .loop .inv .1 ∙ first-here _ _ _ (c .before .before .loop-test .taken) (sym (c .before .flag-on .ensures) ∙ c .if1 .taken))
 
--- src/lib.rt:103:9
 add-p : tie.Need-add-p Inv-loop μ-loop
 add-p c = search needs
 
--- src/lib.rt:99:5
 loop-less : tie.Need-loop-less Inv-loop μ-loop
 loop-less c = search needs
 
--- src/lib.rt:99:5
 loop-again : tie.Need-loop-again Inv-loop μ-loop
 loop-again c = (omega arith, c .before .before .before .loop .inv .1 ∙ first-skip _ _ _ (c .before .before .loop-test .taken) (sym (c .before .flag-on .ensures) ∙ c .if1 .left))
 
--- src/lib.rt:93:1
 returns-2 : tie.Need-returns-2 Inv-loop μ-loop
 returns-2 c = sym (c .before .loop .inv .1 ∙ first-end _ _ _ (c .loop-test .left))
 

@@ -5,27 +5,19 @@ use Rattle.laws.specs.Choose.{if-yes, if-no}
 use borrow.Author.Needs.{needs}
 use Rattle.refs.proofs.gather_no.Statement.{statement}
 use Rattle.refs.proofs.gather_no.Tie as tie
-use Rattle.refs.proofs.gather_no.Reads as reads
-use Rattle.refs.proofs.gather_no.Lts as lts
-use Rattle.domain.proofs.depth_ok.Reads as depth-ok-reads
 
--- src/lib.rt:382:9
 depth-ok-requires : tie.Need-depth-ok-requires
 depth-ok-requires c κs = search needs
 
--- src/lib.rt:383:9
 returns : tie.Need-returns
 returns c = if-no _ _ _ _ (sym (c .before .depth-ok .ensures) ∙ not-true _ (c .if1 .taken)) refl
 
--- src/lib.rt:386:9
 returns-2 : tie.Need-returns-2
 returns-2 c = if-yes _ _ _ _ (sym (c .before .before .depth-ok .ensures) ∙ not-false _ (c .before .if1 .left)) (if-yes _ _ _ _ (c .if2 .taken) refl)
 
--- src/lib.rt:379:1
 returns-3 : tie.Need-returns-3
 returns-3 c = if-yes _ _ _ _ (sym (c .before .before .before .depth-ok .ensures) ∙ not-false _ (c .before .before .if1 .left)) (if-no _ _ _ _ (c .before .if2 .left) (if-yes _ _ _ _ (c .if3 .taken) refl))
 
--- src/lib.rt:379:1
 returns-4 : tie.Need-returns-4
 returns-4 c = if-yes _ _ _ _ (sym (c .before .before .before .depth-ok .ensures) ∙ not-false _ (c .before .before .if1 .left)) (if-no _ _ _ _ (c .before .if2 .left) (if-no _ _ _ _ (c .if3 .left) refl))
 

@@ -7,55 +7,37 @@ use borrow.Author.Needs.{needs}
 use Rattle.refs.specs.Substitution.{levelRows}
 use Rattle.refs.specs.Door.{lumaNo, lumaRows, lumaDoor}
 use Rattle.refs.specs.Served.{luma-number, refused, done, gathered}
-use borrow.Author.Needs.{needs}
 use Rattle.refs.proofs.get_reference_samples.Statement.{statement}
 use Rattle.refs.proofs.get_reference_samples.Tie as tie
-use Rattle.refs.proofs.get_reference_samples.Reads as reads
-use Rattle.refs.proofs.get_reference_samples.Lts as lts
-use Rattle.order.proofs.luma_reach.Reads as luma-reach-reads
-use Rattle.refs.proofs.gather_no.Reads as gather-no-reads
-use Rattle.refs.proofs.level_rows.Reads as level-rows-reads
-use Rattle.refs.proofs.luma_block.Reads as luma-block-reads
-use Rattle.refs.proofs.luma_rows.Reads as luma-rows-reads
 
--- src/lib.rt:418:35
 luma-block-requires : tie.Need-luma-block-requires
 luma-block-requires c κs = search needs
 
--- src/lib.rt:418:9
 luma-reach-requires : tie.Need-luma-reach-requires
 luma-reach-requires c κs = search needs
 
--- src/lib.rt:419:33
 cast-whole : tie.Need-cast-whole
 cast-whole c = search needs
 
--- src/lib.rt:419:65
 cast-whole-2 : tie.Need-cast-whole-2
 cast-whole-2 c = search needs
 
--- src/lib.rt:419:32
 mul-whole : tie.Need-mul-whole
 mul-whole c = let g = c .before .before .before .before .before .args .geo in let a : g .picture .height ≤ 4294967295 = omega (arith, c .before .before .before .before .before .good) in let b : g .picture .width ≤ 4294967295 = omega (arith, c .before .before .before .before .before .good) in omega (arith, mul-le-mul a b)
 
--- src/lib.rt:420:9
 gather-no-requires : tie.Need-gather-no-requires
 gather-no-requires c κs = search needs
 
--- src/lib.rt:424:19
 level-rows-requires : tie.Need-level-rows-requires
 level-rows-requires c κs = search needs
 
--- src/lib.rt:422:9
 returns : tie.Need-returns
 unfolding lumaDoor
 returns c = let a = c .before .before .before .before .before .before .before .before .args in refused gathered (lumaNo _ (a .geo)) (lumaRows (a .plane .now) (a .geo)) (levelRows 0) (luma-number _ (a .geo) (c .before .before .before .before .before .before .luma-block .ensures) (c .before .before .before .before .before .luma-reach .ensures) (c .before .before .gather-no .ensures) .1) (c .before .if1 .taken) (c .level-rows .ensures)
 
--- src/lib.rt:429:15
 luma-rows-requires : tie.Need-luma-rows-requires
 luma-rows-requires c κs = let a = c .before .before .before .before .before .before .before .args in let t = luma-number _ (a .geo) (c .before .before .before .before .before .luma-block .ensures) (c .before .before .before .before .luma-reach .ensures) (c .before .gather-no .ensures) in (t .0, sym (t .1) ∙ c .if1 .left)
 
--- src/lib.rt:415:1
 returns-2 : tie.Need-returns-2
 unfolding lumaDoor
 returns-2 c = let a = c .before .before .before .before .before .before .before .before .args in let t = luma-number _ (a .geo) (c .before .before .before .before .before .before .luma-block .ensures) (c .before .before .before .before .before .luma-reach .ensures) (c .before .before .gather-no .ensures) in done gathered (lumaNo _ (a .geo)) (lumaRows (a .plane .now) (a .geo)) (levelRows 0) (sym (t .1) ∙ c .before .if1 .left) (c .luma-rows .ensures)

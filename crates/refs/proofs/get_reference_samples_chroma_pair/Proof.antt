@@ -1,6 +1,6 @@
 -- The door: the reach, the number, then the work. Assumes nothing.
 use mathlib.Core.Path.{sym, ap, _∙_}
-use mathlib.Core.List.{List, [], _∷_}
+use mathlib.Core.List.{[], _∷_}
 use Rattle.rows.specs.declared.Rows.{Rows}
 use Rattle.refs.specs.Substitution.{levelRows}
 use Rattle.refs.specs.Door.{chromaNo, chromaRows, chromaDoor}
@@ -8,45 +8,29 @@ use Rattle.refs.specs.Served.{chroma-number, refused, done, gatheredPair
 use borrow.Author.Needs.{needs}
 use Rattle.refs.proofs.get_reference_samples_chroma_pair.Statement.{statement}
 use Rattle.refs.proofs.get_reference_samples_chroma_pair.Tie as tie
-use Rattle.refs.proofs.get_reference_samples_chroma_pair.Reads as reads
-use Rattle.refs.proofs.get_reference_samples_chroma_pair.Lts as lts
-use Rattle.order.proofs.chroma_reach.Reads as chroma-reach-reads
-use Rattle.refs.proofs.chroma_block.Reads as chroma-block-reads
-use Rattle.refs.proofs.chroma_length.Reads as chroma-length-reads
-use Rattle.refs.proofs.chroma_rows.Reads as chroma-rows-reads
-use Rattle.refs.proofs.gather_no.Reads as gather-no-reads
-use Rattle.refs.proofs.level_rows.Reads as level-rows-reads
 
--- src/lib.rt:516:37
 chroma-block-requires : tie.Need-chroma-block-requires
 chroma-block-requires c κs = search needs
 
--- src/lib.rt:516:9
 chroma-reach-requires : tie.Need-chroma-reach-requires
 chroma-reach-requires c κs = search needs
 
--- src/lib.rt:517:9
 chroma-length-requires : tie.Need-chroma-length-requires
 chroma-length-requires c κs = search needs
 
--- src/lib.rt:519:9
 gather-no-requires : tie.Need-gather-no-requires
 gather-no-requires c κs = search needs
 
--- src/lib.rt:521:13
 level-rows-requires : tie.Need-level-rows-requires
 level-rows-requires c κs = search needs
 
--- src/lib.rt:522:9
 returns : tie.Need-returns
 unfolding chromaDoor
 returns c = let a = c .before .before .before .before .before .before .before .before .args in refused gatheredPair (chromaNo _ _ (a .geo)) (chromaRows (a .plane-cb .now) (a .geo) ∷ chromaRows (a .plane-cr .now) (a .geo) ∷ []) (levelRows 0 ∷ levelRows 0 ∷ []) ((chroma-number _ _ (a .geo) (c .before .before .before .before .before .chroma-block .ensures) (c .before .before .before .before .chroma-reach .ensures) (c .before .before .before .chroma-length .ensures) (c .before .before .gather-no .ensures)) .1) (c .before .if1 .taken) (ap (λ (v : Rows). v ∷ v ∷ []) (c .level-rows .ensures))
 
--- src/lib.rt:529:17
 chroma-rows-requires : tie.Need-chroma-rows-requires
 chroma-rows-requires c κs = let a = c .before .before .before .before .before .before .before .args in let t = (chroma-number _ _ (a .geo) (c .before .before .before .before .chroma-block .ensures) (c .before .before .before .chroma-reach .ensures) (c .before .before .chroma-length .ensures) (c .before .gather-no .ensures)) in (t .0, sym (t .1) ∙ c .if1 .left)
 
--- src/lib.rt:509:1
 returns-2 : tie.Need-returns-2
 unfolding chromaDoor
 returns-2 c = let a = c .before .before .before .before .before .before .before .before .args in let t = (chroma-number _ _ (a .geo) (c .before .before .before .before .before .chroma-block .ensures) (c .before .before .before .before .chroma-reach .ensures) (c .before .before .before .chroma-length .ensures) (c .before .before .gather-no .ensures)) in done gatheredPair (chromaNo _ _ (a .geo)) (chromaRows (a .plane-cb .now) (a .geo) ∷ chromaRows (a .plane-cr .now) (a .geo) ∷ []) (levelRows 0 ∷ levelRows 0 ∷ []) (sym (t .1) ∙ c .before .if1 .left) (c .chroma-rows .ensures)

@@ -8,8 +8,6 @@ use Rattle.laws.specs.Fill.{fill}
 use Rattle.laws.specs.FillLaws.{fill-none, fill-more, fill-done}
 use Rattle.refs.proofs.left_of.Statement.{statement}
 use Rattle.refs.proofs.left_of.Tie as tie
-use Rattle.refs.proofs.left_of.Reads as reads
-use Rattle.refs.proofs.left_of.Lts as lts
 
 abbrev Inv-loop : tie.InvT-loop
 Inv-loop line e out₀ i₀ out i = (i ≤ e + 1) × (out ≡ fill (λ (j : ℕ). getD line (e - j) 0) i out₀)
@@ -17,39 +15,30 @@ Inv-loop line e out₀ i₀ out i = (i ≤ e + 1) × (out ≡ fill (λ (j : ℕ)
 abbrev μ-loop : tie.MeasureT-loop
 μ-loop line e out₀ i₀ out i = e + 1 - i
 
--- src/lib.rt:143:5
 loop-holds : tie.Need-loop-holds Inv-loop μ-loop
 loop-holds c = (omega arith, fill-none _ _)
 
--- src/lib.rt:144:18
 mul-out : tie.Need-mul-out Inv-loop μ-loop
 mul-out c = search needs
 
--- src/lib.rt:144:18
 element-copy-out-out : tie.Need-element-copy-out-out Inv-loop μ-loop
 element-copy-out-out c = search needs
 
--- src/lib.rt:144:9
 mul-out-2 : tie.Need-mul-out-2 Inv-loop μ-loop
 mul-out-2 c = search needs
 
--- src/lib.rt:144:9
 array-write-out : tie.Need-array-write-out Inv-loop μ-loop
 array-write-out c = search needs
 
--- src/lib.rt:145:9
 add-i : tie.Need-add-i Inv-loop μ-loop
 add-i c = search needs
 
--- src/lib.rt:143:5
 loop-less : tie.Need-loop-less Inv-loop μ-loop
 loop-less c = search needs
 
--- src/lib.rt:143:5
 loop-again : tie.Need-loop-again Inv-loop μ-loop
 loop-again c = (omega arith, fill-more _ _ (c .before .before .loop .inv .1) refl)
 
--- src/lib.rt:137:1
 returns : tie.Need-returns Inv-loop μ-loop
 returns c = fill-done _ _ (c .before .loop .inv .0) (omega arith) (c .before .loop .inv .1)
 

@@ -5,37 +5,25 @@ use Rattle.refs.specs.Served.{luma-ready, inside, made}
 use borrow.Author.Needs.{needs}
 use Rattle.refs.proofs.luma_rows.Statement.{statement}
 use Rattle.refs.proofs.luma_rows.Tie as tie
-use Rattle.refs.proofs.luma_rows.Reads as reads
-use Rattle.refs.proofs.luma_rows.Lts as lts
-use Rattle.refs.proofs.neutral_of.Reads as neutral-of-reads
-use Rattle.refs.proofs.plane_rows.Reads as plane-rows-reads
-use Rattle.refs.proofs.spot_of.Reads as spot-of-reads
 
--- src/lib.rt:406:17
 cast-width : tie.Need-cast-width
 cast-width c = search needs
 
--- src/lib.rt:407:28
 cast-spot-of : tie.Need-cast-spot-of
 cast-spot-of c = search needs
 
--- src/lib.rt:407:54
 cast-spot-of-2 : tie.Need-cast-spot-of-2
 cast-spot-of-2 c = search needs
 
--- src/lib.rt:407:9
 spot-of-requires : tie.Need-spot-of-requires
 spot-of-requires c κs = let s = c .before .before .before .before in let y = luma-ready _ (s .args .geo) (s .args .reach) (s .pre .0) (s .pre .1) .1 in (y .width-few, y .row-few, y .col-few)
 
--- src/lib.rt:408:40
 neutral-of-requires : tie.Need-neutral-of-requires
 neutral-of-requires c κs = let s = c .before .before .before .before .before in luma-ready _ (s .args .geo) (s .args .reach) (s .pre .0) (s .pre .1) .0
 
--- src/lib.rt:408:5
 plane-rows-requires : tie.Need-plane-rows-requires
 plane-rows-requires c κs = let s = c .before .before .before .before .before .before in let g = s .args .geo in inside (s .args .plane .now) (g .picture .width) (g .«block_row» .0) (g .«block_col» .0) (g .n) (g .bits) (luma-ready _ g (s .args .reach) (s .pre .0) (s .pre .1) .1) refl (c .before .spot-of .ensures)
 
--- src/lib.rt:402:1
 returns : tie.Need-returns
 unfolding lumaRows
 returns c = let s = c .before .before .before .before .before .before .before in let g = s .args .geo in made (s .args .plane .now) (g .picture .width) (g .«block_row» .0) (g .«block_col» .0) (g .n) (g .bits) (luma-ready _ g (s .args .reach) (s .pre .0) (s .pre .1) .1) refl (c .before .before .spot-of .ensures) (c .before .neutral-of .ensures) (c .plane-rows .ensures)

@@ -5,18 +5,13 @@ use Prim.Native.Nat.{ℕ, _-_, _^_}
 use Rattle.domain.specs.Facts.{depth-of}
 use Rattle.refs.proofs.neutral_of.Statement.{statement}
 use Rattle.refs.proofs.neutral_of.Tie as tie
-use Rattle.refs.proofs.neutral_of.Reads as reads
-use Rattle.refs.proofs.neutral_of.Lts as lts
 
--- src/lib.rt:216:1
 returns : tie.Need-returns
 returns c = rw (c .match .keys1)
 
--- src/lib.rt:216:1
 returns-2 : tie.Need-returns-2
 returns-2 c = rw (c .match .keys2)
 
--- src/lib.rt:216:1
 returns-3 : tie.Need-returns-3
 returns-3 c =
     let twelve : c .before .args .bits ≡ 12 = ⊎-elim (λ e. absurd (c .match .rest .0 .1 e)) (λ t. ⊎-elim (λ e. absurd (c .match .rest .1 e)) (λ e. e) t) (depth-of (c .before .args .bits) (c .before .pre)) in

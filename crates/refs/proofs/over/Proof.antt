@@ -6,14 +6,10 @@ use native.Mathlib.Nat.{div-one}
 use native.Mathlib.Omega.{arith}
 use Rattle.refs.proofs.over.Statement.{statement}
 use Rattle.refs.proofs.over.Tie as tie
-use Rattle.refs.proofs.over.Reads as reads
-use Rattle.refs.proofs.over.Lts as lts
 
--- src/lib.rt:467:9
 returns : tie.Need-returns
 returns c = (ap (λ (t : ℕ). c .before .args .side / t) (sym (c .if1 .taken)), omega arith)
 
--- src/lib.rt:462:1
 returns-2 : tie.Need-returns-2
 returns-2 c =
     let one : c .before .args .sub ≡ 1 = ⊎-elim (λ e. e) (λ e. absurd (c .if1 .left e)) (c .before .pre) in

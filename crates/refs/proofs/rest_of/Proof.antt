@@ -9,27 +9,19 @@ use Rattle.laws.specs.Choose.{if-yes, if-no}
 use borrow.Author.Needs.{needs}
 use Rattle.refs.proofs.rest_of.Statement.{statement}
 use Rattle.refs.proofs.rest_of.Tie as tie
-use Rattle.refs.proofs.rest_of.Reads as reads
-use Rattle.refs.proofs.rest_of.Lts as lts
-use Rattle.refs.proofs.sample.Reads as sample-reads
 
--- src/lib.rt:148:41
 sub-sample : tie.Need-sub-sample
 sub-sample c = search needs
 
--- src/lib.rt:148:30
 add-sample : tie.Need-add-sample
 add-sample c = omega (arith, c .before .before .before .before .before .pre .above-in (c .before .before .before .before .before .args .r .above - 1) (omega arith))
 
--- src/lib.rt:148:9
 sample-requires : tie.Need-sample-requires
 sample-requires c κs = omega (arith, c .before .before .before .before .before .pre .above-in (c .before .before .before .before .before .args .r .above - 1) (omega arith))
 
--- src/lib.rt:148:9
 returns : tie.Need-returns
 returns c = let a = c .before .before .before .before .before .before .args in if-yes _ _ _ _ (lt-ltb _ _ (c .before .before .before .if1 .taken)) (c .sample .ensures ∙ ap (λ (k : ℕ). getD (a .plane .now) k 0) (let q : a .s .above + (a .r .above - 1) ≡ a .s .above + (a .r .above - 1) * 1 = omega arith in q))
 
--- src/lib.rt:143:1
 returns-2 : tie.Need-returns-2
 returns-2 c = if-no _ _ _ _ (le-ltb _ _ (c .if1 .left)) refl
 

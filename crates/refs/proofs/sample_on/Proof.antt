@@ -4,48 +4,36 @@ use Rattle.refs.specs.Substitution.{onLine}
 use borrow.Author.Needs.{needs}
 use Rattle.refs.proofs.sample_on.Statement.{statement}
 use Rattle.refs.proofs.sample_on.Tie as tie
-use Rattle.refs.proofs.sample_on.Reads as reads
-use Rattle.refs.proofs.sample_on.Lts as lts
 
--- src/lib.rt:70:16
 mul-result : tie.Need-mul-result
 mul-result c = search needs
 
--- src/lib.rt:70:16
 element-copy-out-result : tie.Need-element-copy-out-result
 element-copy-out-result c = search needs
 
--- src/lib.rt:70:9
 returns : tie.Need-returns
 unfolding onLine
 returns c = simp (le-leb _ _ (c .before .if1 .taken))
 
--- src/lib.rt:72:13
 add-if2 : tie.Need-add-if2
 add-if2 c = search needs
 
--- src/lib.rt:73:9
 returns-2 : tie.Need-returns-2
 unfolding onLine
 returns-2 c = simp (lt-leb _ _ (c .before .if1 .left), eq-eqb _ _ (c .if2 .taken))
 
--- src/lib.rt:75:16
 add-result : tie.Need-add-result
 add-result c = search needs
 
--- src/lib.rt:75:11
 sub-result : tie.Need-sub-result
 sub-result c = search needs
 
--- src/lib.rt:75:5
 mul-result-2 : tie.Need-mul-result-2
 mul-result-2 c = search needs
 
--- src/lib.rt:75:5
 element-copy-out-result-2 : tie.Need-element-copy-out-result-2
 element-copy-out-result-2 c = search needs
 
--- src/lib.rt:65:1
 returns-3 : tie.Need-returns-3
 unfolding onLine
 returns-3 c = simp (lt-leb _ _ (c .before .before .if1 .left), ne-eqb _ _ (c .before .if2 .left))

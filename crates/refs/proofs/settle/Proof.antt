@@ -12,11 +12,6 @@ use Rattle.h265.specs.Substitution.{settled}
 use Rattle.refs.specs.Line.{lineOf, carriedTo, carried-start, carried-on, carried-next}
 use Rattle.refs.proofs.settle.Statement.{statement}
 use Rattle.refs.proofs.settle.Tie as tie
-use Rattle.refs.proofs.settle.Reads as reads
-use Rattle.refs.proofs.settle.Lts as lts
-use Rattle.refs.proofs.choose.Reads as choose-reads
-use Rattle.refs.proofs.flag_on.Reads as flag-on-reads
-use Rattle.refs.proofs.sample_on.Reads as sample-on-reads
 
 abbrev Inv-loop : tie.InvT-loop
 Inv-loop left corner above has-left has-corner has-above e found total vals₀ carried₀ p₀ vals carried p =
@@ -41,55 +36,42 @@ carry-next c =
     let s = c .before .before .before .before .before .before in
     carried-next (marks-on s) (vals-on s) (s .args .found) (k .p) (c .before .before .flag-on .ensures) (c .before .sample-on2 .ensures) (k .inv .1 .0) (c .choose .ensures)
 
--- src/lib.rt:137:17
 mul-total : tie.Need-mul-total Inv-loop μ-loop
 mul-total c = search needs
 
--- src/lib.rt:137:17
 add-total : tie.Need-add-total Inv-loop μ-loop
 add-total c = search needs
 
--- src/lib.rt:139:9
 sample-on-requires : tie.Need-sample-on-requires Inv-loop μ-loop
 sample-on-requires c κs = search needs
 
--- src/lib.rt:141:5
 loop-holds : tie.Need-loop-holds Inv-loop μ-loop
 loop-holds c = (omega arith, (c .sample-on .ensures ∙ carried-start _ _ _, fill-none _ _))
 
--- src/lib.rt:142:13
 flag-on-requires : tie.Need-flag-on-requires Inv-loop μ-loop
 flag-on-requires c κs = search needs
 
--- src/lib.rt:143:13
 sample-on-requires-2 : tie.Need-sample-on-requires-2 Inv-loop μ-loop
 sample-on-requires-2 c κs = search needs
 
--- src/lib.rt:144:9
 choose-requires : tie.Need-choose-requires Inv-loop μ-loop
 choose-requires c κs = search needs
 
--- src/lib.rt:145:9
 mul-vals : tie.Need-mul-vals Inv-loop μ-loop
 mul-vals c = search needs
 
--- src/lib.rt:145:9
 array-write-vals : tie.Need-array-write-vals Inv-loop μ-loop
 array-write-vals c = search needs
 
--- src/lib.rt:146:9
 add-p : tie.Need-add-p Inv-loop μ-loop
 add-p c = search needs
 
--- src/lib.rt:141:5
 loop-less : tie.Need-loop-less Inv-loop μ-loop
 loop-less c = search needs
 
--- src/lib.rt:141:5
 loop-again : tie.Need-loop-again Inv-loop μ-loop
 loop-again c = (omega arith, (carry-next c, fill-more _ _ (c .before .before .before .before .loop .inv .1 .1) (carry-next c ∙ carried-on _ _ _ _)))
 
--- src/lib.rt:124:1
 returns : tie.Need-returns Inv-loop μ-loop
 returns c = fill-done _ _ (c .before .loop .inv .0) (c .loop-test .left) (c .before .loop .inv .1 .1)
 

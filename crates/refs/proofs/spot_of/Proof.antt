@@ -4,39 +4,28 @@ use Rattle.refs.specs.Spots.{area}
 use borrow.Author.Needs.{needs}
 use Rattle.refs.proofs.spot_of.Statement.{statement}
 use Rattle.refs.proofs.spot_of.Tie as tie
-use Rattle.refs.proofs.spot_of.Reads as reads
-use Rattle.refs.proofs.spot_of.Lts as lts
-use Rattle.refs.proofs.back.Reads as back-reads
 
--- src/lib.rt:79:14
 back-requires : tie.Need-back-requires
 back-requires c κs = search needs
 
--- src/lib.rt:79:14
 mul-up : tie.Need-mul-up
 mul-up c = omega (arith, area (c .back .result) (c .before .args .width) (omega arith) (omega arith))
 
--- src/lib.rt:80:9
 back-requires-2 : tie.Need-back-requires-2
 back-requires-2 c κs = search needs
 
--- src/lib.rt:82:17
 add-t6 : tie.Need-add-t6
 add-t6 c = omega (arith, area (c .before .back .result) (c .before .before .args .width) (omega arith) (omega arith))
 
--- src/lib.rt:83:16
 add-t7 : tie.Need-add-t7
 add-t7 c = omega (arith, area (c .before .back .result) (c .before .before .args .width) (omega arith) (omega arith))
 
--- src/lib.rt:84:15
 mul-t8 : tie.Need-mul-t8
 mul-t8 c = omega (arith, area (c .before .before .args .row) (c .before .before .args .width) (omega arith) (omega arith))
 
--- src/lib.rt:84:15
 add-t9 : tie.Need-add-t9
 add-t9 c = omega (arith, area (c .before .before .args .row) (c .before .before .args .width) (omega arith) (omega arith))
 
--- src/lib.rt:75:1
 returns : tie.Need-returns
 returns c = simp (c .before .back .ensures, c .back2 .ensures)
 

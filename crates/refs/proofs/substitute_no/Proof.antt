@@ -6,30 +6,21 @@ use Rattle.refs.specs.Door.{substituteNo}
 use borrow.Author.Needs.{needs}
 use Rattle.refs.proofs.substitute_no.Statement.{statement}
 use Rattle.refs.proofs.substitute_no.Tie as tie
-use Rattle.refs.proofs.substitute_no.Reads as reads
-use Rattle.refs.proofs.substitute_no.Lts as lts
-use Rattle.domain.proofs.depth_ok.Reads as depth-ok-reads
-use Rattle.domain.proofs.size_ok.Reads as size-ok-reads
 
--- src/lib.rt:206:9
 depth-ok-requires : tie.Need-depth-ok-requires
 depth-ok-requires c κs = search needs
 
--- src/lib.rt:207:9
 returns : tie.Need-returns
 unfolding substituteNo
 returns c = if-no _ _ _ _ (sym (c .before .depth-ok .ensures) ∙ not-true _ (c .if1 .taken)) refl
 
--- src/lib.rt:209:9
 size-ok-requires : tie.Need-size-ok-requires
 size-ok-requires c κs = search needs
 
--- src/lib.rt:210:9
 returns-2 : tie.Need-returns-2
 unfolding substituteNo
 returns-2 c = if-yes _ _ _ _ (sym (c .before .before .before .depth-ok .ensures) ∙ not-false _ (c .before .before .if1 .left)) (if-no _ _ _ _ (sym (c .before .size-ok .ensures) ∙ not-true _ (c .if2 .taken)) refl)
 
--- src/lib.rt:203:1
 returns-3 : tie.Need-returns-3
 unfolding substituteNo
 returns-3 c = if-yes _ _ _ _ (sym (c .before .before .before .depth-ok .ensures) ∙ not-false _ (c .before .before .if1 .left)) (if-yes _ _ _ _ (sym (c .before .size-ok .ensures) ∙ not-false _ (c .if2 .left)) refl)

@@ -7,35 +7,23 @@ use Rattle.refs.specs.Served.{substitute-fine, refused, done, gathered}
 use borrow.Author.Needs.{needs}
 use Rattle.refs.proofs.substitute_refs.Statement.{statement}
 use Rattle.refs.proofs.substitute_refs.Tie as tie
-use Rattle.refs.proofs.substitute_refs.Reads as reads
-use Rattle.refs.proofs.substitute_refs.Lts as lts
-use Rattle.refs.proofs.level_rows.Reads as level-rows-reads
-use Rattle.refs.proofs.neutral_of.Reads as neutral-of-reads
-use Rattle.refs.proofs.substitute.Reads as substitute-reads
-use Rattle.refs.proofs.substitute_no.Reads as substitute-no-reads
 
--- src/lib.rt:231:9
 substitute-no-requires : tie.Need-substitute-no-requires
 substitute-no-requires c κs = search needs
 
--- src/lib.rt:235:19
 level-rows-requires : tie.Need-level-rows-requires
 level-rows-requires c κs = search needs
 
--- src/lib.rt:233:9
 returns : tie.Need-returns
 unfolding substituteDoor
 returns c = let a = c .before .before .before .args in refused gathered (substituteNo (a .bits) (a .n)) (substituted (a .n) (neutralAt (a .bits)) (a .flags) (a .rows)) (levelRows 0) (c .before .before .substitute-no .ensures) (c .before .if1 .taken) (c .level-rows .ensures)
 
--- src/lib.rt:240:42
 neutral-of-requires : tie.Need-neutral-of-requires
 neutral-of-requires c κs = let a = c .before .before .args in substitute-fine (a .bits) (a .n) (sym (c .before .substitute-no .ensures) ∙ c .if1 .left) .0
 
--- src/lib.rt:240:15
 substitute-requires : tie.Need-substitute-requires
 substitute-requires c κs = let a = c .before .before .before .args in substitute-fine (a .bits) (a .n) (sym (c .before .before .substitute-no .ensures) ∙ c .before .if1 .left) .1
 
--- src/lib.rt:228:1
 returns-2 : tie.Need-returns-2
 unfolding substituteDoor
 returns-2 c = let a = c .before .before .before .before .args in done gathered (substituteNo (a .bits) (a .n)) (substituted (a .n) (neutralAt (a .bits)) (a .flags) (a .rows)) (levelRows 0) (sym (c .before .before .before .substitute-no .ensures) ∙ c .before .before .if1 .left) (c .substitute .ensures ∙ ap (λ (v : ℕ). substituted (a .n) v (a .flags) (a .rows)) (c .before .neutral-of .ensures))
