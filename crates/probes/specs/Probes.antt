@@ -1,6 +1,7 @@
 -- What each entry hands over, from the definition of the door behind it. Assumes nothing.
 use Prim.Native.Nat.{ℕ}
 use mathlib.Core.Bool.{Bool, true, false}
+use mathlib.Core.List.{List}
 use lib.IntN.{ℤ}
 use Rattle.fmt.specs.declared.DepthFrom.{DepthFrom}
 use Rattle.fmt.specs.declared.DepthFrom.the-variants.{Depth, Refused}
@@ -13,10 +14,16 @@ use Rattle.order.specs.declared.Picture.{Picture}
 use Rattle.order.specs.declared.Numbered.{Numbered}
 use Rattle.order.specs.declared.Flagged.{Flagged}
 use Rattle.order.specs.Order.{orderDoor, availDoor}
+use Rattle.smooth.specs.declared.Rule.{Rule}
+use Rattle.smooth.specs.declared.FilteredRows.{FilteredRows}
+use Rattle.smooth.specs.declared.Smoothed.{Smoothed}
+use Rattle.smooth.specs.Smoothing.{ruleDoor, filterDoor, lumaDoor}
 use Rattle.probes.specs.declared.Answer.{Answer}
 use Rattle.probes.specs.declared.DepthFigures.{DepthFigures}
 use Rattle.probes.specs.declared.FormatFigures.{FormatFigures}
 use Rattle.probes.specs.declared.Place.{Place}
+use Rattle.probes.specs.declared.TwoRows.{TwoRows}
+use Rattle.probes.specs.declared.References.{References}
 
 -- a depth's figures; a refusal is number 1 and zeros
 abbrev pub figuresOf : DepthFrom → DepthFigures
@@ -69,3 +76,22 @@ orderAnswer row col width height ctu unit = valueOf (orderDoor (pictureOf width 
 abbrev pub availableAnswer : ℤ → ℤ → ℕ → ℕ → ℕ → ℕ → ℕ → ℕ → Answer
 availableAnswer nr nc row col width height ctu unit =
     flagOf (availDoor (pictureOf width height ctu unit) (record { row = nr; col = nc }) (record { 0 = row }) (record { 0 = col }))
+
+-- the smoothing doors' answers
+abbrev pub ruleOf : Rule → Answer
+ruleOf a = record { no = a .no; value = bit (a .yes) }
+
+abbrev pub twoRowsOf : FilteredRows → TwoRows
+twoRowsOf a = record { no = a .no; above = a .above; left = a .left }
+
+abbrev pub referencesOf : Smoothed → References
+referencesOf a = record { no = a .no; corner = a .rows .corner; above = a .rows .above; left = a .rows .left }
+
+abbrev pub ruleAnswer : ℕ → ℕ → Answer
+ruleAnswer mode n = ruleOf (ruleDoor mode n)
+
+abbrev pub filterAnswer : ℕ → List ℕ → List ℕ → ℕ → TwoRows
+filterAnswer corner above left n = twoRowsOf (filterDoor corner above left n)
+
+abbrev pub lumaAnswer : ℕ → List ℕ → List ℕ → ℕ → ℕ → References
+lumaAnswer corner above left n bits = referencesOf (lumaDoor true corner above left n bits)

@@ -1,7 +1,19 @@
 // Entries at native types for the runs against the Rust: each calls a door and hands its answer over as plain numbers.
 // Rests on the doors' contracts.
 ghost use mathlib.Core.Path.{_≡_};
+ghost use Prim.Native.Nat.{ℕ};
+ghost use lib.ListN.{length};
+ghost use Rattle.laws.specs.Choose.{served};
+ghost use Rattle.laws.specs.Fill.{block};
+ghost use Rattle.h265.specs.Notation.{fromRows};
+ghost use Rattle.h265.specs.Planar.{planar};
+ghost use Rattle.h265.specs.Dc.{dc};
+ghost use Rattle.h265.specs.Angular.{angular};
+ghost use Rattle.flat.specs.Flat.{flatNo};
+ghost use Rattle.angular.specs.Door.{angularNo};
+ghost use Rattle.residual.specs.Residual.{residualNo, residualsAfter, reconstructNo, reconstructed};
 ghost use Rattle.probes.specs.Probes.{depthFigures, formatFigures, onLuma, onChroma, orderAnswer, availableAnswer};
+ghost use Rattle.probes.specs.Probes.{ruleAnswer, filterAnswer, lumaAnswer};
 use fmt::BitDepth;
 use fmt::ChromaCol;
 use fmt::ChromaFormat;
@@ -186,4 +198,154 @@ pub extern "C" fn salvrunde_probe_is_available(
         no: a.no,
         value: a.yes as u32,
     }
+}
+
+// Whether the references are smoothed: 1 or 0.
+#[no_mangle]
+pub extern "C" fn salvrunde_probe_should_filter_refs(mode: u8, n: usize) -> Answer
+    ensures { λ r. ⌜ r ≡ ruleAnswer mode n ⌝ }
+{
+    let a = smooth::should_filter_refs(mode, n);
+    Answer {
+        no: a.no,
+        value: a.yes as u32,
+    }
+}
+
+// A call's number, and two rows, zeros where it is refused.
+#[repr(C)]
+pub struct TwoRows {
+    pub no: u32,
+    pub above: [u16; 65],
+    pub left: [u16; 65],
+}
+
+#[no_mangle]
+pub extern "C" fn salvrunde_probe_filter_references(
+    corner: u16,
+    above: &[u16],
+    left: &[u16],
+    n: usize,
+) -> TwoRows
+    ensures { λ r. ⌜ r ≡ filterAnswer corner (now (above .entry)) (now (left .entry)) n ⌝ }
+{
+    let a = smooth::filter_references(corner, above, left, n);
+    let up = a.above;
+    let side = a.left;
+    TwoRows {
+        no: a.no,
+        above: up,
+        left: side,
+    }
+}
+
+// A call's number, and the corner and two rows, zeros where it is refused.
+#[repr(C)]
+pub struct References {
+    pub no: u32,
+    pub corner: u16,
+    pub above: [u16; 65],
+    pub left: [u16; 65],
+}
+
+#[no_mangle]
+pub extern "C" fn salvrunde_probe_filter_luma_refs(
+    corner: u16,
+    above: &[u16],
+    left: &[u16],
+    n: usize,
+    bits: u32,
+) -> References
+    ensures { λ r. ⌜ r ≡ lumaAnswer corner (now (above .entry)) (now (left .entry)) n bits ⌝ }
+{
+    let a = smooth::filter_luma_refs(corner, above, left, n, bits);
+    let up = a.rows.above;
+    let side = a.rows.left;
+    References {
+        no: a.no,
+        corner: a.rows.corner,
+        above: up,
+        left: side,
+    }
+}
+
+#[no_mangle]
+pub extern "C" fn salvrunde_probe_predict_planar_into(
+    above: &[u16],
+    left: &[u16],
+    n: usize,
+    pred: &mut [u16],
+) -> u32
+    ensures { λ r. ⌜ (r ≡ flatNo n (length (now (above .entry))) (length (now (left .entry))) (length (now (pred .entry)))) × (now (pred .exit) ≡ served r (block (λ (y x : ℕ). planar n (fromRows 0 (now (above .entry)) (now (left .entry))) x y) n (now (pred .entry))) (now (pred .entry))) ⌝ }
+{
+    flat::predict_planar_into(above, left, n, &mut *pred)
+}
+
+#[no_mangle]
+pub extern "C" fn salvrunde_probe_predict_dc_into(
+    above: &[u16],
+    left: &[u16],
+    n: usize,
+    filter_boundary: bool,
+    pred: &mut [u16],
+) -> u32
+    ensures { λ r. ⌜ (r ≡ flatNo n (length (now (above .entry))) (length (now (left .entry))) (length (now (pred .entry)))) × (now (pred .exit) ≡ served r (block (λ (y x : ℕ). dc «filter_boundary» n (fromRows 0 (now (above .entry)) (now (left .entry))) x y) n (now (pred .entry))) (now (pred .entry))) ⌝ }
+{
+    flat::predict_dc_into(above, left, n, filter_boundary, &mut *pred)
+}
+
+#[no_mangle]
+pub extern "C" fn salvrunde_probe_predict_angular_slices(
+    corner: u16,
+    above: &[u16],
+    left: &[u16],
+    n: usize,
+    mode: u8,
+    filter_boundary: bool,
+    bits: u32,
+    pred: &mut [u16],
+    refs: &mut [u16],
+    indices: &mut [u32],
+    fractions: &mut [u32],
+) -> u32
+    ensures { λ r. ⌜ (r ≡ angularNo bits n mode (record { above = length (now (above .entry)); left = length (now (left .entry)); pred = length (now (pred .entry)); refs = length (now (refs .entry)); indices = length (now (indices .entry)); fractions = length (now (fractions .entry)) })) × ((now (pred .exit) ≡ served r (block (λ (y x : ℕ). angular bits «filter_boundary» n mode (fromRows corner (now (above .entry)) (now (left .entry))) x y) n (now (pred .entry))) (now (pred .entry))) × ((r ≡ 0 → ⊥) → (now (refs .exit) ≡ now (refs .entry)) × ((now (indices .exit) ≡ now (indices .entry)) × (now (fractions .exit) ≡ now (fractions .entry))))) ⌝ }
+{
+    angular::predict_angular_slices(
+        corner,
+        above,
+        left,
+        n,
+        mode,
+        filter_boundary,
+        bits,
+        &mut *pred,
+        &mut *refs,
+        &mut *indices,
+        &mut *fractions,
+    )
+}
+
+#[no_mangle]
+pub extern "C" fn salvrunde_probe_compute_residual_i32_into(
+    orig: &[u16],
+    pred: &[u16],
+    n: usize,
+    residual: &mut [i32],
+) -> u32
+    ensures { λ r. ⌜ (r ≡ residualNo n (length (now (orig .entry))) (length (now (pred .entry))) (length (now (residual .entry)))) × (now (residual .exit) ≡ residualsAfter n (now (orig .entry)) (now (pred .entry)) (now (residual .entry))) ⌝ }
+{
+    residual::compute_residual_i32_into(orig, pred, n, &mut *residual)
+}
+
+#[no_mangle]
+pub extern "C" fn salvrunde_probe_reconstruct_into(
+    pred: &[u16],
+    residual: &[i32],
+    n: usize,
+    bits: u32,
+    out: &mut [u16],
+) -> u32
+    ensures { λ r. ⌜ (r ≡ reconstructNo bits n (length (now (pred .entry))) (now (residual .entry)) (length (now (out .entry)))) × (now (out .exit) ≡ reconstructed bits n (now (pred .entry)) (now (residual .entry)) (now (out .entry))) ⌝ }
+{
+    residual::reconstruct_into(pred, residual, n, bits, &mut *out)
 }

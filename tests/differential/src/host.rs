@@ -4,7 +4,6 @@ use std::process::{Child, ChildStdin, ChildStdout, Command, Stdio};
 
 /// What an entry is given. A slice of the proved code is a buffer and then a number, its length in elements.
 #[derive(Clone, Copy)]
-#[allow(dead_code)] // no entry lends a buffer yet
 pub enum Arg<'a> {
     Number(u64),
     Read(&'a [u8]),

@@ -7,11 +7,16 @@
 //! A subject is a module with one function that makes calls through a `Tally`. To add one: write src/NAME.rs, add its line
 //! to SUBJECTS, and add the entries that it calls to entries.txt.
 mod demo;
+mod differences;
 mod fmt;
 mod host;
 mod list;
 mod order;
+mod predict;
 mod random;
+mod residual;
+mod samples;
+mod smooth;
 mod table;
 mod tally;
 
@@ -33,6 +38,13 @@ const SUBJECTS: &[(&str, Subject)] = &[
     ("order", order::order),
     ("availability", order::availability),
     ("differences", order::differences),
+    ("rule", smooth::rule),
+    ("smoothing", smooth::smoothing),
+    ("planar and DC", predict::flat),
+    ("angular", predict::angular),
+    ("residual", residual::residual),
+    ("reconstruction", residual::reconstruction),
+    ("differences in prediction", differences::prediction),
 ];
 
 fn main() -> ExitCode {

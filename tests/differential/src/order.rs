@@ -217,10 +217,10 @@ pub fn differences(t: &mut Tally) {
 }
 
 /// Whether the Rust panics, which it says nothing about here.
-fn panics(call: fn()) -> bool {
+pub fn panics(call: impl FnOnce()) -> bool {
     let hook = std::panic::take_hook();
     std::panic::set_hook(Box::new(|_| ()));
-    let ended = std::panic::catch_unwind(call);
+    let ended = std::panic::catch_unwind(std::panic::AssertUnwindSafe(call));
     std::panic::set_hook(hook);
     ended.is_err()
 }

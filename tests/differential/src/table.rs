@@ -49,3 +49,43 @@ impl Picture {
         (self.width as usize).div_ceil(self.ctu as usize)
     }
 }
+
+/// Number 2.
+pub fn size(n: usize) -> bool {
+    [4, 8, 16, 32].contains(&n)
+}
+
+/// Number 3 at the smoothing rule.
+pub fn mode(mode: u8) -> bool {
+    mode <= 34
+}
+
+/// Number 3 at the angular door.
+pub fn angular(mode: u8) -> bool {
+    (2..=34).contains(&mode)
+}
+
+/// Number 5 of reference rows with so many entries.
+pub fn rows(above: usize, left: usize) -> bool {
+    above >= 65 && left >= 65
+}
+
+/// Number 5 of a block buffer. A side that is none has no such number, and is refused before.
+pub fn block(n: usize, entries: usize) -> bool {
+    n.checked_mul(n).is_some_and(|least| entries >= least)
+}
+
+/// Number 5 of the lent scratch.
+pub fn scratch(refs: usize, indices: usize, fractions: usize) -> bool {
+    refs >= 193 && indices >= 32 && fractions >= 32
+}
+
+/// Number 8 of a residual.
+pub fn residual(r: i32) -> bool {
+    (-65535..=65535).contains(&r)
+}
+
+/// The least number whose test fails, or 0: a door checks in ascending number.
+pub fn first(tests: &[(u32, bool)]) -> u32 {
+    tests.iter().filter(|t| !t.1).map(|t| t.0).min().unwrap_or(0)
+}

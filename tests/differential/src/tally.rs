@@ -16,7 +16,6 @@ pub fn pair(a: u32, b: u32) -> u64 {
 
 impl Want {
     /// A result of one word of which the mask's bits count.
-    #[allow(dead_code)] // for entries that give one narrow number
     pub fn word(word: u64, mask: u64) -> Want {
         Want { words: [word, 0], masks: [mask, 0], lent: Vec::new() }
     }
@@ -35,7 +34,6 @@ impl Want {
     }
 
     /// With the later contents of the next buffer that the call lends.
-    #[allow(dead_code)] // for entries that lend buffers
     pub fn then(mut self, bytes: Vec<u8>) -> Want {
         self.lent.push(bytes);
         self
