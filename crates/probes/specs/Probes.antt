@@ -1,7 +1,7 @@
 -- What each entry hands over, from the definition of the door behind it. Assumes nothing.
 use Prim.Native.Nat.{ℕ}
 use mathlib.Core.Bool.{Bool, true, false}
-use mathlib.Core.List.{List}
+use mathlib.Core.List.{List, []}
 use lib.IntN.{ℤ}
 use lib.ListN.{getD}
 use Rattle.fmt.specs.declared.DepthFrom.{DepthFrom}
@@ -24,7 +24,6 @@ use Rattle.refs.specs.declared.Flags.{Flags}
 use Rattle.refs.specs.declared.Gathered.{Gathered}
 use Rattle.refs.specs.declared.GatheredPair.{GatheredPair}
 use Rattle.refs.specs.declared.ChromaRefGeometry.{ChromaRefGeometry}
-use Rattle.refs.specs.Substitution.{levelRows}
 use Rattle.refs.specs.Door as gather
 use Rattle.plan.specs.declared.Verdict.{Verdict}
 use Rattle.plan.specs.Check.{planVerdict}
@@ -112,8 +111,9 @@ lumaAnswer corner above left n bits = referencesOf (lumaDoor true corner above l
 abbrev pub gatheredOf : Gathered → References
 gatheredOf a = record { no = a .no; corner = a .rows .corner; above = a .rows .above; left = a .rows .left }
 
+-- plane 0 is Cb, 1 Cr
 abbrev pub planeOf : GatheredPair → ℕ → Rows
-planeOf a k = getD (a .planes) k (levelRows 0)
+planeOf a k = getD (a .planes) k (record { corner = 0; above = []; left = [] })
 
 abbrev pub pairOf : GatheredPair → PairReferences
 pairOf a =

@@ -268,7 +268,7 @@ const LUMA_FAULTS: &[Fault<Luma>] = &[
     |c| c.picture.ctu = 128,
     |c| c.picture.ctu = 16,
     |c| c.plane.push(7),
-    |c| drop(c.plane.pop()),
+    |c| c.plane.truncate(c.plane.len().saturating_sub(1)),
     |c| c.plane.clear(),
     |c| c.plane.resize((c.picture.width as u64 * c.picture.height as u64).min(9000) as usize, 1),
     |c| c.picture.unit = 0,
@@ -444,8 +444,8 @@ const CHROMA_FAULTS: &[Fault<Chroma>] = &[
     |c| c.height = u32::MAX,
     |c| c.planes[0].push(3),
     |c| c.planes[1].push(3),
-    |c| drop(c.planes[0].pop()),
-    |c| drop(c.planes[1].pop()),
+    |c| c.planes[0].truncate(c.planes[0].len().saturating_sub(1)),
+    |c| c.planes[1].truncate(c.planes[1].len().saturating_sub(1)),
     |c| c.planes[1].clear(),
     |c| {
         let (w, h) = c.sides();
