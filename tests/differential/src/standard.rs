@@ -128,22 +128,22 @@ fn luma(t: &mut Tally) {
             ask_luma(t, call);
         }
     });
-    // a side that is none: the Rust reads past its rows
+    // a side that is none: the Rust runs past the end of its rows
     assert!(panics(|| {
         let geo = intra::LumaRefGeometry {
-            stride: 64,
-            block_row: 0,
+            stride: 128,
+            block_row: 64,
             block_col: 0,
-            height: 64,
+            height: 128,
             n: std::hint::black_box(64),
             ctu: 64,
-            ctus_x: 1,
+            ctus_x: 2,
             min_pu: 8,
             neutral: 128,
         };
-        intra::get_reference_samples(&[0; 4096], geo);
+        intra::get_reference_samples(&[0; 16384], geo);
     }));
-    ask_luma(t, &Luma { bits: 8, picture: Picture::new(64, 64, 64, 8), row: 0, col: 0, n: 64, plane: vec![0; 4096] });
+    ask_luma(t, &Luma { bits: 8, picture: Picture::new(128, 128, 64, 8), row: 64, col: 0, n: 64, plane: vec![0; 16384] });
 }
 
 /// A chroma call on planes whose samples are all different, its current place its own.
