@@ -23,7 +23,8 @@ pub fn prediction(t: &mut Tally) {
         assert_eq!(call.answer(&mut scratch).0, want);
         ask_angular(t, &call, &mut scratch, &mut random);
     };
-    let rows = |entries: usize, n: usize| Flat { above: vec![10; entries], left: (0..entries as u16).collect(), n, pred: vec![9; 16] };
+    let rows =
+        |entries: usize, n: usize| Flat { above: vec![10; entries], left: (0..entries as u16).collect(), n, pred: vec![9; 16] };
 
     // modes 0 and 1 at the angular door: the Rust predicts pure horizontal, the port refuses
     for mode in [0, 1] {

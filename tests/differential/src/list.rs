@@ -10,16 +10,23 @@ const WORDS: usize = 11;
 
 /// A line: the kind of the call, what it is given and what it is to answer, then zeros.
 fn line(kind: u32, given: &[u32], answer: &[u32]) -> String {
-    let mut words = vec![kind];
-    words.extend(given);
-    words.extend(answer);
-    words.resize(WORDS, 0);
-    let words: Vec<String> = words.iter().map(|w| format!("{w:08x}")).collect();
+    line_of(&[&[kind], given, answer].concat(), WORDS)
+}
+
+/// Words of eight hex digits, as many as a line has.
+pub fn line_of(words: &[u32], count: usize) -> String {
+    let mut words: Vec<String> = words.iter().map(|w| format!("{w:08x}")).collect();
+    words.resize(count, "00000000".to_string());
     words.join(" ") + "\n"
 }
 
 fn comment(text: &str) -> String {
-    format!("{:1$}\n", format!("#        {text}"), 9 * WORDS - 1)
+    comment_of(text, WORDS)
+}
+
+/// A comment as long as a line of so many words.
+pub fn comment_of(text: &str, count: usize) -> String {
+    format!("{:1$}\n", format!("#        {text}"), 9 * count - 1)
 }
 
 /// Pictures and places: document 01's figure P6, then the edges of every number, then some at random, one in eight refused.

@@ -2,7 +2,7 @@
 //!
 //! `differential -- HOST..` runs every subject and ends with status 1 where an answer differs.
 //! `differential NAME.. -- HOST..` runs the subjects of those names alone.
-//! `differential list -- HOST..` writes the fixed list of the Rust's answers that the replay crates hold.
+//! `differential list -- HOST..` writes the fixed lists of the Rust's answers that the replay crates hold.
 //! `differential demo -- HOST..` prints the decode order of a small picture.
 //!
 //! A subject is a module with one function that makes calls through a `Tally`. To add one: write src/NAME.rs, add its line
@@ -13,6 +13,7 @@ mod differences;
 mod fmt;
 mod host;
 mod list;
+mod list_predict;
 mod order;
 mod plan;
 mod predict;
@@ -64,7 +65,10 @@ fn main() -> ExitCode {
     let cut = words.iter().position(|w| w == "--").expect("usage: differential [list | demo | NAME..] -- HOST..");
     let mut host = Host::start(&words[cut + 1..]);
     match words[..cut].first().map(String::as_str) {
-        Some("list") => list::write(),
+        Some("list") => {
+            list::write();
+            list_predict::write();
+        }
         Some("demo") => demo::print(&mut host),
         _ => return compare(&mut host, &words[..cut]),
     }
