@@ -14,6 +14,7 @@ mod fmt;
 mod host;
 mod list;
 mod list_predict;
+mod list_refs;
 mod order;
 mod plan;
 mod predict;
@@ -68,6 +69,7 @@ fn main() -> ExitCode {
         Some("list") => {
             list::write();
             list_predict::write();
+            list_refs::write();
         }
         Some("demo") => demo::print(&mut host),
         _ => return compare(&mut host, &words[..cut]),

@@ -7,7 +7,7 @@ use Rattle.replay_refs.proofs.plane_of.Statement.{statement}
 use Rattle.replay_refs.proofs.plane_of.Tie as tie
 
 abbrev Inv-loop : tie.InvT-loop
-Inv-loop seed top plane₀ x₀ i₀ plane x i = (i ≤ 4096) × (length plane ≡ 4096)
+Inv-loop seed top plane₀ x₀ i₀ plane x i = (i ≤ 4096) × (4096 ≡ length plane)
 
 abbrev μ-loop : tie.MeasureT-loop
 μ-loop seed top plane₀ x₀ i₀ plane x i = 4096 - i
@@ -21,11 +21,11 @@ next-requires c κs = search needs
 sample-requires : tie.Need-sample-requires Inv-loop μ-loop
 sample-requires c κs = search needs
 
-mul-block : tie.Need-mul-block Inv-loop μ-loop
-mul-block c = search needs
+mul-plane : tie.Need-mul-plane Inv-loop μ-loop
+mul-plane c = search needs
 
-array-write-block : tie.Need-array-write-block Inv-loop μ-loop
-array-write-block c = search needs
+array-write-plane : tie.Need-array-write-plane Inv-loop μ-loop
+array-write-plane c = search needs
 
 add-i : tie.Need-add-i Inv-loop μ-loop
 add-i c = search needs
@@ -48,8 +48,8 @@ plane-of-spec =
     loop-holds
     next-requires
     sample-requires
-    mul-block
-    array-write-block
+    mul-plane
+    array-write-plane
     add-i
     loop-less
     loop-again
