@@ -18,9 +18,6 @@ loop-holds c = search needs
 next-requires : tie.Need-next-requires Inv-loop μ-loop
 next-requires c κs = search needs
 
-mul-flags : tie.Need-mul-flags Inv-loop μ-loop
-mul-flags c = search needs
-
 array-write-flags : tie.Need-array-write-flags Inv-loop μ-loop
 array-write-flags c = search needs
 
@@ -44,7 +41,6 @@ flags-of-spec =
     μ-loop
     loop-holds
     next-requires
-    mul-flags
     array-write-flags
     add-i
     loop-less
