@@ -1,8 +1,9 @@
 -- What each entry hands over, from the definition of the door behind it. Assumes nothing.
 use Prim.Native.Nat.{ℕ}
 use mathlib.Core.Bool.{Bool, true, false}
-use mathlib.Core.List.{List}
+use mathlib.Core.List.{List, []}
 use lib.IntN.{ℤ}
+use lib.ListN.{getD}
 use Rattle.fmt.specs.declared.DepthFrom.{DepthFrom}
 use Rattle.fmt.specs.declared.DepthFrom.the-variants.{Depth, Refused}
 use Rattle.fmt.specs.declared.FormatFrom.{FormatFrom}
@@ -18,7 +19,17 @@ use Rattle.smooth.specs.declared.Rule.{Rule}
 use Rattle.smooth.specs.declared.FilteredRows.{FilteredRows}
 use Rattle.smooth.specs.declared.Smoothed.{Smoothed}
 use Rattle.smooth.specs.Smoothing.{ruleDoor, filterDoor, lumaDoor}
+use Rattle.rows.specs.declared.Rows.{Rows}
+use Rattle.refs.specs.declared.Flags.{Flags}
+use Rattle.refs.specs.declared.Gathered.{Gathered}
+use Rattle.refs.specs.declared.GatheredPair.{GatheredPair}
+use Rattle.refs.specs.declared.ChromaRefGeometry.{ChromaRefGeometry}
+use Rattle.refs.specs.Door as gather
+use Rattle.plan.specs.declared.Verdict.{Verdict}
+use Rattle.plan.specs.Check.{planVerdict}
 use Rattle.probes.specs.declared.Answer.{Answer}
+use Rattle.probes.specs.declared.PairReferences.{PairReferences}
+use Rattle.probes.specs.declared.PlanAnswer.{PlanAnswer}
 use Rattle.probes.specs.declared.DepthFigures.{DepthFigures}
 use Rattle.probes.specs.declared.FormatFigures.{FormatFigures}
 use Rattle.probes.specs.declared.Place.{Place}
@@ -57,7 +68,7 @@ abbrev pub onChroma : ℕ → ℕ → ℕ → Place
 onChroma idc row col = chromaPlace row col (formatFrom idc)
 
 -- the order and availability doors' answers, from a picture as bare numbers
-abbrev pictureOf : ℕ → ℕ → ℕ → ℕ → Picture
+abbrev pub pictureOf : ℕ → ℕ → ℕ → ℕ → Picture
 pictureOf width height ctu unit = record { width = width; height = height; ctu = ctu; unit = unit }
 
 abbrev pub valueOf : Numbered → Answer
@@ -95,3 +106,40 @@ filterAnswer corner above left n = twoRowsOf (filterDoor corner above left n)
 
 abbrev pub lumaAnswer : ℕ → List ℕ → List ℕ → ℕ → ℕ → References
 lumaAnswer corner above left n bits = referencesOf (lumaDoor true corner above left n bits)
+
+-- the answers of substitution and of the two gathers
+abbrev pub gatheredOf : Gathered → References
+gatheredOf a = record { no = a .no; corner = a .rows .corner; above = a .rows .above; left = a .rows .left }
+
+-- plane 0 is Cb, 1 Cr
+abbrev pub planeOf : GatheredPair → ℕ → Rows
+planeOf a k = getD (a .planes) k (record { corner = 0; above = []; left = [] })
+
+abbrev pub pairOf : GatheredPair → PairReferences
+pairOf a =
+    record {
+      no = a .no;
+      «cb_corner» = planeOf a 0 .corner;
+      «cb_above» = planeOf a 0 .above;
+      «cb_left» = planeOf a 0 .left;
+      «cr_corner» = planeOf a 1 .corner;
+      «cr_above» = planeOf a 1 .above;
+      «cr_left» = planeOf a 1 .left;
+    }
+
+abbrev pub substituteAnswer : Rows → Flags → ℕ → ℕ → References
+substituteAnswer rows flags n bits = gatheredOf (gather.substituteDoor rows flags n bits)
+
+abbrev pub gatherAnswer : List ℕ → ℕ → Picture → ℕ → ℕ → ℕ → References
+gatherAnswer plane bits picture row col n =
+    gatheredOf (gather.lumaDoor plane (record { bits = bits; picture = picture; «block_row» = record { 0 = row }; «block_col» = record { 0 = col }; n = n }))
+
+abbrev pub pairAnswer : List ℕ → List ℕ → ChromaRefGeometry → PairReferences
+pairAnswer cb cr geo = pairOf (gather.chromaDoor cb cr geo)
+
+-- a plan's verdict
+abbrev pub verdictOf : Verdict → PlanAnswer
+verdictOf v = record { no = v .no; block = v .block }
+
+abbrev pub planAnswer : ℕ → ℕ → ℕ → List (List ℕ) → PlanAnswer
+planAnswer width height ctu plan = verdictOf (planVerdict (record { width = width; height = height; ctu = ctu }) plan)

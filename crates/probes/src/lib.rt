@@ -1,6 +1,7 @@
 // Entries at native types for the runs against the Rust: each calls a door and hands its answer over as plain numbers.
 // Rests on the doors' contracts.
 ghost use mathlib.Core.Path.{_≡_};
+ghost use mathlib.Core.Bool.{true};
 ghost use Prim.Native.Nat.{ℕ};
 ghost use lib.ListN.{length};
 ghost use Rattle.laws.specs.Choose.{served};
@@ -14,6 +15,12 @@ ghost use Rattle.angular.specs.Door.{angularNo};
 ghost use Rattle.residual.specs.Residual.{residualNo, residualsAfter, reconstructNo, reconstructed};
 ghost use Rattle.probes.specs.Probes.{depthFigures, formatFigures, onLuma, onChroma, orderAnswer, availableAnswer};
 ghost use Rattle.probes.specs.Probes.{ruleAnswer, filterAnswer, lumaAnswer};
+ghost use Rattle.h265.specs.Setting.{lumaAt, first};
+ghost use Rattle.h265.specs.Prediction.{predSamples};
+ghost use Rattle.rows.specs.Neighbours.{neighboursOf};
+ghost use Rattle.predict.specs.Door.{predictNo};
+ghost use Rattle.predict.specs.Contents.{chromaAt};
+ghost use Rattle.probes.specs.Probes.{pictureOf, substituteAnswer, gatherAnswer, pairAnswer, planAnswer};
 use fmt::BitDepth;
 use fmt::ChromaCol;
 use fmt::ChromaFormat;
@@ -24,6 +31,11 @@ use fmt::LumaCol;
 use fmt::LumaRow;
 use order::LumaNeighbour;
 use order::Picture;
+use plan::Frame;
+use refs::ChromaRefGeometry;
+use refs::Flags;
+use refs::LumaRefGeometry;
+use rows::Rows;
 
 // A depth's figures, all 0 where the call is refused.
 #[repr(C)]
@@ -348,4 +360,221 @@ pub extern "C" fn salvrunde_probe_reconstruct_into(
     ensures { λ r. ⌜ (r ≡ reconstructNo bits n (length (now (pred .entry))) (now (residual .entry)) (length (now (out .entry)))) × (now (out .exit) ≡ reconstructed bits n (now (pred .entry)) (now (residual .entry)) (now (out .entry))) ⌝ }
 {
     residual::reconstruct_into(pred, residual, n, bits, &mut *out)
+}
+
+// The corner of the rows and its flag come first, then the rows and theirs.
+#[no_mangle]
+pub extern "C" fn salvrunde_probe_substitute_refs(
+    corner: u16,
+    above: &[u16; 65],
+    left: &[u16; 65],
+    has_corner: bool,
+    has_above: &[bool; 65],
+    has_left: &[bool; 65],
+    n: usize,
+    bits: u32,
+) -> References
+    ensures { λ r. ⌜ r ≡ substituteAnswer (record { corner = corner; above = now (above .entry); left = now (left .entry) }) (record { corner = «has_corner»; above = now («has_above» .entry); left = now («has_left» .entry) }) n bits ⌝ }
+{
+    let rows = Rows {
+        corner,
+        above: *above,
+        left: *left,
+    };
+    let flags = Flags {
+        corner: has_corner,
+        above: *has_above,
+        left: *has_left,
+    };
+    let a = refs::substitute_refs(rows, flags, n, bits);
+    let up = a.rows.above;
+    let side = a.rows.left;
+    References {
+        no: a.no,
+        corner: a.rows.corner,
+        above: up,
+        left: side,
+    }
+}
+
+#[no_mangle]
+pub extern "C" fn salvrunde_probe_get_reference_samples(
+    plane: &[u16],
+    bits: u32,
+    width: u32,
+    height: u32,
+    ctu: u32,
+    unit: u32,
+    row: u32,
+    col: u32,
+    n: usize,
+) -> References
+    ensures { λ r. ⌜ r ≡ gatherAnswer (now (plane .entry)) bits (pictureOf width height ctu unit) row col n ⌝ }
+{
+    let picture = Picture {
+        width,
+        height,
+        ctu,
+        unit,
+    };
+    let geo = LumaRefGeometry {
+        bits,
+        picture,
+        block_row: LumaRow(row),
+        block_col: LumaCol(col),
+        n,
+    };
+    let a = refs::get_reference_samples(plane, geo);
+    let up = a.rows.above;
+    let side = a.rows.left;
+    References {
+        no: a.no,
+        corner: a.rows.corner,
+        above: up,
+        left: side,
+    }
+}
+
+// A call's number, and the corner and two rows of Cb and of Cr, zeros where it is refused.
+#[repr(C)]
+pub struct PairReferences {
+    pub no: u32,
+    pub cb_corner: u16,
+    pub cb_above: [u16; 65],
+    pub cb_left: [u16; 65],
+    pub cr_corner: u16,
+    pub cr_above: [u16; 65],
+    pub cr_left: [u16; 65],
+}
+
+// The block's chroma place, then the luma place that is being decoded.
+#[no_mangle]
+pub extern "C" fn salvrunde_probe_get_reference_samples_chroma_pair(
+    plane_cb: &[u16],
+    plane_cr: &[u16],
+    bits: u32,
+    format: u32,
+    luma_w: u32,
+    luma_h: u32,
+    min_luma_pu: u32,
+    row: u32,
+    col: u32,
+    n: usize,
+    cur_row: u32,
+    cur_col: u32,
+) -> PairReferences
+    ensures { λ r. ⌜ r ≡ pairAnswer (now («plane_cb» .entry)) (now («plane_cr» .entry)) (record { bits = bits; format = format; «luma_w» = «luma_w»; «luma_h» = «luma_h»; «min_luma_pu» = «min_luma_pu»; «block_row» = record { 0 = row }; «block_col» = record { 0 = col }; n = n; «cur_luma_row» = record { 0 = «cur_row» }; «cur_luma_col» = record { 0 = «cur_col» } }) ⌝ }
+{
+    let geo = ChromaRefGeometry {
+        bits,
+        format,
+        luma_w,
+        luma_h,
+        min_luma_pu,
+        block_row: ChromaRow(row),
+        block_col: ChromaCol(col),
+        n,
+        cur_luma_row: LumaRow(cur_row),
+        cur_luma_col: LumaCol(cur_col),
+    };
+    let a = refs::get_reference_samples_chroma_pair(plane_cb, plane_cr, geo);
+    let cb = a.planes[0];
+    let cr = a.planes[1];
+    let cb_above = cb.above;
+    let cb_left = cb.left;
+    let cr_above = cr.above;
+    let cr_left = cr.left;
+    PairReferences {
+        no: a.no,
+        cb_corner: cb.corner,
+        cb_above,
+        cb_left,
+        cr_corner: cr.corner,
+        cr_above,
+        cr_left,
+    }
+}
+
+#[no_mangle]
+pub extern "C" fn salvrunde_probe_predict_chroma_tb_slices(
+    mode: u8,
+    corner: u16,
+    above: &[u16],
+    left: &[u16],
+    n: usize,
+    bits: u32,
+    pred: &mut [u16],
+    refs: &mut [u16],
+    indices: &mut [u32],
+    fractions: &mut [u32],
+) -> u32
+    ensures { λ r. ⌜ (r ≡ predictNo bits n mode (record { above = length (now (above .entry)); left = length (now (left .entry)); pred = length (now (pred .entry)); refs = length (now (refs .entry)); indices = length (now (indices .entry)); fractions = length (now (fractions .entry)) })) × ((now (pred .exit) ≡ served r (block (λ (y x : ℕ). predSamples (chromaAt bits) (first true) n mode (fromRows corner (now (above .entry)) (now (left .entry))) x y) n (now (pred .entry))) (now (pred .entry))) × ((r ≡ 0 → ⊥) → (now (refs .exit) ≡ now (refs .entry)) × ((now (indices .exit) ≡ now (indices .entry)) × (now (fractions .exit) ≡ now (fractions .entry))))) ⌝ }
+{
+    predict::predict_chroma_tb_slices(
+        mode,
+        corner,
+        above,
+        left,
+        n,
+        bits,
+        &mut *pred,
+        &mut *refs,
+        &mut *indices,
+        &mut *fractions,
+    )
+}
+
+#[no_mangle]
+pub extern "C" fn salvrunde_probe_predict_luma_tb_slices(
+    mode: u8,
+    corner: u16,
+    above: &[u16; 65],
+    left: &[u16; 65],
+    n: usize,
+    bits: u32,
+    pred: &mut [u16],
+    refs: &mut [u16],
+    indices: &mut [u32],
+    fractions: &mut [u32],
+) -> u32
+    ensures { λ r. ⌜ (r ≡ predictNo bits n mode (record { above = 65; left = 65; pred = length (now (pred .entry)); refs = length (now (refs .entry)); indices = length (now (indices .entry)); fractions = length (now (fractions .entry)) })) × ((now (pred .exit) ≡ served r (block (λ (y x : ℕ). predSamples (lumaAt bits) (first true) n mode (neighboursOf (record { corner = corner; above = now (above .entry); left = now (left .entry) })) x y) n (now (pred .entry))) (now (pred .entry))) × ((r ≡ 0 → ⊥) → (now (refs .exit) ≡ now (refs .entry)) × ((now (indices .exit) ≡ now (indices .entry)) × (now (fractions .exit) ≡ now (fractions .entry))))) ⌝ }
+{
+    let rows = Rows {
+        corner,
+        above: *above,
+        left: *left,
+    };
+    predict::predict_luma_tb_slices(
+        mode,
+        rows,
+        n,
+        bits,
+        &mut *pred,
+        &mut *refs,
+        &mut *indices,
+        &mut *fractions,
+    )
+}
+
+// A plan's number, and the list number of the block that it is about.
+#[repr(C)]
+pub struct PlanAnswer {
+    pub no: u32,
+    pub block: u32,
+}
+
+#[no_mangle]
+pub extern "C" fn salvrunde_probe_check_plan(
+    width: u32,
+    height: u32,
+    ctu: u32,
+    plan: &[[u32; 4]],
+) -> PlanAnswer
+    ensures { λ r. ⌜ r ≡ planAnswer width height ctu (now (plan .entry)) ⌝ }
+{
+    let a = plan::check_plan(Frame { width, height, ctu }, plan);
+    PlanAnswer {
+        no: a.no,
+        block: a.block,
+    }
 }

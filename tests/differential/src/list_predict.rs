@@ -15,19 +15,19 @@ const DIRT: u16 = 4660;
 /// The largest samples; 1 stands for either end.
 const TOPS: [u32; 5] = [0, 1, 255, 4095, 65535];
 
-fn next(x: u32) -> u32 {
+pub fn next(x: u32) -> u32 {
     (x % 65537 * 75 + 74) % 65537
 }
 
-fn other(x: u32) -> u32 {
+pub fn other(x: u32) -> u32 {
     (x % 65537 * 171 + 11213) % 65537
 }
 
-fn sample(x: u32, top: u32) -> u16 {
+pub fn sample(x: u32, top: u32) -> u16 {
     if top == 1 { (x % 2 * 65535) as u16 } else { (x % (top + 1)) as u16 }
 }
 
-fn follow(seed: u32, top: u32, count: usize) -> Vec<u16> {
+pub fn follow(seed: u32, top: u32, count: usize) -> Vec<u16> {
     let mut x = seed;
     let mut one = || {
         x = next(x);

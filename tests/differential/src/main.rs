@@ -1,23 +1,29 @@
 //! Runs the proved code beside the Rust that it was carried over from, and compares every answer.
 //!
 //! `differential -- HOST..` runs every subject and ends with status 1 where an answer differs.
+//! `differential NAME.. -- HOST..` runs the subjects of those names alone.
 //! `differential list -- HOST..` writes the fixed lists of the Rust's answers that the replay crates hold.
 //! `differential demo -- HOST..` prints the decode order of a small picture.
 //!
 //! A subject is a module with one function that makes calls through a `Tally`. To add one: write src/NAME.rs, add its line
 //! to SUBJECTS, and add the entries that it calls to entries.txt.
+mod block;
 mod demo;
 mod differences;
 mod fmt;
 mod host;
 mod list;
 mod list_predict;
+mod list_refs;
 mod order;
+mod plan;
 mod predict;
 mod random;
+mod refs;
 mod residual;
 mod samples;
 mod smooth;
+mod standard;
 mod table;
 mod tally;
 
@@ -46,27 +52,35 @@ const SUBJECTS: &[(&str, Subject)] = &[
     ("residual", residual::residual),
     ("reconstruction", residual::reconstruction),
     ("differences in prediction", differences::prediction),
+    ("substitution", refs::substitution),
+    ("luma gather", refs::luma),
+    ("chroma pair gather", refs::chroma),
+    ("chroma block", block::chroma),
+    ("luma block", block::luma),
+    ("plan check", plan::check),
+    ("differences in references", standard::differences),
 ];
 
 fn main() -> ExitCode {
     let words: Vec<String> = std::env::args().skip(1).collect();
-    let cut = words.iter().position(|w| w == "--").expect("usage: differential [list | demo] -- HOST..");
+    let cut = words.iter().position(|w| w == "--").expect("usage: differential [list | demo | NAME..] -- HOST..");
     let mut host = Host::start(&words[cut + 1..]);
     match words[..cut].first().map(String::as_str) {
         Some("list") => {
             list::write();
             list_predict::write();
+            list_refs::write();
         }
         Some("demo") => demo::print(&mut host),
-        Some(other) => panic!("no such command: {other}"),
-        None => return compare(&mut host),
+        _ => return compare(&mut host, &words[..cut]),
     }
     ExitCode::SUCCESS
 }
 
-fn compare(host: &mut Host) -> ExitCode {
+/// Runs the subjects that are named, or all; a name that is none leaves no calls, which fails.
+fn compare(host: &mut Host, names: &[String]) -> ExitCode {
     let (mut calls, mut differ) = (0, 0);
-    for (name, subject) in SUBJECTS {
+    for (name, subject) in SUBJECTS.iter().filter(|s| names.is_empty() || names.iter().any(|n| n == s.0)) {
         let mut tally = Tally::new(name, host);
         subject(&mut tally);
         let (c, d) = tally.finish();

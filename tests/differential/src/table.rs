@@ -89,3 +89,44 @@ pub fn residual(r: i32) -> bool {
 pub fn first(tests: &[(u32, bool)]) -> u32 {
     tests.iter().filter(|t| !t.1).map(|t| t.0).min().unwrap_or(0)
 }
+
+/// A block's place in a plane of these sides: at a multiple of n, and wholly in it. A side that is none is refused before.
+fn placed(row: u32, col: u32, n: usize, width: u64, height: u64) -> bool {
+    let n = n as u64;
+    let fits = |at: u32, side: u64| (at as u64).is_multiple_of(n) && (at as u64).checked_add(n).is_some_and(|end| end <= side);
+    fits(row, height) && fits(col, width)
+}
+
+fn unit(unit: u32) -> bool {
+    [4, 8].contains(&unit)
+}
+
+/// Number 5 of a plane.
+pub fn plane(width: u64, height: u64, entries: usize) -> bool {
+    width * height == entries as u64
+}
+
+/// Number 6 at the luma gather.
+pub fn luma_place(p: Picture, row: u32, col: u32, n: usize) -> bool {
+    placed(row, col, n, p.width as u64, p.height as u64) && n <= p.ctu as usize && unit(p.unit) && p.unit as usize <= n
+}
+
+/// Number 4 at the chroma gather: sides, and a format that is neither monochrome nor unknown.
+pub fn chroma_picture(width: u32, height: u32, format: u32) -> bool {
+    side(width) && side(height) && [1, 2, 3].contains(&format)
+}
+
+/// A chroma block's place in chroma samples, the least unit, and the current place in luma samples.
+pub struct ChromaPlace {
+    pub row: u32,
+    pub col: u32,
+    pub n: usize,
+    pub unit: u32,
+    pub current: (u32, u32),
+}
+
+/// Number 6 at the chroma gather, in a luma picture and its chroma planes.
+pub fn chroma_place(at: &ChromaPlace, luma: (u32, u32), chroma: (u64, u64)) -> bool {
+    let inside = at.current.0 < luma.1 && at.current.1 < luma.0;
+    placed(at.row, at.col, at.n, chroma.0, chroma.1) && at.n <= 64 && unit(at.unit) && inside
+}

@@ -1,0 +1,15 @@
+-- `probes::salvrunde_probe_check_plan` meets its contract: it hands over the door's answer.
+use mathlib.Core.Path.{ap}
+use borrow.Author.Needs.{needs}
+use Rattle.probes.specs.Probes.{verdictOf}
+use Rattle.probes.proofs.salvrunde_probe_check_plan.Statement.{statement}
+use Rattle.probes.proofs.salvrunde_probe_check_plan.Tie as tie
+
+check-plan-requires : tie.Need-check-plan-requires
+check-plan-requires c κs = search needs
+
+returns : tie.Need-returns
+returns c = ap verdictOf (c .check-plan .ensures)
+
+pub salvrunde-probe-check-plan-spec : {M : Type 1} → statement M
+salvrunde-probe-check-plan-spec = tie.close (tie.spec check-plan-requires returns)

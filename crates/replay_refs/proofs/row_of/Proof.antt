@@ -1,0 +1,56 @@
+-- `replay_refs::row_of` meets its contract. Every entry is written in the row.
+use Prim.Native.Nat.{_-_, _≤_}
+use mathlib.Core.Path.{_≡_}
+use lib.ListN.{length}
+use borrow.Author.Needs.{needs}
+use Rattle.replay_refs.proofs.row_of.Statement.{statement}
+use Rattle.replay_refs.proofs.row_of.Tie as tie
+
+abbrev Inv-loop : tie.InvT-loop
+Inv-loop seed top row₀ x₀ i₀ row x i = (i ≤ 65) × (65 ≡ length row)
+
+abbrev μ-loop : tie.MeasureT-loop
+μ-loop seed top row₀ x₀ i₀ row x i = 65 - i
+
+loop-holds : tie.Need-loop-holds Inv-loop μ-loop
+loop-holds c = search needs
+
+next-requires : tie.Need-next-requires Inv-loop μ-loop
+next-requires c κs = search needs
+
+sample-requires : tie.Need-sample-requires Inv-loop μ-loop
+sample-requires c κs = search needs
+
+mul-row : tie.Need-mul-row Inv-loop μ-loop
+mul-row c = search needs
+
+array-write-row : tie.Need-array-write-row Inv-loop μ-loop
+array-write-row c = search needs
+
+add-i : tie.Need-add-i Inv-loop μ-loop
+add-i c = search needs
+
+loop-less : tie.Need-loop-less Inv-loop μ-loop
+loop-less c = search needs
+
+loop-again : tie.Need-loop-again Inv-loop μ-loop
+loop-again c = search needs
+
+returns : tie.Need-returns Inv-loop μ-loop
+returns c = search needs
+
+pub row-of-spec : {M : Type 1} → statement M
+row-of-spec =
+    tie.close
+    (tie.spec
+    Inv-loop
+    μ-loop
+    loop-holds
+    next-requires
+    sample-requires
+    mul-row
+    array-write-row
+    add-i
+    loop-less
+    loop-again
+    returns)

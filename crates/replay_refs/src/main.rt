@@ -1,0 +1,326 @@
+// Replays the Rust's answers on the doors of references: the list is standard input, the file stdin, and what is printed is
+// tested against the file stdout. Rests on the doors' contracts for its safety.
+//
+// The list is made by `tests/differential/run list`. A line is 50 words of eight hex digits: the kind of the call, its depth,
+// CTU or format, sides, least unit, the block's row, column and side, the current place's row and column, the seed and the
+// largest of its samples, the plane's length, which row is compared and from which entry on, the number and the corner that
+// it is to answer, and 32 entries of that row. A line that opens with # is a comment.
+//
+// Rows: 0 is above and 1 left, of Cr 2 and 3. A call's samples come from its seed: each is the next number, brought to at
+// most the largest; a largest of 1 stands for samples of either end. The corner has the seed's own, the row above, the luma
+// plane and Cb the numbers that follow, the left row and Cr those that follow `other` of the seed. Substitution's flags come
+// from the current place's two numbers as seeds, with the unit as odds in sixteen; the entries that the sides name are there
+// too, and the corner where the CTU is 1.
+ghost use Prim.Native.Nat.{_+_, _≤_, _<_};
+ghost use lib.ListN.{length};
+ghost use mathlib.Core.Path.{_≡_};
+use fmt::ChromaCol;
+use fmt::ChromaRow;
+use fmt::LumaCol;
+use fmt::LumaRow;
+use order::Picture;
+use refs::ChromaRefGeometry;
+use refs::Flags;
+use refs::LumaRefGeometry;
+use rows::Rows;
+
+fn digit(b: u8) -> u32
+    ensures { λ r. ⌜ r < 16 ⌝ }
+{
+    match b {
+        48..=57 => (b - 48) as u32,
+        97..=102 => (b - 87) as u32,
+        _ => 0,
+    }
+}
+
+fn octet(line: &[u8], at: usize) -> u32
+    requires { ⌜ at + 2 ≤ length (now line) ⌝ }
+    ensures { λ r. ⌜ r < 256 ⌝ }
+{
+    16 * digit(line[at]) + digit(line[at + 1])
+}
+
+fn word(line: &[u8], at: usize) -> u32
+    requires { ⌜ at + 8 ≤ length (now line) ⌝ }
+{
+    let high = 256 * octet(line, at) + octet(line, at + 2);
+    65536 * high + 256 * octet(line, at + 4) + octet(line, at + 6)
+}
+
+// What a line gives a call, which entries it compares, and the number and the corner that it wants.
+struct Call {
+    bits: u32,
+    ctu: u32,
+    width: u32,
+    height: u32,
+    unit: u32,
+    row: u32,
+    col: u32,
+    n: usize,
+    cur_row: u32,
+    cur_col: u32,
+    seed: u32,
+    top: u32,
+    entries: usize,
+    which: u32,
+    place: usize,
+    no: u32,
+    corner: u32,
+}
+
+fn at_most(entries: usize, most: usize) -> usize
+    ensures { λ r. ⌜ r ≤ most ⌝ }
+{
+    if entries > most {
+        return most;
+    }
+    entries
+}
+
+fn call_of(line: &[u8]) -> Call
+    requires { ⌜ 450 ≤ length (now line) ⌝ }
+{
+    Call {
+        bits: word(line, 9),
+        ctu: word(line, 18),
+        width: word(line, 27),
+        height: word(line, 36),
+        unit: word(line, 45),
+        row: word(line, 54),
+        col: word(line, 63),
+        n: word(line, 72) as usize,
+        cur_row: word(line, 81),
+        cur_col: word(line, 90),
+        seed: word(line, 99),
+        top: word(line, 108),
+        entries: word(line, 117) as usize,
+        which: word(line, 126),
+        place: word(line, 135) as usize,
+        no: word(line, 144),
+        corner: word(line, 153),
+    }
+}
+
+fn next(x: u32) -> u32 {
+    ((x % 65537) * 75 + 74) % 65537
+}
+
+fn other(x: u32) -> u32 {
+    ((x % 65537) * 171 + 11213) % 65537
+}
+
+fn sample(x: u32, top: u32) -> u16 {
+    match top {
+        0 => 0,
+        1 => ((x % 2) * 65535) as u16,
+        255 => (x % 256) as u16,
+        _ => (x % 65536) as u16,
+    }
+}
+
+// The numbers that follow a seed, as a row, as flags and as a plane.
+fn row_of(seed: u32, top: u32) -> [u16; 65] {
+    let mut row = [0u16; 65];
+    let mut x = seed;
+    for i in 0..65 {
+        x = next(x);
+        row[i] = sample(x, top);
+    }
+    row
+}
+
+fn flags_of(seed: u32, odds: u32, one: usize) -> [bool; 65] {
+    let mut flags = [false; 65];
+    let mut x = seed;
+    for i in 0..65 {
+        x = next(x);
+        flags[i] = (x % 16 < odds) | (i == one);
+    }
+    flags
+}
+
+fn plane_of(seed: u32, top: u32) -> [u16; 4096]
+    ensures { λ r. ⌜ 4096 ≡ length r ⌝ }
+{
+    let mut plane = [0u16; 4096];
+    let mut x = seed;
+    for i in 0..4096 {
+        x = next(x);
+        plane[i] = sample(x, top);
+    }
+    plane
+}
+
+// A place from which 32 entries of so many can be read.
+fn within(place: usize, entries: usize) -> usize
+    requires { ⌜ 32 ≤ entries ⌝ }
+    ensures { λ r. ⌜ r + 32 ≤ entries ⌝ }
+{
+    if place > entries - 32 {
+        return 0;
+    }
+    place
+}
+
+fn is(wanted: u32, sample: u16) -> bool {
+    wanted == (sample as u32)
+}
+
+// Whether the 32 entries from a place on are those of the line.
+fn same(line: &[u8], row: &[u16], place: usize) -> bool
+    requires { ⌜ (450 ≤ length (now line)) × (32 ≤ length (now row)) ⌝ }
+{
+    let from = within(place, row.len());
+    let mut all = true;
+    for i in 0..32 {
+        all = all & is(word(line, 162 + 9 * i), row[from + i]);
+    }
+    all
+}
+
+fn row_same(line: &[u8], row: [u16; 65], place: usize) -> bool
+    requires { ⌜ 450 ≤ length (now line) ⌝ }
+{
+    same(line, &row, place)
+}
+
+// Whether an answer's number, corner and row are those of the line.
+fn rows_same(line: &[u8], call: Call, no: u32, rows: Rows) -> bool
+    requires { ⌜ 450 ≤ length (now line) ⌝ }
+{
+    let above = rows.above;
+    let left = rows.left;
+    let number = (no == call.no) & ((rows.corner as u32) == call.corner);
+    if call.which % 2 == 1 {
+        return number & row_same(line, left, call.place);
+    }
+    number & row_same(line, above, call.place)
+}
+
+fn substitution_same(line: &[u8], call: Call) -> bool
+    requires { ⌜ 450 ≤ length (now line) ⌝ }
+{
+    let rows = Rows {
+        corner: sample(call.seed, call.top),
+        above: row_of(call.seed, call.top),
+        left: row_of(other(call.seed), call.top),
+    };
+    let flags = Flags {
+        corner: call.ctu == 1,
+        above: flags_of(call.cur_row, call.unit, call.width as usize),
+        left: flags_of(call.cur_col, call.unit, call.height as usize),
+    };
+    let answer = refs::substitute_refs(rows, flags, call.n, call.bits);
+    rows_same(line, call, answer.no, answer.rows)
+}
+
+fn luma_same(line: &[u8], call: Call, plane: &[u16]) -> bool
+    requires { ⌜ 450 ≤ length (now line) ⌝ }
+{
+    let picture = Picture {
+        width: call.width,
+        height: call.height,
+        ctu: call.ctu,
+        unit: call.unit,
+    };
+    let geo = LumaRefGeometry {
+        bits: call.bits,
+        picture,
+        block_row: LumaRow(call.row),
+        block_col: LumaCol(call.col),
+        n: call.n,
+    };
+    let answer = refs::get_reference_samples(plane, geo);
+    rows_same(line, call, answer.no, answer.rows)
+}
+
+fn chroma_same(line: &[u8], call: Call, cb: &[u16], cr: &[u16]) -> bool
+    requires { ⌜ 450 ≤ length (now line) ⌝ }
+{
+    let geo = ChromaRefGeometry {
+        bits: call.bits,
+        format: call.ctu,
+        luma_w: call.width,
+        luma_h: call.height,
+        min_luma_pu: call.unit,
+        block_row: ChromaRow(call.row),
+        block_col: ChromaCol(call.col),
+        n: call.n,
+        cur_luma_row: LumaRow(call.cur_row),
+        cur_luma_col: LumaCol(call.cur_col),
+    };
+    let answer = refs::get_reference_samples_chroma_pair(cb, cr, geo);
+    if call.which < 2 {
+        return rows_same(line, call, answer.no, answer.planes[0]);
+    }
+    rows_same(line, call, answer.no, answer.planes[1])
+}
+
+// Whether a door gives what the line has. Kinds 1 to 3; others never do.
+fn agrees(line: &[u8], kind: u32) -> bool
+    requires { ⌜ 450 ≤ length (now line) ⌝ }
+{
+    let call = call_of(line);
+    let first = plane_of(call.seed, call.top);
+    let second = plane_of(other(call.seed), call.top);
+    let entries = at_most(call.entries, 4096);
+    let plane = &first[..entries];
+    let beside = &second[..entries];
+    match kind {
+        1 => substitution_same(line, call),
+        2 => luma_same(line, call, plane),
+        3 => chroma_same(line, call, plane, beside),
+        _ => false,
+    }
+}
+
+struct Count {
+    calls: u64,
+    differ: u64,
+}
+
+impl Count {
+    // The count with one line more, of which so many bytes were read.
+    fn with(self, line: &[u8], read: usize) -> Count
+        requires { ⌜ (450 ≤ length (now line)) × ((self .calls + 1 < 4294967296) × (self .differ + 1 < 4294967296)) ⌝ }
+        ensures { λ r. ⌜ (r .calls ≤ self .calls + 1) × (r .differ ≤ self .differ + 1) ⌝ }
+    {
+        if (read != 450) | (line[0] == 35) {
+            return self;
+        }
+        if agrees(line, word(line, 0)) {
+            return Count {
+                calls: self.calls + 1,
+                differ: self.differ,
+            };
+        }
+        Count {
+            calls: self.calls + 1,
+            differ: self.differ + 1,
+        }
+    }
+}
+
+// Reads the list line by line, 4096 at most.
+fn replay() -> Count {
+    let mut count = Count {
+        calls: 0,
+        differ: 0,
+    };
+    for i in 0..4096usize {
+        let mut line = [0u8; 450];
+        let read = io::read_full(0, &mut line);
+        count = count.with(&line, read);
+    }
+    count
+}
+
+fn main() {
+    let count = replay();
+    io::write_all(1, b"refs: ");
+    io::print_decimal(1, count.calls);
+    io::write_all(1, b" calls, ");
+    io::print_decimal(1, count.differ);
+    io::write_all(1, b" differ\n");
+}

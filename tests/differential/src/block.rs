@@ -1,0 +1,203 @@
+//! A chroma block against the Rust's predict_chroma_tb_into, and a luma block against its parts: should_filter_refs,
+//! filter_luma_refs and the three predictors with edges filtered, put together here as H.265 8.4.4.2.1 does.
+//! Outside document 01's domain the Rust is not asked: what is wanted there is the table's number and nothing written.
+use crate::host::Arg::{Lent, Number, Read};
+use crate::oracle::intra::{self, AngularScratch};
+use crate::random::Random;
+use crate::samples::{DEPTHS, KINDS, SIZES, any, at_least, bytes, bytes_32, dirt, dirt_32, largest, samples};
+use crate::table;
+use crate::tally::{Tally, Want};
+
+/// What either door is given. Luma's rows have 65 entries by their type.
+#[derive(Clone)]
+struct Block {
+    luma: bool,
+    mode: u8,
+    bits: u32,
+    corner: u16,
+    above: Vec<u16>,
+    left: Vec<u16>,
+    n: usize,
+    pred: Vec<u16>,
+    refs: usize,
+    indices: usize,
+    fractions: usize,
+}
+
+impl Block {
+    fn number(&self) -> u32 {
+        let lent = table::rows(self.above.len(), self.left.len())
+            && table::block(self.n, self.pred.len())
+            && table::scratch(self.refs, self.indices, self.fractions);
+        table::first(&[(1, table::depth(self.bits)), (2, table::size(self.n)), (3, table::mode(self.mode)), (5, lent)])
+    }
+
+    /// The number, and the block's buffer afterwards.
+    fn answer(&self, scratch: &mut AngularScratch) -> (u32, Vec<u16>) {
+        let (no, mut pred) = (self.number(), self.pred.clone());
+        if no == 0 && self.luma {
+            self.luma_into(&mut pred, scratch);
+        } else if no == 0 {
+            let (above, left, top) = (&self.above, &self.left, largest(self.bits) as i32);
+            intra::predict_chroma_tb_into(self.mode, self.corner, above, left, self.n, top, &mut pred, scratch);
+        }
+        (no, pred)
+    }
+
+    fn luma_into(&self, pred: &mut [u16], scratch: &mut AngularScratch) {
+        let (n, mode) = (self.n, self.mode);
+        let (corner, above, left) = if intra::should_filter_refs(mode, n) {
+            let (c, a, l) = intra::filter_luma_refs(self.corner, &self.above, &self.left, n, self.bits);
+            (c, a.to_vec(), l.to_vec())
+        } else {
+            (self.corner, self.above.clone(), self.left.clone())
+        };
+        match mode {
+            0 => intra::predict_planar_into(&above, &left, n, pred),
+            1 => intra::predict_dc_into(&above, &left, n, true, pred),
+            _ => {
+                let top = largest(self.bits) as i32;
+                intra::predict_angular_into(corner, &above, &left, n, mode, true, top, pred, scratch);
+            }
+        }
+    }
+
+    fn any(luma: bool, n: usize, mode: u8, bits: u32, kinds: [u64; 2], random: &mut Random) -> Block {
+        let word = random.word() as u16;
+        let row = |kind, random: &mut Random| {
+            let entries = if luma { 65 } else { at_least(65, random) };
+            samples(kind, entries, random)
+        };
+        Block {
+            luma,
+            mode,
+            bits,
+            corner: random.pick(&[0, u16::MAX, word & 255, word]),
+            above: row(kinds[0], random),
+            left: row(kinds[1], random),
+            n,
+            pred: dirt(at_least(n * n, random), random),
+            refs: at_least(193, random),
+            indices: at_least(32, random),
+            fractions: at_least(32, random),
+        }
+    }
+}
+
+fn ask(t: &mut Tally, call: &Block, scratch: &mut AngularScratch, random: &mut Random) {
+    let (no, after) = call.answer(scratch);
+    let (up, side, pred) = (bytes(&call.above), bytes(&call.left), bytes(&call.pred));
+    let refs = bytes(&dirt(call.refs, random));
+    let [indices, fractions] = [call.indices, call.fractions].map(|k| bytes_32(&dirt_32(k, random)));
+    // a call that is served may leave anything in the scratch; a refused one leaves it alone
+    let lend = |b| if no == 0 { Read(b) } else { Lent(b) };
+    let mut args = vec![Number(call.mode as u64), Number(call.corner as u64), Read(&up)];
+    if !call.luma {
+        args.push(Number(call.above.len() as u64));
+    }
+    args.push(Read(&side));
+    if !call.luma {
+        args.push(Number(call.left.len() as u64));
+    }
+    args.extend([
+        Number(call.n as u64),
+        Number(call.bits as u64),
+        Lent(&pred),
+        Number(call.pred.len() as u64),
+        lend(&refs),
+        Number(call.refs as u64),
+        lend(&indices),
+        Number(call.indices as u64),
+        lend(&fractions),
+        Number(call.fractions as u64),
+    ]);
+    let mut want = Want::fields(&[no]).then(bytes(&after));
+    if no != 0 {
+        want = want.then(refs.clone()).then(indices.clone()).then(fractions.clone());
+    }
+    let name = if call.luma { "salvrunde_probe_predict_luma_tb_slices" } else { "salvrunde_probe_predict_chroma_tb_slices" };
+    t.call(name, &args, want);
+}
+
+const FAULTS: &[fn(&mut Block)] = &[
+    |_| (),
+    |c| c.bits = 9,
+    |c| c.bits = 264,
+    |c| c.bits = 0,
+    |c| c.n = 0,
+    |c| c.n = 5,
+    |c| c.n = 64,
+    |c| c.n = (1 << 32) + 8,
+    |c| c.n = usize::MAX,
+    |c| c.n = 16,
+    |c| c.mode = 0,
+    |c| c.mode = 1,
+    |c| c.mode = 35,
+    |c| c.mode = 36,
+    |c| c.mode = 255,
+    |c| c.pred.truncate(63),
+    |c| c.pred.clear(),
+    |c| c.refs = 192,
+    |c| c.refs = 0,
+    |c| c.indices = 31,
+    |c| c.indices = 0,
+    |c| c.fractions = 31,
+    |c| c.fractions = 0,
+];
+
+const ROW_FAULTS: &[fn(&mut Block)] = &[|c| c.above.truncate(64), |c| c.left.truncate(64), |c| c.above.clear(), |c| c.left.clear()];
+
+fn run(t: &mut Tally, luma: bool, seed: u64) {
+    let mut random = Random::new(seed);
+    let mut scratch = AngularScratch::new();
+    // every size, mode and depth on rows of every kind
+    for n in SIZES {
+        for mode in 0..=34 {
+            for bits in DEPTHS {
+                for kind in 0..3 * KINDS {
+                    let kinds = [kind % KINDS, random.below(KINDS)];
+                    let call = Block::any(luma, n, mode, bits, kinds, &mut random);
+                    ask(t, &call, &mut scratch, &mut random);
+                }
+            }
+        }
+    }
+    // rows that the strong form of smoothing takes and rows just past it
+    for bits in DEPTHS {
+        for mode in 0..=34 {
+            for off in [-1i32, 0, 1] {
+                let mut call = Block::any(luma, 32, mode, bits, [8, 8], &mut random);
+                call.corner = 100;
+                let far = (100 + (1 << (bits - 5)) + off) as u16;
+                for row in [&mut call.above, &mut call.left] {
+                    (row[31], row[63]) = (100, far);
+                }
+                ask(t, &call, &mut scratch, &mut random);
+            }
+        }
+    }
+    // every mode that is none
+    for mode in 35..=255 {
+        let call = Block::any(luma, 8, mode, 8, [8, 8], &mut random);
+        ask(t, &call, &mut scratch, &mut random);
+    }
+    // every two faults in either order
+    let faults: Vec<_> = if luma { FAULTS.to_vec() } else { [FAULTS, ROW_FAULTS].concat() };
+    for one in &faults {
+        for other in &faults {
+            let mut call = Block::any(luma, 8, random.below(35) as u8, 10, [8, 8], &mut random);
+            call.above = any(call.above.len(), &mut random);
+            one(&mut call);
+            other(&mut call);
+            ask(t, &call, &mut scratch, &mut random);
+        }
+    }
+}
+
+pub fn chroma(t: &mut Tally) {
+    run(t, false, 14);
+}
+
+pub fn luma(t: &mut Tally) {
+    run(t, true, 15);
+}

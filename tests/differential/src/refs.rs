@@ -1,0 +1,539 @@
+//! Substitution and the two gathers against the Rust's substitute_refs, get_reference_samples and
+//! get_reference_samples_chroma_pair. Outside document 01's domain the Rust is not asked: what is wanted there is the
+//! table's number and zeros.
+use crate::fmt::format_of;
+use crate::host::Arg::{Lent, Number, Read};
+use crate::oracle::fmt::BitDepth;
+use crate::oracle::intra::{self, reach};
+use crate::random::Random;
+use crate::samples::{BITS, DEPTHS, KINDS, SIDES, SIZES, any, bytes, samples};
+use crate::table::{self, ChromaPlace, Picture};
+use crate::tally::{Tally, Want};
+
+/// The corner, the row above and the left column.
+pub type Rows = (u16, [u16; 65], [u16; 65]);
+
+const ZEROS: Rows = (0, [0; 65], [0; 65]);
+const CTUS: [u32; 3] = [16, 32, 64];
+const UNITS: [u32; 2] = [4, 8];
+/// Pictures whose every place is tried: smaller than a CTU, and of sides that are no multiple of one.
+const PICTURES: [(u32, u32); 6] = [(8, 8), (16, 24), (40, 24), (64, 40), (72, 40), (24, 72)];
+
+pub fn neutral(bits: u32) -> u16 {
+    BitDepth::from_bits(bits as u8).neutral()
+}
+
+fn answer_bytes(no: u32, planes: &[Rows]) -> Vec<u8> {
+    let mut all = no.to_le_bytes().to_vec();
+    for (corner, above, left) in planes {
+        all.extend(corner.to_le_bytes());
+        all.extend(bytes(above));
+        all.extend(bytes(left));
+    }
+    all
+}
+
+fn flag_bytes(flags: &[bool; 65]) -> Vec<u8> {
+    flags.iter().map(|&f| f as u8).collect()
+}
+
+/// Rows, and which of their entries are there.
+#[derive(Clone)]
+pub struct Marked {
+    pub rows: Rows,
+    pub corner: bool,
+    pub above: [bool; 65],
+    pub left: [bool; 65],
+}
+
+impl Marked {
+    /// Entries of any kind; every flag past 2n is any too.
+    pub fn any(random: &mut Random) -> Marked {
+        let [above, left] = [0; 2].map(|_| <[u16; 65]>::try_from(any(65, random)).unwrap());
+        let word = random.word() as u16;
+        let rows = (random.pick(&[0, word]), above, left);
+        let [above, left] = [0; 2].map(|_| [0; 65].map(|_| random.below(2) == 0));
+        Marked { rows, corner: random.below(2) == 0, above, left }
+    }
+
+    /// Sets the flag at a place of the line: left[2n] down to left[0], the corner, above[0] to above[2n].
+    pub fn mark(&mut self, n: usize, place: usize, flag: bool) {
+        let e = 2 * n;
+        if place <= e {
+            self.left[e - place] = flag;
+        } else if place == e + 1 {
+            self.corner = flag;
+        } else {
+            self.above[place - e - 2] = flag;
+        }
+    }
+
+    pub fn answer(&self, n: usize, bits: u32) -> (u32, Rows) {
+        match table::first(&[(1, table::depth(bits)), (2, table::size(n))]) {
+            0 => {
+                let (corner, above, left) = self.rows;
+                (0, reach::substitute_refs(corner, above, left, self.corner, &self.above, &self.left, 2 * n, neutral(bits)))
+            }
+            no => (no, ZEROS),
+        }
+    }
+}
+
+/// Places of the line.
+pub fn places(n: usize) -> usize {
+    4 * n + 3
+}
+
+pub fn ask_substitute(t: &mut Tally, m: &Marked, n: usize, bits: u32) {
+    let (no, rows) = m.answer(n, bits);
+    let (above, left) = (bytes(&m.rows.1), bytes(&m.rows.2));
+    let (has_above, has_left) = (flag_bytes(&m.above), flag_bytes(&m.left));
+    let args = [
+        Lent(&[0xa5; 266]),
+        Number(m.rows.0 as u64),
+        Read(&above),
+        Read(&left),
+        Number(m.corner as u64),
+        Read(&has_above),
+        Read(&has_left),
+        Number(n as u64),
+        Number(bits as u64),
+    ];
+    t.call("salvrunde_probe_substitute_refs", &args, Want::word(0, 0).then(answer_bytes(no, &[rows])));
+}
+
+pub fn substitution(t: &mut Tally) {
+    let mut random = Random::new(11);
+    for n in SIZES {
+        let last = places(n) - 1;
+        // every pattern of nine places in a row: at the line's start, about the corner, at its end; the others all missing,
+        // all there, or any
+        for start in [0, 2 * n - 3, last - 8] {
+            for pattern in 0..512u32 {
+                for others in [Some(false), Some(true), None] {
+                    let mut m = Marked::any(&mut random);
+                    for place in 0..=last {
+                        if let Some(flag) = others {
+                            m.mark(n, place, flag);
+                        }
+                    }
+                    for k in 0..9 {
+                        m.mark(n, start + k, pattern >> k & 1 == 1);
+                    }
+                    ask_substitute(t, &m, n, random.pick(&DEPTHS));
+                }
+            }
+        }
+        for bits in DEPTHS {
+            // one place there and no other, one missing and no other; among them those that no gather shows
+            for one in 0..=last {
+                for flag in [false, true] {
+                    let mut m = Marked::any(&mut random);
+                    (0..=last).for_each(|place| m.mark(n, place, (place == one) == flag));
+                    ask_substitute(t, &m, n, bits);
+                }
+            }
+            // none, with any flags past 2n
+            for _ in 0..40 {
+                let mut m = Marked::any(&mut random);
+                (0..=last).for_each(|place| m.mark(n, place, false));
+                ask_substitute(t, &m, n, bits);
+            }
+            // flags there one time in two, in four, in sixteen, and fifteen times in sixteen
+            for odds in [8, 4, 1, 15] {
+                for _ in 0..500 {
+                    let mut m = Marked::any(&mut random);
+                    (0..=last).for_each(|place| m.mark(n, place, random.below(16) < odds));
+                    ask_substitute(t, &m, n, bits);
+                }
+            }
+        }
+    }
+    for n in SIDES {
+        for bits in BITS {
+            ask_substitute(t, &Marked::any(&mut random), n, bits);
+        }
+    }
+}
+
+/// What the luma gather is given.
+#[derive(Clone)]
+pub struct Luma {
+    pub bits: u32,
+    pub picture: Picture,
+    pub row: u32,
+    pub col: u32,
+    pub n: usize,
+    pub plane: Vec<u16>,
+}
+
+impl Luma {
+    pub fn number(&self) -> u32 {
+        let p = self.picture;
+        table::first(&[
+            (1, table::depth(self.bits)),
+            (2, table::size(self.n)),
+            (4, p.sides_and_ctu()),
+            (5, table::plane(p.width as u64, p.height as u64, self.plane.len())),
+            (6, table::size(self.n) && table::luma_place(p, self.row, self.col, self.n)),
+        ])
+    }
+
+    pub fn answer(&self) -> (u32, Rows) {
+        let p = self.picture;
+        match self.number() {
+            0 => {
+                let geo = intra::LumaRefGeometry {
+                    stride: p.width as usize,
+                    block_row: self.row as usize,
+                    block_col: self.col as usize,
+                    height: p.height as usize,
+                    n: self.n,
+                    ctu: p.ctu as usize,
+                    ctus_x: p.ctus_x(),
+                    min_pu: p.unit as usize,
+                    neutral: neutral(self.bits),
+                };
+                (0, intra::get_reference_samples(&self.plane, geo))
+            }
+            no => (no, ZEROS),
+        }
+    }
+}
+
+pub fn ask_luma(t: &mut Tally, call: &Luma) {
+    let (no, rows) = call.answer();
+    let plane = bytes(&call.plane);
+    let p = call.picture;
+    let numbers = [call.bits, p.width, p.height, p.ctu, p.unit, call.row, call.col];
+    let mut args = vec![Lent(&[0xa5; 266]), Read(&plane), Number(call.plane.len() as u64)];
+    args.extend(numbers.map(|v| Number(v as u64)));
+    args.push(Number(call.n as u64));
+    t.call("salvrunde_probe_get_reference_samples", &args, Want::word(0, 0).then(answer_bytes(no, &[rows])));
+}
+
+/// Every place of every size, CTU and unit in the pictures; a size, CTU and unit that do not go together are refused.
+pub fn every_luma(pictures: &[(u32, u32)], random: &mut Random, mut each: impl FnMut(&Luma, &mut Random)) {
+    for &(width, height) in pictures {
+        for ctu in CTUS {
+            for unit in UNITS {
+                for n in SIZES {
+                    for row in (0..height).step_by(n) {
+                        for col in (0..width).step_by(n) {
+                            let plane = any((width * height) as usize, random);
+                            let picture = Picture::new(width, height, ctu, unit);
+                            each(&Luma { bits: random.pick(&DEPTHS), picture, row, col, n, plane }, random);
+                        }
+                    }
+                }
+            }
+        }
+    }
+}
+
+/// A multiple of n below the side.
+fn aligned(side: u32, n: usize, random: &mut Random) -> u32 {
+    random.below((side as u64).div_ceil(n as u64)) as u32 * n as u32
+}
+
+fn any_side(most: u64, random: &mut Random) -> u32 {
+    8 + 8 * random.below(most / 8) as u32
+}
+
+type Fault<C> = fn(&mut C);
+
+const LUMA_FAULTS: &[Fault<Luma>] = &[
+    |_| (),
+    |c| c.bits = 9,
+    |c| c.bits = 264,
+    |c| c.bits = u32::MAX,
+    |c| c.n = 0,
+    |c| c.n = 5,
+    |c| c.n = 64,
+    |c| c.n = (1 << 32) + 8,
+    |c| c.n = usize::MAX,
+    |c| c.n = 4,
+    |c| c.n = 32,
+    |c| c.picture.width = 0,
+    |c| c.picture.width = 12,
+    |c| c.picture.width = 4104,
+    |c| c.picture.width = u32::MAX,
+    |c| c.picture.height = 0,
+    |c| c.picture.height = 44,
+    |c| c.picture.height = 4104,
+    |c| c.picture.height = u32::MAX - 7,
+    |c| c.picture.ctu = 0,
+    |c| c.picture.ctu = 8,
+    |c| c.picture.ctu = 24,
+    |c| c.picture.ctu = 128,
+    |c| c.picture.ctu = 16,
+    |c| c.plane.push(7),
+    |c| c.plane.truncate(c.plane.len().saturating_sub(1)),
+    |c| c.plane.clear(),
+    |c| c.plane.resize((c.picture.width as u64 * c.picture.height as u64).min(9000) as usize, 1),
+    |c| c.picture.unit = 0,
+    |c| c.picture.unit = 2,
+    |c| c.picture.unit = 8,
+    |c| c.picture.unit = 16,
+    |c| c.picture.unit = u32::MAX,
+    |c| c.row += 1,
+    |c| c.row += 4,
+    |c| c.row = 40,
+    |c| c.row = u32::MAX - 31,
+    |c| c.row = u32::MAX,
+    |c| c.col += 2,
+    |c| c.col += 4,
+    |c| c.col = 64,
+    |c| c.col = 1 << 31,
+    |c| c.col = u32::MAX - 3,
+];
+
+pub fn luma(t: &mut Tally) {
+    let mut random = Random::new(12);
+    every_luma(&PICTURES, &mut random, |call, _| ask_luma(t, call));
+    // planes that are all 0, all but one, or mostly: 0 is a sample as any other
+    for kind in [0, 2, 7] {
+        for _ in 0..1500 {
+            let (width, height) = random.pick(&PICTURES);
+            let n = random.pick(&SIZES);
+            let picture = Picture::new(width, height, random.pick(&CTUS), random.pick(&UNITS));
+            let (row, col) = (aligned(height, n, &mut random), aligned(width, n, &mut random));
+            let plane = samples(kind, (width * height) as usize, &mut random);
+            ask_luma(t, &Luma { bits: random.pick(&DEPTHS), picture, row, col, n, plane });
+        }
+    }
+    // larger pictures, and the largest
+    let mut sides: Vec<(u32, u32)> = (0..2000).map(|_| (any_side(200, &mut random), any_side(200, &mut random))).collect();
+    sides.extend([(4096, 8), (8, 4096), (4096, 16), (24, 4096)].repeat(20));
+    for (width, height) in sides {
+        let n = random.pick(&SIZES);
+        let picture = Picture::new(width, height, random.pick(&CTUS), random.pick(&UNITS));
+        let (row, col) = (aligned(height, n, &mut random), aligned(width, n, &mut random));
+        let plane = any((width * height) as usize, &mut random);
+        ask_luma(t, &Luma { bits: random.pick(&DEPTHS), picture, row, col, n, plane });
+    }
+    let plane = samples(8, 1 << 24, &mut random);
+    ask_luma(t, &Luma { bits: 12, picture: Picture::new(4096, 4096, 64, 8), row: 4064, col: 4064, n: 32, plane });
+    // every two faults in either order
+    let base = Luma { bits: 8, picture: Picture::new(64, 40, 32, 4), row: 8, col: 16, n: 8, plane: any(2560, &mut random) };
+    for one in LUMA_FAULTS {
+        for other in LUMA_FAULTS {
+            let mut call = base.clone();
+            one(&mut call);
+            other(&mut call);
+            ask_luma(t, &call);
+        }
+    }
+}
+
+/// What the chroma pair gather is given.
+#[derive(Clone)]
+pub struct Chroma {
+    pub bits: u32,
+    pub format: u32,
+    pub width: u32,
+    pub height: u32,
+    pub unit: u32,
+    pub row: u32,
+    pub col: u32,
+    pub n: usize,
+    pub current: (u32, u32),
+    pub planes: [Vec<u16>; 2],
+}
+
+impl Chroma {
+    /// The subsampling of width and height.
+    pub fn steps(&self) -> (u32, u32) {
+        format_of(self.format).map_or((1, 1), |f| (f.sub_w() as u32, f.sub_h() as u32))
+    }
+
+    /// The chroma planes' sides.
+    pub fn sides(&self) -> (u64, u64) {
+        let (w, h) = self.steps();
+        ((self.width / w) as u64, (self.height / h) as u64)
+    }
+
+    /// The block's own luma place.
+    pub fn own(&self) -> (u32, u32) {
+        let (w, h) = self.steps();
+        (self.row * h, self.col * w)
+    }
+
+    /// With planes of any kind, as long as they must be.
+    pub fn filled(mut self, random: &mut Random) -> Chroma {
+        let (w, h) = self.sides();
+        self.planes = [0; 2].map(|_| any((w * h) as usize, random));
+        self
+    }
+
+    pub fn number(&self) -> u32 {
+        let (w, h) = self.sides();
+        let place = ChromaPlace { row: self.row, col: self.col, n: self.n, unit: self.unit, current: self.current };
+        table::first(&[
+            (1, table::depth(self.bits)),
+            (2, table::size(self.n)),
+            (4, table::chroma_picture(self.width, self.height, self.format)),
+            (5, self.planes.iter().all(|p| table::plane(w, h, p.len()))),
+            (6, table::size(self.n) && table::chroma_place(&place, (self.width, self.height), (w, h))),
+        ])
+    }
+
+    pub fn answer(&self) -> (u32, [Rows; 2]) {
+        match self.number() {
+            0 => {
+                let ((w, h), (sub_w, sub_h)) = (self.sides(), self.steps());
+                let geo = intra::ChromaRefGeometry {
+                    stride: w as usize,
+                    block_row: self.row as usize,
+                    block_col: self.col as usize,
+                    chroma_h: h as usize,
+                    n: self.n,
+                    sub_w: sub_w as usize,
+                    sub_h: sub_h as usize,
+                    luma_w: self.width as usize,
+                    luma_h: self.height as usize,
+                    luma_ctus_x: (self.width as usize).div_ceil(64),
+                    min_luma_pu: self.unit as usize,
+                    cur_luma_row: self.current.0 as usize,
+                    cur_luma_col: self.current.1 as usize,
+                    neutral: neutral(self.bits),
+                };
+                let (cb, cr) = intra::get_reference_samples_chroma_pair(&self.planes[0], &self.planes[1], geo);
+                (0, [cb, cr])
+            }
+            no => (no, [ZEROS; 2]),
+        }
+    }
+}
+
+pub fn ask_chroma(t: &mut Tally, call: &Chroma) {
+    let (no, rows) = call.answer();
+    let [cb, cr] = [0, 1].map(|k| bytes(&call.planes[k]));
+    let mut args =
+        vec![Lent(&[0xa5; 528]), Read(&cb), Number(call.planes[0].len() as u64), Read(&cr), Number(call.planes[1].len() as u64)];
+    let numbers = [call.bits, call.format, call.width, call.height, call.unit, call.row, call.col];
+    args.extend(numbers.map(|v| Number(v as u64)));
+    args.extend([Number(call.n as u64), Number(call.current.0 as u64), Number(call.current.1 as u64)]);
+    t.call("salvrunde_probe_get_reference_samples_chroma_pair", &args, Want::word(0, 0).then(answer_bytes(no, &rows)));
+}
+
+const CHROMA_FAULTS: &[Fault<Chroma>] = &[
+    |_| (),
+    |c| c.bits = 9,
+    |c| c.bits = 0,
+    |c| c.bits = 266,
+    |c| c.n = 0,
+    |c| c.n = 6,
+    |c| c.n = 64,
+    |c| c.n = (1 << 32) + 4,
+    |c| c.n = usize::MAX,
+    |c| c.n = 32,
+    |c| c.format = 0,
+    |c| c.format = 2,
+    |c| c.format = 3,
+    |c| c.format = 4,
+    |c| c.format = 257,
+    |c| c.format = u32::MAX,
+    |c| c.width = 0,
+    |c| c.width = 68,
+    |c| c.width = 4104,
+    |c| c.width = u32::MAX,
+    |c| c.height = 0,
+    |c| c.height = 36,
+    |c| c.height = 4104,
+    |c| c.height = u32::MAX,
+    |c| c.planes[0].push(3),
+    |c| c.planes[1].push(3),
+    |c| c.planes[0].truncate(c.planes[0].len().saturating_sub(1)),
+    |c| c.planes[1].truncate(c.planes[1].len().saturating_sub(1)),
+    |c| c.planes[1].clear(),
+    |c| {
+        let (w, h) = c.sides();
+        c.planes.iter_mut().for_each(|p| p.resize((w * h).min(9000) as usize, 1));
+    },
+    |c| c.unit = 0,
+    |c| c.unit = 6,
+    |c| c.unit = 8,
+    |c| c.unit = 16,
+    |c| c.unit = u32::MAX,
+    |c| c.row += 1,
+    |c| c.row = 20,
+    |c| c.row = 1 << 31,
+    |c| c.row = u32::MAX - 7,
+    |c| c.row = u32::MAX,
+    |c| c.col += 4,
+    |c| c.col = 32,
+    |c| c.col = u32::MAX - 3,
+    |c| c.current.0 = 39,
+    |c| c.current.0 = 40,
+    |c| c.current.0 = u32::MAX,
+    |c| c.current.1 = 63,
+    |c| c.current.1 = 64,
+    |c| c.current.1 = u32::MAX,
+];
+
+pub fn chroma(t: &mut Tally) {
+    let mut random = Random::new(13);
+    let place = |format, (width, height), unit, row, col, n, random: &mut Random| Chroma {
+        bits: random.pick(&DEPTHS),
+        format,
+        width,
+        height,
+        unit,
+        row,
+        col,
+        n,
+        current: (0, 0),
+        planes: [Vec::new(), Vec::new()],
+    };
+    // every place of every format, size and unit; the current place its own, beside it, and anywhere
+    for sides in PICTURES {
+        for format in [1, 2, 3] {
+            for unit in UNITS {
+                for n in SIZES {
+                    let whole = place(format, sides, unit, 0, 0, n, &mut random).sides();
+                    for row in (0..whole.1 as u32).step_by(n) {
+                        for col in (0..whole.0 as u32).step_by(n) {
+                            let mut call = place(format, sides, unit, row, col, n, &mut random).filled(&mut random);
+                            let (r, c) = call.own();
+                            let far = (random.below(sides.1 as u64) as u32, random.below(sides.0 as u64) as u32);
+                            let near = (r + random.below(9) as u32, (c + random.below(9) as u32).saturating_sub(4));
+                            for current in [(r, c), (r + 1, c + 1), near, far, (sides.1 - 1, sides.0 - 1)] {
+                                call.current = current;
+                                ask_chroma(t, &call);
+                            }
+                        }
+                    }
+                }
+            }
+        }
+    }
+    // larger pictures and planes mostly 0
+    let mut sides: Vec<(u32, u32)> = (0..1500).map(|_| (any_side(200, &mut random), any_side(200, &mut random))).collect();
+    sides.extend([(4096, 8), (8, 4096), (4096, 24), (24, 4096)].repeat(10));
+    for sides in sides {
+        let (format, unit, n) = (random.pick(&[1, 2, 3]), random.pick(&UNITS), random.pick(&SIZES));
+        let mut call = place(format, sides, unit, 0, 0, n, &mut random);
+        let whole = call.sides();
+        (call.row, call.col) = (aligned(whole.1 as u32, n, &mut random), aligned(whole.0 as u32, n, &mut random));
+        let mut call = call.filled(&mut random);
+        if random.below(2) == 0 {
+            call.planes = [0, 1].map(|k| samples(random.pick(&[0, 2, 7]) % KINDS, call.planes[k].len(), &mut random));
+        }
+        for current in [call.own(), (random.below(sides.1 as u64) as u32, random.below(sides.0 as u64) as u32)] {
+            call.current = current;
+            ask_chroma(t, &call);
+        }
+    }
+    // every two faults in either order
+    let mut base = place(1, (64, 40), 4, 8, 16, 8, &mut random).filled(&mut random);
+    base.current = base.own();
+    for one in CHROMA_FAULTS {
+        for other in CHROMA_FAULTS {
+            let mut call = base.clone();
+            one(&mut call);
+            other(&mut call);
+            ask_chroma(t, &call);
+        }
+    }
+}

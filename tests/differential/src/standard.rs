@@ -1,0 +1,213 @@
+//! The references as H.265 has them, 6.4.1 and 8.4.4.2.2, and the smallest inputs of docs/DIFFERENCES.md at substitution and
+//! the gathers: where the Rust and the port agree with each other and not with the standard.
+use crate::order::panics;
+use crate::oracle::intra;
+use crate::random::Random;
+use crate::refs::{Chroma, Luma, Marked, Rows, ask_chroma, ask_luma, ask_substitute, every_luma, neutral};
+use crate::table::Picture;
+use crate::tally::Tally;
+
+/// The corner, and entries 0 to 2n-1 of the row above and of the left column: the standard has no more.
+type Entries = (u16, Vec<u16>, Vec<u16>);
+
+fn standard_part(rows: &Rows, n: usize) -> Entries {
+    (rows.0, rows.1[..2 * n].to_vec(), rows.2[..2 * n].to_vec())
+}
+
+/// 8.4.4.2.2 over the line p[-1][2n-1] up to the corner and on to p[2n-1][-1]; None where a sample is not available.
+fn substituted(mut line: Vec<Option<u16>>, n: usize, neutral: u16) -> Entries {
+    if line.iter().all(Option::is_none) {
+        line.fill(Some(neutral));
+    }
+    line[0] = line.iter().copied().find(Option::is_some).flatten();
+    for k in 1..line.len() {
+        line[k] = line[k].or(line[k - 1]);
+    }
+    let line: Vec<u16> = line.into_iter().flatten().collect();
+    (line[2 * n], line[2 * n + 1..].to_vec(), line[..2 * n].iter().rev().copied().collect())
+}
+
+/// The line of a block whose neighbours are told by row and column relative to it.
+fn gathered(n: usize, neutral: u16, at: impl Fn(i64, i64) -> Option<u16>) -> Entries {
+    let most = 2 * n as i64;
+    let left = (0..most).rev().map(|i| at(i, -1));
+    let above = (0..most).map(|i| at(-1, i));
+    substituted(left.chain([at(-1, -1)]).chain(above).collect(), n, neutral)
+}
+
+/// 6.5.2: the address of a least transform block of so many samples.
+fn address(row: u32, col: u32, cell: u32, ctu: u32, width: u32) -> u64 {
+    let ctb = (row / ctu) as u64 * width.div_ceil(ctu) as u64 + (col / ctu) as u64;
+    let (y, x) = ((row % ctu / cell) as u64, (col % ctu / cell) as u64);
+    let morton: u64 = (0..4).map(|i| (x >> i & 1) << (2 * i) | (y >> i & 1) << (2 * i + 1)).sum();
+    let cells = (ctu / cell) as u64;
+    ctb * cells * cells + morton
+}
+
+/// 6.4.1: a luma place is there unless it is outside the picture or its address is greater than the current one's.
+fn available(p: Picture, current: (u32, u32), row: i64, col: i64) -> bool {
+    let inside = (0..p.height as i64).contains(&row) && (0..p.width as i64).contains(&col);
+    let of = |row, col| address(row, col, p.unit, p.ctu, p.width);
+    inside && of(row as u32, col as u32) <= of(current.0, current.1)
+}
+
+fn luma_entries(call: &Luma) -> Entries {
+    let p = call.picture;
+    gathered(call.n, neutral(call.bits), |dr, dc| {
+        let (row, col) = (call.row as i64 + dr, call.col as i64 + dc);
+        let there = available(p, (call.row, call.col), row, col);
+        there.then(|| call.plane[row as usize * p.width as usize + col as usize])
+    })
+}
+
+/// The references of a chroma block in a picture of that CTU, whose least transform block is 4. The current place is the
+/// block's own.
+fn chroma_entries(call: &Chroma, plane: usize, ctu: u32) -> Entries {
+    let ((w, h), (width, _)) = (call.steps(), call.sides());
+    let p = Picture::new(call.width, call.height, ctu, 4);
+    gathered(call.n, neutral(call.bits), |dr, dc| {
+        let (row, col) = (call.row as i64 + dr, call.col as i64 + dc);
+        let there = available(p, call.own(), row * h as i64, col * w as i64);
+        there.then(|| call.planes[plane][(row as u64 * width) as usize + col as usize])
+    })
+}
+
+/// The standard's substitution of marked rows.
+fn marked_entries(m: &Marked, n: usize, bits: u32) -> Entries {
+    gathered(n, neutral(bits), |dr, dc| {
+        let (flag, sample) = match (dr, dc) {
+            (-1, -1) => (m.corner, m.rows.0),
+            (-1, i) => (m.above[i as usize], m.rows.1[i as usize]),
+            (i, _) => (m.left[i as usize], m.rows.2[i as usize]),
+        };
+        flag.then_some(sample)
+    })
+}
+
+fn substitution(t: &mut Tally) {
+    // only above[8] is there: it is copied to every entry; the standard has no such sample, and neutral everywhere
+    let mut m = Marked { rows: (1, [2; 65], [3; 65]), corner: false, above: [false; 65], left: [false; 65] };
+    (m.above[8], m.rows.1[8]) = (true, 77);
+    assert_eq!(standard_part(&m.answer(4, 8).1, 4), (77, vec![77; 8], vec![77; 8]));
+    assert_eq!(marked_entries(&m, 4, 8), (128, vec![128; 8], vec![128; 8]));
+    ask_substitute(t, &m, 4, 8);
+    // left[8] and the corner are there: left[8] is copied up the column; in the standard the corner is copied down it
+    let mut m = Marked { rows: (5, [2; 65], [3; 65]), corner: true, above: [false; 65], left: [false; 65] };
+    (m.left[8], m.rows.2[8]) = (true, 77);
+    assert_eq!(standard_part(&m.answer(4, 8).1, 4), (5, vec![5; 8], vec![77; 8]));
+    assert_eq!(marked_entries(&m, 4, 8), (5, vec![5; 8], vec![5; 8]));
+    ask_substitute(t, &m, 4, 8);
+    // where neither entry 2n is there, the two agree
+    let mut random = Random::new(17);
+    for n in [4, 8, 16, 32] {
+        for _ in 0..2000 {
+            let mut m = Marked::any(&mut random);
+            (m.above[2 * n], m.left[2 * n]) = (false, false);
+            assert_eq!(standard_part(&m.answer(n, 10).1, n), marked_entries(&m, n, 10));
+            ask_substitute(t, &m, n, 10);
+        }
+    }
+}
+
+fn luma(t: &mut Tally) {
+    // entry 2n: above[8] is the sample at row 7, column 8, which the standard's references leave out
+    let mut call =
+        Luma { bits: 8, picture: Picture::new(16, 16, 16, 4), row: 8, col: 0, n: 4, plane: (0..256).map(|k| k + 1).collect() };
+    let (before, answer) = (luma_entries(&call), call.answer().1);
+    assert_eq!((answer.1[8], answer.2[8], answer.1[9]), (7 * 16 + 8 + 1, answer.2[7], 0));
+    ask_luma(t, &call);
+    call.plane[7 * 16 + 8] = 999;
+    assert_eq!((call.answer().1.1[8], luma_entries(&call)), (999, before));
+    ask_luma(t, &call);
+    // on the standard's entries the gather and the standard agree at every place
+    let mut random = Random::new(18);
+    every_luma(&[(8, 8), (40, 24), (72, 40)], &mut random, |call, _| {
+        let (no, rows) = call.answer();
+        if no == 0 {
+            assert_eq!(standard_part(&rows, call.n), luma_entries(call));
+            ask_luma(t, call);
+        }
+    });
+    // a side that is none: the Rust runs past the end of its rows
+    assert!(panics(|| {
+        let geo = intra::LumaRefGeometry {
+            stride: 128,
+            block_row: 64,
+            block_col: 0,
+            height: 128,
+            n: std::hint::black_box(64),
+            ctu: 64,
+            ctus_x: 2,
+            min_pu: 8,
+            neutral: 128,
+        };
+        intra::get_reference_samples(&[0; 16384], geo);
+    }));
+    ask_luma(t, &Luma { bits: 8, picture: Picture::new(128, 128, 64, 8), row: 64, col: 0, n: 64, plane: vec![0; 16384] });
+}
+
+/// A chroma call on planes whose samples are all different, its current place its own.
+fn chroma_call(format: u32, (width, height): (u32, u32), unit: u32, (row, col): (u32, u32), n: usize) -> Chroma {
+    let planes = [Vec::new(), Vec::new()];
+    let mut call = Chroma { bits: 8, format, width, height, unit, row, col, n, current: (0, 0), planes };
+    call.current = call.own();
+    let (w, h) = call.sides();
+    call.planes = [1, 10001].map(|first| (0..(w * h) as u16).map(|k| k + first).collect());
+    call
+}
+
+/// How many of the standard's entries of Cb differ.
+fn apart(call: &Chroma, ctu: u32) -> usize {
+    let (ours, theirs) = (standard_part(&call.answer().1[0], call.n), chroma_entries(call, 0, ctu));
+    let count = |a: &[u16], b: &[u16]| a.iter().zip(b).filter(|(x, y)| x != y).count();
+    (ours.0 != theirs.0) as usize + count(&ours.1, &theirs.1) + count(&ours.2, &theirs.2)
+}
+
+fn chroma(t: &mut Tally) {
+    // 4:4:4 with a least unit of 8 and n = 4: the left neighbour is in the block's own cell and not above it
+    let call = chroma_call(3, (8, 8), 8, (0, 4), 4);
+    assert_eq!(standard_part(&call.answer().1[0], 4), (128, vec![128; 8], vec![128; 8]));
+    let left = [4, 12, 20, 28, 28, 28, 28, 28];
+    assert_eq!(chroma_entries(&call, 0, 64), (4, vec![4; 8], left.to_vec()));
+    ask_chroma(t, &call);
+    // the lower block of 4:2:2 with the upper one's place as the current one: above[4] to above[7] are missing
+    let mut call = chroma_call(2, (16, 16), 8, (8, 0), 8);
+    assert_eq!(apart(&call, 64), 0);
+    ask_chroma(t, &call);
+    call.current = (0, 0);
+    let (rows, standard) = (call.answer().1[0], chroma_entries(&call, 0, 64));
+    assert_eq!(rows.1[..8], [57, 58, 59, 60, 60, 60, 60, 60]);
+    assert_eq!(standard.1[..8], [57, 58, 59, 60, 61, 62, 63, 64]);
+    ask_chroma(t, &call);
+    // a picture of CTU 16: order is counted in CTUs of 64 all the same, and four entries of the left column are taken that
+    // come later
+    for sides in [(40, 24), (64, 64)] {
+        let call = chroma_call(1, sides, 8, (4, 16), 4);
+        assert_eq!((apart(&call, 64), apart(&call, 16)), (0, 4));
+        ask_chroma(t, &call);
+    }
+    // a picture of CTU 64, the current place the block's own: the two agree at every place but those of the first kind
+    for (width, height) in [(64, 64), (72, 40)] {
+        for format in [1, 2, 3] {
+            for unit in [4, 8] {
+                for n in [4, 8, 16, 32] {
+                    let (w, h) = chroma_call(format, (width, height), unit, (0, 0), n).sides();
+                    for row in (0..(h as u32 + 1).saturating_sub(n as u32)).step_by(n) {
+                        for col in (0..(w as u32 + 1).saturating_sub(n as u32)).step_by(n) {
+                            let call = chroma_call(format, (width, height), unit, (row, col), n);
+                            let own_cell = format == 3 && unit == 8 && n == 4 && col % 8 == 4;
+                            assert!(apart(&call, 64) == 0 || own_cell);
+                            ask_chroma(t, &call);
+                        }
+                    }
+                }
+            }
+        }
+    }
+}
+
+pub fn differences(t: &mut Tally) {
+    substitution(t);
+    luma(t);
+    chroma(t);
+}
