@@ -1,3 +1,5 @@
 -- Block: one block of walk and replay. Door: what a call refuses, gives and leaves behind.
 pub mod Block
 pub mod Door
+-- Bridge: a block's prediction is the one from its gathered rows.
+pub mod Bridge
