@@ -3,3 +3,5 @@ pub mod Block
 pub mod Door
 -- Bridge: a block's prediction is the one from its gathered rows.
 pub mod Bridge
+-- Replay: walk and replay over any planes, whose prediction looks at earlier blocks alone.
+pub mod Replay
