@@ -1,0 +1,57 @@
+-- A chain of calls is one call with the sum of the grants, refused or not, for any call that does units. Rests on the laws of units.
+use mathlib.Core.Path.{_≡_, refl, sym, ap, _∙_}
+use mathlib.Core.Bool.{Bool, true, false, cond}
+use mathlib.Core.List.{List, [], _∷_}
+use Prim.Native.Nat.{ℕ, _+_, _-_, min}
+use native.Mathlib.Decide.{ℕ-discrete}
+use lib.Dec.{eqb}
+use Rattle.laws.specs.Choose.{served, worked, unserved}
+use Rattle.laws.specs.Chain.{sum, units, State, chain, chain-all}
+use Rattle.walk.specs.declared.Progress.{Progress}
+use Rattle.promises.specs.Calls.{Held, calls}
+
+-- what a call that is served leaves: the lesser of the grant and what remains is done
+abbrev pub next : {W : Type 0} → (ℕ → W → W) → ℕ → Held W → ℕ → Held W
+next unit count x grant =
+    let did = min grant (count - x .progress .done) in
+    record { progress = record { done = x .progress .done + did }; world = units unit (x .progress .done) did (x .world) }
+
+-- a call that goes by a number, whose number stays 0 once it is
+pub record Steps {W : Type 0} (number : Held W → ℕ) (unit : ℕ → W → W) (count : ℕ) (call : Held W → ℕ → Held W) : Type 0 where
+  pub call-is : (x : Held W) (grant : ℕ) → call x grant ≡ served (number x) (next unit count x grant) x
+  pub again : (x : Held W) (grant : ℕ) → number x ≡ 0 → number (next unit count x grant) ≡ 0
+
+module _ {W : Type 0} {number : Held W → ℕ} {unit : ℕ → W → W} {count : ℕ} {call : Held W → ℕ → Held W} (f : Steps number unit count call) where
+  abbrev from : Held W → State unit count
+  from x = record { done = x .progress .done; world = x .world }
+
+  abbrev to : State unit count → Held W
+  to s = record { progress = record { done = s .done }; world = s .world }
+
+  pub does : (x : Held W) (grant : ℕ) → number x ≡ 0 → call x grant ≡ next unit count x grant
+  does x grant e = f .call-is x grant ∙ sym (worked (number x) (next unit count x grant) x e)
+
+  pub refuses : (x : Held W) (grant : ℕ) → (number x ≡ 0 → ⊥) → call x grant ≡ x
+  refuses x grant e = f .call-is x grant ∙ sym (unserved (number x) (next unit count x grant) x e)
+
+  chained : (x : Held W) (gs : List ℕ) → number x ≡ 0 → calls call x gs ≡ to (chain unit count (from x) gs)
+  unfolding calls chain
+  chained x [] e = refl
+  chained x (g ∷ gs) e = ap (λ (y : Held W). calls call y gs) (does x g e) ∙ chained (next unit count x g) gs (f .again x g e)
+
+  stays : (x : Held W) (gs : List ℕ) → (number x ≡ 0 → ⊥) → calls call x gs ≡ x
+  unfolding calls
+  stays x [] e = refl
+  stays x (g ∷ gs) e = ap (λ (y : Held W). calls call y gs) (refuses x g e) ∙ stays x gs e
+
+  -- calls that are served
+  pub all-done : (x : Held W) (gs : List ℕ) → number x ≡ 0 → calls call x gs ≡ next unit count x (sum gs)
+  all-done x gs e = chained x gs e ∙ ap to (chain-all unit count (from x) gs)
+
+  -- any split is one call
+  pub split : (x : Held W) (gs : List ℕ) → calls call x gs ≡ call x (sum gs)
+  split x gs = go (ℕ-discrete (number x) 0)
+    where
+      go : Dec (number x ≡ 0) → calls call x gs ≡ call x (sum gs)
+      go (yes e) = all-done x gs e ∙ sym (does x (sum gs) e)
+      go (no e) = stays x gs e ∙ sym (refuses x (sum gs) e)

@@ -1,0 +1,5 @@
+-- Calls: a call of walk or replay, and a chain of calls.
+pub mod Calls
+-- Chains: a chain of calls is one call. Accept: what it means that a call is not refused.
+pub mod Chains
+pub mod Accept
