@@ -1,20 +1,22 @@
 -- A chain of calls is one call with the sum of the grants, refused or not, for any call that does units. Rests on the laws of units.
-use mathlib.Core.Path.{_≡_, refl, sym, ap, _∙_}
-use mathlib.Core.Bool.{Bool, true, false, cond}
+use mathlib.Core.Path.{_≡_, refl, sym, ap, ap₂, _∙_}
 use mathlib.Core.List.{List, [], _∷_}
 use Prim.Native.Nat.{ℕ, _+_, _-_, min}
+use native.Mathlib.Omega.{arith}
 use native.Mathlib.Decide.{ℕ-discrete}
-use lib.Dec.{eqb}
 use Rattle.laws.specs.Choose.{served, worked, unserved}
 use Rattle.laws.specs.Chain.{sum, units, State, chain, chain-all}
-use Rattle.walk.specs.declared.Progress.{Progress}
-use Rattle.promises.specs.Calls.{Held, calls}
+use Rattle.promises.specs.Calls.{Held, fresh, calls}
 
 -- what a call that is served leaves: the lesser of the grant and what remains is done
 abbrev pub next : {W : Type 0} → (ℕ → W → W) → ℕ → Held W → ℕ → Held W
 next unit count x grant =
     let did = min grant (count - x .progress .done) in
     record { progress = record { done = x .progress .done + did }; world = units unit (x .progress .done) did (x .world) }
+
+-- what calls from a fresh record leave after k units
+abbrev pub after : {W : Type 0} → (ℕ → W → W) → ℕ → W → Held W
+after unit k w = record { progress = record { done = k }; world = units unit 0 k w }
 
 -- a call that goes by a number, whose number stays 0 once it is
 pub record Steps {W : Type 0} (number : Held W → ℕ) (unit : ℕ → W → W) (count : ℕ) (call : Held W → ℕ → Held W) : Type 0 where
@@ -55,3 +57,10 @@ module _ {W : Type 0} {number : Held W → ℕ} {unit : ℕ → W → W} {count 
       go : Dec (number x ≡ 0) → calls call x gs ≡ call x (sum gs)
       go (yes e) = all-done x gs e ∙ sym (does x (sum gs) e)
       go (no e) = stays x gs e ∙ sym (refuses x (sum gs) e)
+
+  -- from a fresh record
+  pub from-fresh : (w : W) (gs : List ℕ) → number (fresh w) ≡ 0 → calls call (fresh w) gs ≡ after unit (min (sum gs) count) w
+  from-fresh w gs e =
+      let did : min (sum gs) (count - 0) ≡ min (sum gs) count = omega arith in
+      let done : 0 + min (sum gs) (count - 0) ≡ min (sum gs) count = omega arith in
+      all-done (fresh w) gs e ∙ ap₂ (λ (a b : ℕ). record { progress = record { done = a }; world = units unit 0 b w }) done did

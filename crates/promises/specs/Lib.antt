@@ -5,3 +5,8 @@ pub mod Chains
 pub mod Accept
 -- Range: predictions and residuals of a source are in range.
 pub mod Range
+-- Spots: samples and residuals by their block.
+pub mod Spots
+-- Demand3: document 01's demand 3, for a reader. Proof3: its proof.
+pub mod Demand3
+pub mod Proof3
