@@ -29,11 +29,12 @@ pub record Replayed (j : Job) (source plane : List ℕ) (k : ℕ) (x : Held (Lis
   pub source-back : (r c : ℕ) → Covered (blocks j) k r c → sampleAt (j .still) (x .world) r c ≡ sampleAt (j .still) source r c
   pub others-kept : (r c : ℕ) → In (j .still .frame) r c → (Covered (blocks j) k r c → ⊥) → sampleAt (j .still) (x .world) r c ≡ sampleAt (j .still) plane r c
 
--- From x to y, by calls that may do `grant` blocks: the record goes on by the lesser of the grant and what remains, and samples and residuals
--- of blocks that are not done here stay. In is the block one of those done?
+-- a block that is done on the way from x to y
 abbrev pub Done : {W : Type 0} → Held W → Held W → ℕ → Type 0
 Done x y i = (x .progress .done ≤ i) × (i < y .progress .done)
 
+-- From x to y with `grant` blocks granted: the record goes on by the lesser of that and what remains, and samples and residuals of blocks that are
+-- not done on the way stay.
 pub record WalkKeeps (j : Job) (x : Held World) (grant : ℕ) (y : Held World) : Type 0 where
   pub done : y .progress .done ≡ min (x .progress .done + grant) (count j)
   pub samples : (r c : ℕ) → In (j .still .frame) r c → ((i : ℕ) → Done x y i → Of (blocks j i) r c → ⊥)
@@ -62,6 +63,11 @@ pub record Demand3 : Type 0 where
       → (plane : List ℕ) → Whole (j .still) plane → (again : List ℕ)
       → let residuals = calls (walkCall j source) (fresh w) grants .world .residuals in
       Served (replayNo j residuals (fresh plane)) × Replayed j source plane (min (sum again) (count j)) (calls (replayCall j residuals) (fresh plane) again)
+
+  -- Where the grants reach the count the plane is the source: the program never prints `differs`.
+  pub same : (j : Job) (source : List ℕ) (w : World) (grants : List ℕ) → Served (walkNo j source (fresh w)) → count j ≤ sum grants
+      → (plane : List ℕ) → Whole (j .still) plane → (again : List ℕ) → count j ≤ sum again
+      → calls (replayCall j (calls (walkCall j source) (fresh w) grants .world .residuals)) (fresh plane) again .world ≡ source
 
   -- Any residuals in range: two replays of as many blocks agree on those blocks, however their planes began.
   pub altered : (j : Job) (residuals : List ℤ) (a b : List ℕ) (grants others : List ℕ) → Served (replayNo j residuals (fresh a)) → Whole (j .still) b

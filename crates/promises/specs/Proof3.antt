@@ -21,13 +21,13 @@ use Rattle.walk.specs.declared.Progress.{Progress}
 use Rattle.walk.specs.declared.Stepped.{Stepped}
 use Rattle.walk.specs.Block.{World, stored, walked, sampleAt, largestOf, predictedAt, replayUnit, walkUnit}
 use Rattle.walk.specs.Door.{every, residualOk, steppedBy}
-use Rattle.walk.specs.Picture.{Sample, OfS, Whole, look, predict, residual, less, local, rebuild-out, store-out, replays, sourced, walks-plan}
+use Rattle.walk.specs.Picture.{Sample, OfS, Whole, look, predict, residual, less, local, rebuild-ok, rebuild-out, store-out, replays, sourced, walks-plan}
 use Rattle.walk.specs.Replay.{units-kept, replay-same, replay-source, walks}
 use Rattle.promises.specs.Calls.{Job, Held, Served, blocks, count, residualAt, fresh, calls, walkNo, walkCall, replayNo, replayCall}
 use Rattle.promises.specs.Chains.{next, after, Steps, all-done, split, from-fresh}
 use Rattle.promises.specs.Accept.{Asked, Walking, Replaying, walk-told, replay-told, replay-fine, walk-steps, replay-steps}
 use Rattle.promises.specs.Range.{predicted-most}
-use Rattle.promises.specs.Spots.{every-of, most-at, less-small, in-block, part-of, spot, covered-in, spot-of, spot-residual, spot-predict}
+use Rattle.promises.specs.Spots.{by-samples, every-of, most-at, less-small, in-block, part-of, spot, covered-in, spot-of, spot-residual, spot-predict}
 use Rattle.promises.specs.Demand3.{Walked, Replayed, Done, WalkKeeps, ReplayKeeps, Demand3}
 
 abbrev at : {s : Still} (r c : ℕ) → In (s .frame) r c → Sample s
@@ -99,20 +99,20 @@ module _ (j : Job) (source : List ℕ) (w : World) (served : Served (walkNo j so
       small : largestOf s ≤ 65535
       small = at-depth (λ (k : ℕ). 2 ^ k - 1 ≤ 65535) (omega arith) (omega arith) (omega arith) (s .bits) depth
 
+      one : (i r c n : ℕ) → i < count j → r < blocks j i .side → c < blocks j i .side → n ≡ place (blocks j) i + r * blocks j i .side + c → residualOk (getD (all .residuals) n (pos 0)) ≡ true
+      one i r c n l hr hc e =
+          let o = sampleAt s source (blocks j i .row + r) (blocks j i .col + c) in
+          let p = predictedAt s (blocks j i) source r c in
+          let a = predicted-most s (blocks j i) source depth (ok .plan-good .placed i l .size) (ok .modes i l) samples r c hr hc in
+          subst (λ (z : ℤ). residualOk z ≡ true) (sym (ap (λ (k : ℕ). getD (all .residuals) k (pos 0)) e ∙ residual-is i r c l hr hc))
+          (le-leb (natAbs (less o p)) 65535 (le-trans (less-small (largestOf s) o p (samples _) a) small))
+
       go : (n : ℕ) → n < length (all .residuals) → residualOk (getD (all .residuals) n (pos 0)) ≡ true
       go n l =
-          let inside : n < place (blocks j) (count j) = omega (arith, told .0, area (ok .picture) (blocks j) (count j) (ok .plan-good)) in
-          let p = part-of s (blocks j) (count j) n inside in
-          let i = p .0 in
-          let b = blocks j i in
-          let placed = ok .plan-good .placed i (p .1) in
-          let some = size-small (b .side) (placed .size) in
-          let q = in-block (b .side) (place (blocks j) i) n (omega arith) (p .2) (p .3) in
-          let o = sampleAt s source (b .row + q .0) (b .col + q .1) in
-          let e = ap (λ (k : ℕ). getD (all .residuals) k (pos 0)) (q .4) ∙ residual-is i (q .0) (q .1) (p .1) (q .2) (q .3) in
-          let a : o ≤ largestOf s = samples _ in
-          let d = predicted-most s b source depth (placed .size) (ok .modes i (p .1)) samples (q .0) (q .1) (q .2) (q .3) in
-          subst (λ (z : ℤ). residualOk z ≡ true) (sym e) (le-leb (natAbs (less o (predictedAt s b source (q .0) (q .1)))) 65535 (le-trans (less-small (largestOf s) o (predictedAt s b source (q .0) (q .1)) a d) small))
+          let p = part-of s (blocks j) (count j) n (omega (arith, told .0, area (ok .picture) (blocks j) (count j) (ok .plan-good))) in
+          let some = size-small (blocks j (p .0) .side) (ok .plan-good .placed (p .0) (p .1) .size) in
+          let q = in-block (blocks j (p .0) .side) (place (blocks j) (p .0)) n (omega arith) (p .2) (p .3) in
+          one (p .0) (q .0) (q .1) n (p .1) (q .2) (q .3) (q .4)
 
   module _ (plane : List ℕ) (long : Whole s plane) where
     replay-served : Served (replayNo j (all .residuals) (fresh plane))
@@ -133,6 +133,16 @@ module _ (j : Job) (source : List ℕ) (w : World) (served : Served (walkNo j so
               units-kept (replayUnit s (blocks j) (all .residuals)) (λ (u : List ℕ). sampleAt s u r c) 0 k plane
               (λ i u a b. rebuild-out s (blocks j) (count j) ok depth i (all .residuals) u (omega arith) (at r c h) (λ o. n (i, omega arith, o)));
         })
+
+    replay-same-all : (again : List ℕ) → count j ≤ sum again → calls (replayCall j (all .residuals)) (fresh plane) again .world ≡ source
+    replay-same-all again h =
+        let k = min (sum again) (count j) in
+        let e : count j ≡ k = omega arith in
+        let some = ok .picture .wide .low in
+        let out = from-fresh (replay-steps j (all .residuals)) plane again replay-served in
+        let kept = units-kept (replayUnit s (blocks j) (all .residuals)) length 0 k plane (λ i u a b. rebuild-ok s (blocks j) i (all .residuals) u) in
+        by-samples s _ source (omega arith) (ap (λ (x : Held (List ℕ)). length (x .world)) out ∙ kept ∙ long) (facts .source-whole)
+        (λ r c i. replay-back again .source-back r c (subst (λ (n : ℕ). Covered (blocks j) n r c) e (ok .plan-good .all r c i)))
 
     replay-all : (grants : List ℕ) → count j ≤ sum grants → (again : List ℕ)
         → let residuals = calls (walkCall j source) (fresh w) grants .world .residuals in
@@ -202,6 +212,8 @@ demand-3 = record {
   walk = λ j source w grants e h. walk-all j source w e grants h;
   earlier-alone = λ j source other w e. alone j source w e other;
   replay = λ j source w grants e h plane long again. replay-all j source w e plane long grants h again;
+  same = λ j source w grants e h plane long again k.
+      ap (λ (x : Held World). calls (replayCall j (x .world .residuals)) (fresh plane) again .world) (calls-are j source w e grants h) ∙ replay-same-all j source w e plane long again k;
   altered = replay-altered;
   walk-split = λ j source x grants. split (walk-steps j source) x grants;
   replay-split = λ j residuals x grants. split (replay-steps j residuals) x grants;

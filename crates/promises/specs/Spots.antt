@@ -11,6 +11,7 @@ use native.Mathlib.Decide.{decLt}
 use lib.Dec.{leb}
 use lib.IntN.{ℤ, pos, natAbs, _-ℤ_}
 use lib.ListN.{length, getD}
+use lib.Seq.{ext-getD}
 use borrow.Author.Tests.{leb-true}
 use Rattle.laws.specs.Choose.{both-true, both-same}
 use Rattle.laws.specs.Diff.{order}
@@ -19,9 +20,9 @@ use Rattle.plan.specs.declared.Block.{Block}
 use Rattle.plan.specs.Plan.{In, Of, Covered, place}
 use Rattle.plan.specs.Verdict.{Accepted}
 use Rattle.walk.specs.declared.Still.{Still}
-use Rattle.walk.specs.Block.{predictedAt}
+use Rattle.walk.specs.Block.{sampleAt, predictedAt}
 use Rattle.walk.specs.Door.{every}
-use Rattle.walk.specs.Picture.{Sample, OfS, predict, residual}
+use Rattle.walk.specs.Picture.{Sample, OfS, Whole, predict, residual}
 
 -- a test of every entry, entry by entry
 pub every-of : {A : Type 0} (p : A → Bool) (l : List A) (z : A) → ((i : ℕ) → i < length l → p (getD l i z) ≡ true) → every p l ≡ true
@@ -44,6 +45,16 @@ less-small m o p h k = ⊎-elim (λ l. omega (arith, apart-below o p l)) (λ l. 
 pub in-block : (side at n : ℕ) → 0 < side → at ≤ n → n < at + side * side → (r : ℕ) × (c : ℕ) × (r < side) × (c < side) × (n ≡ at + r * side + c)
 in-block side at n h l m =
     ((n - at) / side, (n - at) % side, div-lt-iff-lt-mul h .1 (omega arith), mod-lt (n - at) h, omega (arith, div-add-mod' (n - at) side))
+
+-- two planes of the picture's length that agree at every sample are one
+pub by-samples : (s : Still) (a b : List ℕ) → 0 < s .frame .width → Whole s a → Whole s b → ((r c : ℕ) → In (s .frame) r c → sampleAt s a r c ≡ sampleAt s b r c) → a ≡ b
+by-samples s a b some ha hb same = ext-getD 0 a b (ha ∙ sym hb) go
+  where
+    go : (n : ℕ) → n < length a → getD a n 0 ≡ getD b n 0
+    go n l =
+        let w = s .frame .width in
+        let e : n ≡ n / w * w + n % w = sym (div-add-mod' n w) in
+        ap (λ (k : ℕ). getD a k 0) e ∙ same (n / w) (n % w) (div-lt-iff-lt-mul some .1 (omega arith), mod-lt n some) ∙ sym (ap (λ (k : ℕ). getD b k 0) e)
 
 module _ (s : Still) (plan : ℕ → Block) where
   -- the block that a residual belongs to
