@@ -1,15 +1,14 @@
 -- A call of walk or of replay is served exactly when its facts hold, and what it leaves is served again: the lengths stay. Rests on the plan's verdict.
-use mathlib.Core.Path.{_≡_, refl, sym, ap, _∙_}
+use mathlib.Core.Path.{_≡_, refl, ap, _∙_}
 use mathlib.Core.Bool.{Bool, true, false, cond, _&&_}
-use mathlib.Core.List.{List, [], _∷_}
-use Prim.Native.Nat.{ℕ, _+_, _-_, _*_, _≤_, _<_, min}
+use mathlib.Core.List.{List}
+use Prim.Native.Nat.{ℕ, _+_, _-_, _*_, _≤_, min}
 use native.Mathlib.Omega.{arith}
 use lib.Dec.{leb, eqb}
 use lib.IntN.{ℤ}
 use lib.ListN.{length}
 use borrow.Author.Tests.{leb-true, le-leb, eqb-true, eqb-false, eq-eqb}
-use Rattle.laws.specs.Choose.{_unless_, firstFail, passed, both-true, served}
-use Rattle.laws.specs.Chain.{units}
+use Rattle.laws.specs.Choose.{passed, both-true}
 use Rattle.domain.specs.Domain.{depthOk}
 use Rattle.domain.specs.Facts.{Depth, depth-of, at-depth}
 use Rattle.order.specs.Order.{pictureOk}
@@ -22,7 +21,7 @@ use Rattle.walk.specs.declared.Still.{Still}
 use Rattle.walk.specs.declared.Progress.{Progress}
 use Rattle.walk.specs.declared.Stepped.{Stepped}
 use Rattle.walk.specs.Block.{largestOf, World, walked, replayUnit, walkUnit}
-use Rattle.walk.specs.Door.{every, whole, Tables, roomy, verdictOf, doing, steppedBy, residualOk, replayVerdict, replayAfter, walkVerdict, walkAfter}
+use Rattle.walk.specs.Door.{every, whole, roomy, verdictOf, residualOk, replayVerdict, replayAfter, walkVerdict, walkAfter}
 use Rattle.walk.specs.Picture.{Whole, rebuild-ok, store-ok}
 use Rattle.walk.specs.Replay.{units-kept}
 use Rattle.promises.specs.Calls.{Job, Held, blocks, count, walkNo, walkCall, replayNo, replayCall}

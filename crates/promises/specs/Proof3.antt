@@ -1,19 +1,18 @@
 -- Demand 3 holds. Rests on the walk and replay of a plan (walk's Picture and Replay), on chains of calls, and on the residuals' range.
-use mathlib.Core.Path.{_≡_, refl, sym, ap, ap₂, _∙_, subst}
-use mathlib.Core.Bool.{Bool, true}
+use mathlib.Core.Path.{_≡_, refl, sym, ap, _∙_, subst}
+use mathlib.Core.Bool.{true}
 use mathlib.Core.List.{List}
-use Prim.Native.Nat.{ℕ, suc, _+_, _-_, _*_, _^_, _≤_, _<_, min}
+use Prim.Native.Nat.{ℕ, _+_, _-_, _*_, _^_, _≤_, _<_, min}
 use native.Mathlib.Nat.{le-trans}
 use native.Mathlib.Omega.{arith}
-use lib.IntN.{ℤ, pos, natAbs, _-ℤ_}
+use lib.IntN.{ℤ, pos, natAbs}
 use lib.ListN.{length, getD}
 use borrow.Author.Tests.{le-leb}
 use Rattle.laws.specs.Choose.{worked}
 use Rattle.laws.specs.Chain.{sum, units}
 use Rattle.domain.specs.Facts.{Depth, at-depth, size-small}
-use Rattle.plan.specs.declared.Block.{Block}
 use Rattle.plan.specs.declared.Verdict.{Verdict}
-use Rattle.plan.specs.Plan.{In, Of, Covered, place}
+use Rattle.plan.specs.Plan.{In, Covered, place}
 use Rattle.plan.specs.Cover.{area}
 use Rattle.plan.specs.Verdict.{Accepted}
 use Rattle.walk.specs.declared.Still.{Still}
@@ -24,11 +23,11 @@ use Rattle.walk.specs.Door.{every, residualOk, steppedBy}
 use Rattle.walk.specs.Picture.{Sample, OfS, Whole, look, predict, residual, less, local, rebuild-ok, rebuild-out, store-out, replays, sourced, walks-plan}
 use Rattle.walk.specs.Replay.{units-kept, replay-same, replay-source, walks}
 use Rattle.promises.specs.Calls.{Job, Held, Served, blocks, count, residualAt, fresh, calls, walkNo, walkCall, replayNo, replayCall}
-use Rattle.promises.specs.Chains.{next, after, Steps, all-done, split, from-fresh}
-use Rattle.promises.specs.Accept.{Asked, Walking, Replaying, walk-told, replay-told, replay-fine, walk-steps, replay-steps}
+use Rattle.promises.specs.Chains.{next, after, all-done, split, from-fresh}
+use Rattle.promises.specs.Accept.{Walking, walk-told, replay-told, replay-fine, walk-steps, replay-steps}
 use Rattle.promises.specs.Range.{predicted-most}
 use Rattle.promises.specs.Spots.{by-samples, every-of, most-at, less-small, in-block, part-of, spot, covered-in, spot-of, spot-residual, spot-predict}
-use Rattle.promises.specs.Demand3.{Walked, Replayed, Done, WalkKeeps, ReplayKeeps, Demand3}
+use Rattle.promises.specs.Demand3.{Walked, Replayed, WalkKeeps, ReplayKeeps, Demand3}
 
 abbrev at : {s : Still} (r c : ℕ) → In (s .frame) r c → Sample s
 at r c h = record { row = r; col = c; row-in = h .0; col-in = h .1 }

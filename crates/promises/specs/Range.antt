@@ -1,25 +1,21 @@
 -- A prediction from samples of the depth is a sample of the depth, so the residuals of such a source are in replay's range. Rests on the predictors' being means.
-use mathlib.Core.Path.{_≡_, refl, sym, ap, _∙_, subst}
+use mathlib.Core.Path.{_≡_, ap, _∙_}
 use mathlib.Core.Bool.{Bool, true, false, cond, _&&_}
-use mathlib.Core.List.{List, [], _∷_}
-use mathlib.Core.Logic.{⊎-elim}
-use Prim.Native.Nat.{ℕ, zero, suc, _+_, _-_, _*_, _/_, _^_, _≤_, _<_, min}
+use mathlib.Core.List.{List}
+use Prim.Native.Nat.{ℕ, zero, suc, _+_, _-_, _*_, _/_, _^_, _≤_, _<_}
 use native.Mathlib.Nat.{mul-le-mul-left, add-mul}
 use native.Mathlib.Omega.{arith}
 use native.Mathlib.Decide.{decLt}
 use lib.Dec.{leb, ltb, eqb}
 use lib.IntN.{ℤ, pos, negsuc, natAbs, _+ℤ_, _-ℤ_}
-use lib.ListN.{length, getD}
-use borrow.Author.Tests.{lt-ltb, le-ltb, le-leb, leb-true}
-use Rattle.laws.specs.Choose.{both-true}
-use Rattle.laws.specs.Diff.{order, sub-neg, sub-pos}
-use Rattle.helpers.specs.Ways.{whole}
+use lib.ListN.{getD}
+use borrow.Author.Tests.{lt-ltb, le-ltb}
 use Rattle.h265.specs.Notation.{Neighbours, near, _>>_, clipTo}
 use Rattle.h265.specs.Setting.{Grid, lumaAt, first}
 use Rattle.h265.specs.Substitution.{placeX, placeY, firstMarked, settled, substitutedAt, fromPlaces, neighbours}
 use Rattle.h265.specs.Filtering.{strongAt, weakAt, biIntFlag, filtered}
 use Rattle.h265.specs.Angular.{intraPredAngle, invAngle, ref, project, angular}
-use Rattle.h265.specs.Prediction.{filters, prepared, predSamples, predicted}
+use Rattle.h265.specs.Prediction.{filters, prepared, predicted}
 use Rattle.h265.specs.Mean.{Under, even, between}
 use Rattle.domain.specs.Facts.{Depth, Size, at-depth}
 use Rattle.flat.specs.Range.{planar-between, dc-between}
@@ -28,7 +24,6 @@ use Rattle.predict.specs.Modes.{byMode, is-by-mode}
 use Rattle.plan.specs.declared.Block.{Block}
 use Rattle.walk.specs.declared.Still.{Still}
 use Rattle.walk.specs.Block.{sampleAt, largestOf, predictedAt}
-use Rattle.walk.specs.Door.{every}
 
 -- neighbours that are all at most m
 record Most (m : ℕ) (nb : Neighbours) : Type 0 where

@@ -1,7 +1,7 @@
 -- Samples and residuals named by their block: where sample (r, c) of block i lies, and which block a residual belongs to; and tests of every entry
 -- of a list. Rests on what a good plan is.
 use mathlib.Core.Path.{_≡_, refl, sym, ap, ap₂, _∙_}
-use mathlib.Core.Bool.{Bool, true, _&&_}
+use mathlib.Core.Bool.{Bool, true}
 use mathlib.Core.List.{List, [], _∷_}
 use mathlib.Core.Logic.{⊎-elim}
 use Prim.Native.Nat.{ℕ, zero, suc, _+_, _-_, _*_, _/_, _%_, _≤_, _<_}
@@ -17,7 +17,7 @@ use Rattle.laws.specs.Choose.{both-true, both-same}
 use Rattle.laws.specs.Diff.{order}
 use Rattle.helpers.specs.Ways.{apart-below, apart-above}
 use Rattle.plan.specs.declared.Block.{Block}
-use Rattle.plan.specs.Plan.{In, Of, Covered, place}
+use Rattle.plan.specs.Plan.{In, Covered, place}
 use Rattle.plan.specs.Verdict.{Accepted}
 use Rattle.walk.specs.declared.Still.{Still}
 use Rattle.walk.specs.Block.{sampleAt, predictedAt}

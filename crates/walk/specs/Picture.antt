@@ -1,7 +1,7 @@
 -- Walk and replay of a plan over flat planes are walks and replays in Replay's sense: a block's prediction looks at earlier blocks alone, and
 -- blocks and their residuals are stored apart. Rests on Bridge, on the gather's reading no missing sample, and on what a good plan is.
 use mathlib.Core.Path.{_≡_, refl, sym, ap, ap₂, _∙_}
-use mathlib.Core.Bool.{Bool, true, _&&_}
+use mathlib.Core.Bool.{true, _&&_}
 use mathlib.Core.List.{List}
 use Prim.Native.Nat.{ℕ, zero, suc, _+_, _-_, _*_, _/_, _%_, _≤_, _<_}
 use native.Mathlib.Nat.{min-eq-left}

@@ -28,7 +28,7 @@ replay rebuild v k w = units (λ i. rebuild i v) 0 k w
 -- prediction of block k from a plane, prediction plus residual, and the reconstruction of block k
 pub record Replays {Plane Data Place R : Type 0} (Ok : Plane → Type 0) (look : Plane → Place → ℕ) (read : Data → ℕ → Place → R) (count : ℕ) (Of : ℕ → Place → Type 0)
     (predict : ℕ → Plane → Place → ℕ) (add : ℕ → R → ℕ) (rebuild : ℕ → Data → Plane → Plane)
-  : Type 0
+    : Type 0
   where
     pub apart : (i k : ℕ) (s : Place) → i < k → k < count → Of i s → Of k s → ⊥
     pub local : (k : ℕ) (a b : Plane) → k < count → Ok a → Ok b → ((i : ℕ) (s : Place) → i < k → Of i s → look a s ≡ look b s) → (s : Place) → Of k s → predict k a s ≡ predict k b s
@@ -45,7 +45,7 @@ pub record Sourced {Plane Place R : Type 0} (Ok : Plane → Type 0) (look : Plan
 pub record Walks {Plane Data Place R W : Type 0} (Ok : Plane → Type 0) (look : Plane → Place → ℕ) (read : Data → ℕ → Place → R) (count : ℕ) (Of : ℕ → Place → Type 0)
     (predict : ℕ → Plane → Place → ℕ) (sub : ℕ → ℕ → R) (source : Plane) (rebuild : ℕ → Data → Plane → Plane) (Long : Data → Type 0)
     (store : ℕ → Plane → Data → Data) (work : W → Plane) (resid : W → Data) (unit : ℕ → W → W)
-  : Type 0
+    : Type 0
   where
     pub store-ok : (k : ℕ) (w : Plane) (v : Data) → Long v → Long (store k w v)
     pub store-in : (k : ℕ) (w : Plane) (v : Data) → k < count → Ok w → Long v → (s : Place) → Of k s → read (store k w v) k s ≡ sub (look source s) (predict k w s)
