@@ -5,8 +5,27 @@ use Prim.Native.Nat.{ℕ, _+_, _-_, min}
 use native.Mathlib.Omega.{arith}
 use native.Mathlib.Decide.{ℕ-discrete}
 use Rattle.laws.specs.Choose.{served, worked, unserved}
-use Rattle.laws.specs.Chain.{sum, units, State, chain, chain-all}
+use Rattle.laws.specs.Chain.{sum, units, State, step, chain, chain-all}
 use Rattle.promises.specs.Calls.{Held, fresh, calls}
+
+-- the sum of the grants, grant by grant; the laws of units give it
+pub sum-none : sum [] ≡ 0
+unfolding chain
+sum-none =
+    let total = sum [] in
+    let unit : ℕ → ℕ → ℕ = λ i w. w in
+    let e = ap (λ (s : State unit total). s .done) (chain-all unit total (record { done = 0; world = 0 }) []) in
+    omega arith
+
+pub sum-more : (g : ℕ) (gs : List ℕ) → sum (g ∷ gs) ≡ g + sum gs
+unfolding chain
+sum-more g gs =
+    let total = g + sum gs + sum (g ∷ gs) in
+    let unit : ℕ → ℕ → ℕ = λ i w. w in
+    let start : State unit total = record { done = 0; world = 0 } in
+    let a = ap (λ (s : State unit total). s .done) (chain-all unit total start (g ∷ gs)) in
+    let b = ap (λ (s : State unit total). s .done) (chain-all unit total (step unit total start g) gs) in
+    omega arith
 
 -- what a call that is served leaves: the lesser of the grant and what remains is done
 abbrev pub next : {W : Type 0} → (ℕ → W → W) → ℕ → Held W → ℕ → Held W
