@@ -1,3 +1,8 @@
 -- Block: one block of walk and replay. Door: what a call refuses, gives and leaves behind.
 pub mod Block
 pub mod Door
+-- Bridge: a block's prediction is the one from its gathered rows.
+pub mod Bridge
+-- Ready: what the functions ask. Laws: what joins them.
+pub mod Ready
+pub mod Laws
