@@ -2,19 +2,20 @@
 use mathlib.Core.Path.{_≡_, refl, sym, ap, ap₂, _∙_, subst}
 use mathlib.Core.Bool.{Bool, true, false, cond, _&&_}
 use mathlib.Core.List.{List, [], _∷_}
+use mathlib.Core.Logic.{⊎-elim}
 use Prim.Native.Nat.{ℕ, zero, suc, _+_, _-_, _*_, _^_, _≤_, _<_}
-use native.Mathlib.Nat.{mul-le-mul-right, mul-le-mul}
+use native.Mathlib.Nat.{mul-le-mul-right, mul-le-mul, eq-or-lt-of-le, le-of-suc-le-suc}
 use native.Mathlib.Numerals.{add-one}
 use native.Mathlib.Omega.{arith}
 use lib.Dec.{leb, eqb}
 use lib.ListN.{length, getD, replicate, length-replicate}
 use lib.IntN.{ℤ, pos, natAbs, _+ℤ_, _-ℤ_}
-use borrow.Author.Tests.{leb-true, le-leb, eqb-true, eq-eqb}
+use borrow.Author.Tests.{leb-true, le-leb, eqb-true, eqb-false, eq-eqb, ne-eqb}
 use Rattle.laws.specs.Fill.{block}
 use Rattle.laws.specs.FillLaws.{rows-at}
 use Rattle.laws.specs.Paint.{paint, paint-same}
 use Rattle.laws.specs.Chain.{units, units-add}
-use Rattle.laws.specs.Choose.{_unless_, firstFail, served, passed, both-true, worked}
+use Rattle.laws.specs.Choose.{_unless_, firstFail, served, if-yes, if-no, passed, both-true, worked, unserved}
 use Rattle.h265.specs.Notation.{clipTo}
 use Rattle.h265.specs.Setting.{lumaAt, first}
 use Rattle.h265.specs.Prediction.{predSamples}
@@ -29,13 +30,17 @@ use Rattle.refs.specs.Door.{lumaDoor, lumaRows}
 use Rattle.angular.specs.Door.{Lent}
 use Rattle.predict.specs.Door.{predictNo}
 use Rattle.plan.specs.declared.Block.{Block}
+use Rattle.plan.specs.declared.Verdict.{Verdict}
 use Rattle.plan.specs.Plan.{pictureOf, planOf, Placed, GoodPlan, place}
 use Rattle.plan.specs.Steps.{area-small}
 use Rattle.plan.specs.Cover.{area}
-use Rattle.plan.specs.Verdict.{Accepted}
+use Rattle.plan.specs.Check.{blocksVerdict, planVerdict}
+use Rattle.plan.specs.Verdict.{Accepted, verdict-good}
 use Rattle.walk.specs.declared.Still.{Still}
+use Rattle.walk.specs.declared.Progress.{Progress}
+use Rattle.walk.specs.declared.Stepped.{Stepped}
 use Rattle.walk.specs.Block.{predictedAt, largestOf, rebuilt, replayUnit}
-use Rattle.walk.specs.Door.{every, whole, Tables, roomy, residualOk}
+use Rattle.walk.specs.Door.{every, whole, Tables, roomy, residualOk, doing, verdictOf, steppedBy, replayVerdict}
 use Rattle.walk.specs.Bridge.{geoOf, geo-fine, bridge}
 use Rattle.walk.specs.Ready.{Small, RowIn, RowsIn, Ready, Lies, Predicted, Sound}
 
@@ -49,7 +54,11 @@ row-in plane pred residuals n base width at r h l =
     let m : (r + 1) * n ≤ n * n = mul-le-mul-right n (omega arith) in
     record { size = h .size; plane-in = h .plane-in r l; pred-in = omega (arith, h .pred-in); resid-in = omega (arith, h .resid-in) }
 
--- the number of the checks before the blocks
+-- the numbers 1, 4, 5
+abbrev pub openingNo : Still → Bool → ℕ
+openingNo s fit = firstFail ((1 unless depthOk (s .bits)) ∷ (4 unless pictureOk (pictureOf (s .frame))) ∷ (5 unless fit) ∷ [])
+
+-- the number of the checks before the plan's
 abbrev pub replayNo : Still → Tables → ℕ → List ℤ → ℕ
 replayNo s t plane residuals =
     firstFail
@@ -100,14 +109,15 @@ module _ (s : Still) (b : Block) (plane residuals at : ℕ) (t : Tables) (h : Re
       let m : (b .row + r + 1) * s .frame .width ≤ s .frame .height * s .frame .width = mul-le-mul-right (s .frame .width) (omega (arith, h .placed .row-in)) in
       omega (arith, h .placed .col-in, h .plane-len)
 
-  pub rows-in : RowsIn plane 1024 residuals (b .side) (b .row * s .frame .width + b .col) (s .frame .width) at
-  rows-in =
+  pub rows-in : (pred : ℕ) → 1024 ≤ pred → RowsIn plane pred residuals (b .side) (b .row * s .frame .width + b .col) (s .frame .width) at
+  rows-in pred long =
       let z = size-small (b .side) (h .placed .size) in
+      let m : b .side * b .side ≤ 32 * 32 = mul-le-mul (z .1) (z .1) in
       record {
         size = z .1;
         plane-in = last-row;
         plane-small = omega (arith, h .plane-len, area-small (h .picture));
-        pred-in = mul-le-mul (z .1) (z .1);
+        pred-in = omega (arith, m, long);
         resid-in = k .resid-in;
         resid-small = omega (arith, k .resid-len, area-small (h .picture));
       }
@@ -126,3 +136,228 @@ rebuilt-is s b at largest pred plane out v e p o =
     (λ r c l m.
     let z = getD v (at + r * b .side + c) (pos 0) in
     restored-at (largestOf s) _ _ z z (ap (λ (k : ℕ). clipTo k (pos (getD pred (r * b .side + c) 0) +ℤ z)) e) (p r c l m) refl)
+
+-- a loop over the blocks: none, one more, all
+module _ {W : Type 0} (unit : ℕ → W → W) where
+  pub units-none : (i : ℕ) (w : W) → w ≡ units unit i (i - i) w
+  unfolding units
+  units-none i w = let e : 0 ≡ i - i = omega arith in ap (λ (m : ℕ). units unit i m w) e
+
+  last-of : (i k : ℕ) (w : W) → units unit i (suc k) w ≡ unit (i + k) (units unit i k w)
+  unfolding units
+  last-of i k w = ap (λ (m : ℕ). units unit i m w) (sym (add-one k)) ∙ units-add unit i k 1 w
+
+  pub units-more : (i k : ℕ) (w u : W) → i ≤ k → u ≡ units unit i (k - i) w → unit k u ≡ units unit i (k + 1 - i) w
+  units-more i k w u h e =
+      let a : i + (k - i) ≡ k = omega arith in
+      let b : suc (k - i) ≡ k + 1 - i = omega arith in
+      ap (unit k) e ∙ ap (λ (m : ℕ). unit m (units unit i (k - i) w)) (sym a) ∙ sym (last-of i (k - i) w) ∙ ap (λ (m : ℕ). units unit i m w) b
+
+  pub units-done : (i k did : ℕ) (w u : W) → k ≤ i + did → i + did ≤ k → u ≡ units unit i (k - i) w → u ≡ units unit i did w
+  units-done i k did w u l m q = let e : k - i ≡ did = omega arith in q ∙ ap (λ (n : ℕ). units unit i n w) e
+
+-- where the residuals of a plan's blocks begin
+module _ (plan : ℕ → Block) where
+  pub place-none : 0 ≡ place plan 0
+  unfolding place
+  place-none = refl
+
+  pub place-more : (k at : ℕ) (b : Block) → at ≡ place plan k → b ≡ plan k → at + b .side * b .side ≡ place plan (k + 1)
+  unfolding place
+  place-more k at b e q = rw (add-one k) (ap₂ (λ (u : ℕ) (x : Block). u + x .side * x .side) e q)
+
+  pub place-up : (i k : ℕ) → i ≤ k → place plan i ≤ place plan k
+  unfolding place
+  place-up i zero l = let e : 0 ≡ i = omega arith in subst (λ (j : ℕ). place plan j ≤ 0) e (omega arith)
+  place-up i (suc k) l =
+      ⊎-elim
+      (λ e. subst (λ (j : ℕ). place plan j ≤ place plan (suc k)) (sym e) (omega arith))
+      (λ m. let h = place-up i k (le-of-suc-le-suc m) in omega (arith, h))
+      (eq-or-lt-of-le l)
+
+  pub place-in : (i k at : ℕ) (b : Block) → i < k → at ≡ place plan i → b ≡ plan i → at + b .side * b .side ≤ place plan k
+  place-in i k at b l e q = let h = place-up (i + 1) k (omega arith) in rw (place-more i at b e q) h
+
+  count-up : (count : ℕ) → ((i : ℕ) → i < count → 4 ≤ plan i .side) → count ≤ place plan count
+  unfolding place
+  count-up zero h = omega arith
+  count-up (suc k) h =
+      let m : 4 * 4 ≤ plan k .side * plan k .side = mul-le-mul (h k (omega arith)) (h k (omega arith)) in
+      let n = count-up k (λ i l. h i (omega arith)) in
+      omega (arith, m, n)
+
+-- a call that is served
+module _ (s : Still) (plan : List (List ℕ)) (plane residuals : ℕ) (t : Tables) (h : Sound s plan plane residuals t) where
+  whole-area : place (planOf plan) (length plan) ≡ s .frame .height * s .frame .width
+  whole-area = area (h .accepted .picture) (planOf plan) (length plan) (h .accepted .plan-good)
+
+  pub place-small : (k : ℕ) → k ≤ length plan → place (planOf plan) k ≤ 16777216
+  place-small k l = omega (arith, place-up (planOf plan) k (length plan) l, whole-area, area-small (h .accepted .picture))
+
+  pub count-small : length plan ≤ 16777216
+  count-small =
+      let m = count-up (planOf plan) (length plan) (λ i l. size-small (planOf plan i .side) (h .accepted .plan-good .placed i l .size) .0) in
+      omega (arith, m, whole-area, area-small (h .accepted .picture))
+
+  -- a block of it, whatever the lengths are now called
+  module _ (k at : ℕ) (b : Block) (l : k < length plan) (e : at ≡ place (planOf plan) k) (q : b ≡ planOf plan k) where
+    pub next-small : at + b .side * b .side ≤ 16777216
+    next-small = omega (arith, place-in (planOf plan) k (length plan) at b l e q, whole-area, area-small (h .accepted .picture))
+
+    pub lies : Lies s b residuals at
+    lies = record { resid-in = omega (arith, place-in (planOf plan) k (length plan) at b l e q, whole-area, h .resid-len); resid-len = h .resid-len }
+
+    pub ready : (plane′ refs indices fractions : ℕ) → plane′ ≡ plane → refs ≡ t .refs → indices ≡ t .indices → fractions ≡ t .fractions → Ready s b plane′ (record { refs = refs; indices = indices; fractions = fractions })
+    ready plane′ refs indices fractions a x y z =
+        record {
+          depth = h .depth;
+          picture = h .accepted .picture;
+          placed = subst (Placed (s .frame)) (sym q) (h .accepted .plan-good .placed k l);
+          mode = subst (λ (u : Block). u .mode ≤ 34) (sym q) (h .accepted .modes k l);
+          plane-len = a ∙ h .plane-len;
+          tables = rw (x, y, z) (h .tables);
+        }
+
+-- a turn of the loop over the blocks
+pub block-more : (s : Still) (plan : ℕ → Block) (v : List ℤ) (from k at : ℕ) (b : Block) (d e f : List ℕ) → from ≤ k → at ≡ place plan k → b ≡ plan k
+    → e ≡ units (replayUnit s plan v) from (k - from) d → f ≡ rebuilt s b at v e → f ≡ units (replayUnit s plan v) from (k + 1 - from) d
+block-more s plan v from k at b d e f l p q u r =
+    r ∙ ap₂ (λ (x : Block) (a : ℕ). rebuilt s x a v e) q p ∙ units-more (replayUnit s plan v) from k d e l u
+
+-- the first k entries pass a test
+unfoldable pub passTo : {A : Type 0} → (A → Bool) → A → List A → ℕ → Bool
+passTo p z l zero = true
+passTo p z l (suc k) = passTo p z l k && p (getD l k z)
+
+module _ {A : Type 0} (p : A → Bool) (z : A) where
+  pub pass-none : (l : List A) → true ≡ passTo p z l 0
+  unfolding passTo
+  pass-none l = refl
+
+  pub pass-more : (l : List A) (i : ℕ) {a b : Bool} → a ≡ passTo p z l i → b ≡ p (getD l i z) → (a && b) ≡ passTo p z l (i + 1)
+  unfolding passTo
+  pass-more l i e q = rw (add-one, e, q)
+
+  and-assoc : (a b c : Bool) → ((a && b) && c) ≡ (a && (b && c))
+  and-assoc true b c = refl
+  and-assoc false b c = refl
+
+  from-first : (x : A) (l : List A) (k : ℕ) → passTo p z (x ∷ l) (suc k) ≡ (p x && passTo p z l k)
+  unfolding passTo
+  from-first x l zero = both-true-right (p x)
+    where
+      both-true-right : (b : Bool) → (true && b) ≡ (b && true)
+      both-true-right true = refl
+      both-true-right false = refl
+  from-first x l (suc k) = ap (λ (b : Bool). b && p (getD l k z)) (from-first x l k) ∙ and-assoc (p x) (passTo p z l k) (p (getD l k z))
+
+  all-passed : (l : List A) → passTo p z l (length l) ≡ every p l
+  unfolding passTo every
+  all-passed [] = refl
+  all-passed (x ∷ l) = from-first x l (length l) ∙ ap (λ (b : Bool). p x && b) (all-passed l)
+
+  pub pass-done : (l : List A) (i : ℕ) {a : Bool} → i ≤ length l → length l ≤ i → a ≡ passTo p z l i → a ≡ every p l
+  pass-done l i h k e = e ∙ ap (passTo p z l) (omega arith) ∙ all-passed l
+
+  pub every-at : (l : List A) → every p l ≡ true → (i : ℕ) → i < length l → p (getD l i z) ≡ true
+  unfolding every
+  every-at [] e i h = absurd (omega arith)
+  every-at (x ∷ l) e zero h = both-true (p x) (every p l) e .0
+  every-at (x ∷ l) e (suc i) h = every-at l (both-true (p x) (every p l) e .1) i (omega arith)
+
+-- the checks in their order: 1, 4, 5, and a last one
+abbrev fourOf : Bool → Bool → Bool → ℕ → Bool → ℕ
+fourOf a b c k d = firstFail ((1 unless a) ∷ (4 unless b) ∷ (5 unless c) ∷ (k unless d) ∷ [])
+
+abbrev threeOf : Bool → Bool → Bool → ℕ
+threeOf a b c = firstFail ((1 unless a) ∷ (4 unless b) ∷ (5 unless c) ∷ [])
+
+pub opening-stops : (a b c : Bool) (k : ℕ) (d : Bool) → (threeOf a b c ≡ 0 → ⊥) → threeOf a b c ≡ fourOf a b c k d
+opening-stops true true true k d h = absurd (h refl)
+opening-stops true true false k d h = refl
+opening-stops true false c k d h = refl
+opening-stops false b c k d h = refl
+
+pub opening-goes : (a b c : Bool) (k : ℕ) (d e : Bool) → threeOf a b c ≡ 0 → d ≡ e → cond e 0 k ≡ fourOf a b c k d
+opening-goes true true true k d e h q = ap (λ (x : Bool). cond x 0 k) (sym q)
+opening-goes true true false k d e h q = absurd (omega arith)
+opening-goes true false c k d e h q = absurd (omega arith)
+opening-goes false b c k d e h q = absurd (omega arith)
+
+-- the verdict, check by check
+module _ (s : Still) (plan : List (List ℕ)) (p : Progress) (early : ℕ) where
+  pub verdict-early : (early ≡ 0 → ⊥) → record { no = early; block = 0 } ≡ verdictOf s plan p early
+  unfolding verdictOf
+  verdict-early h = if-no (eqb early 0) _ _ _ (ne-eqb early 0 h) refl
+
+  blocks-are : pictureOk (pictureOf (s .frame)) ≡ true → (v : Verdict) → v ≡ planVerdict (s .frame) plan → v ≡ blocksVerdict (s .frame) plan
+  unfolding planVerdict
+  blocks-are e v q = q ∙ sym (if-yes (pictureOk (pictureOf (s .frame))) (blocksVerdict (s .frame) plan) _ (blocksVerdict (s .frame) plan) e refl)
+
+  pub verdict-plan : early ≡ 0 → pictureOk (pictureOf (s .frame)) ≡ true → (v : Verdict) → v ≡ planVerdict (s .frame) plan → (v .no ≡ 0 → ⊥) → v ≡ verdictOf s plan p early
+  unfolding verdictOf
+  verdict-plan z e v q h =
+      let b = blocks-are e v q in
+      if-yes (eqb early 0) _ _ _ (eq-eqb early 0 z)
+      (if-no (eqb (blocksVerdict (s .frame) plan .no) 0) _ _ _ (ne-eqb _ 0 (λ x. h (ap (λ (u : Verdict). u .no) b ∙ x))) b)
+
+  pub verdict-last : early ≡ 0 → pictureOk (pictureOf (s .frame)) ≡ true → (v : Verdict) → v ≡ planVerdict (s .frame) plan → v .no ≡ 0 → (t : Bool) → leb (p .done) (length plan) ≡ t
+      → record { no = cond t 0 11; block = 0 } ≡ verdictOf s plan p early
+  unfolding verdictOf
+  verdict-last z e v q h t w =
+      let b = blocks-are e v q in
+      if-yes (eqb early 0) _ _ _ (eq-eqb early 0 z)
+      (if-yes (eqb (blocksVerdict (s .frame) plan .no) 0) _ _ _ (eq-eqb _ 0 (sym (ap (λ (u : Verdict). u .no) b) ∙ h)) (ap (λ (x : Bool). record { no = cond x 0 11; block = 0 }) (sym w)))
+
+  -- number 0 says that every check holds
+  pub verdict-zero : verdictOf s plan p early .no ≡ 0 → (early ≡ 0) × ((blocksVerdict (s .frame) plan .no ≡ 0) × (p .done ≤ length plan))
+  unfolding verdictOf
+  verdict-zero = go (eqb early 0) (eqb (blocksVerdict (s .frame) plan .no) 0) (leb (p .done) (length plan)) refl refl refl
+    where
+      go : (a b c : Bool) → eqb early 0 ≡ a → eqb (blocksVerdict (s .frame) plan .no) 0 ≡ b → leb (p .done) (length plan) ≡ c
+          → cond a (cond b (record { no = cond c 0 11; block = 0 }) (blocksVerdict (s .frame) plan)) (record { no = early; block = 0 }) .no ≡ 0
+          → (early ≡ 0) × ((blocksVerdict (s .frame) plan .no ≡ 0) × (p .done ≤ length plan))
+      go true true true x y z e = (eqb-true early 0 x, (eqb-true _ 0 y, leb-true (p .done) (length plan) z))
+      go true true false x y z e = absurd (omega arith)
+      go true false c x y z e = absurd (eqb-false _ 0 y e)
+      go false b c x y z e = absurd (eqb-false early 0 x e)
+
+  pub verdict-accepts : pictureOk (pictureOf (s .frame)) ≡ true → blocksVerdict (s .frame) plan .no ≡ 0 → Accepted (s .frame) (planOf plan) (length plan)
+  unfolding planVerdict
+  verdict-accepts e z = verdict-good (s .frame) plan (rw e z)
+
+-- a call of replay that is served
+pub replay-sound : (s : Still) (plan : List (List ℕ)) (t : Tables) (p : Progress) (plane : ℕ) (v : List ℤ) → replayVerdict s plan t p plane v .no ≡ 0
+    → Sound s plan plane (length v) t × (Small v × (p .done ≤ length plan))
+unfolding replayVerdict
+replay-sound s plan t p plane v e =
+    let z = verdict-zero s plan p (replayNo s t plane v) e in
+    let a = passed (depthOk (s .bits)) _ 1 (omega arith) (z .0) in
+    let b = passed (pictureOk (pictureOf (s .frame))) _ 4 (omega arith) (a .1) in
+    let c = passed (whole s plane && whole s (length v) && roomy t) _ 5 (omega arith) (b .1) in
+    let d = passed (every residualOk v) 0 8 (omega arith) (c .1) .0 in
+    let x = both-true (whole s plane && whole s (length v)) (roomy t) (c .0) in
+    let y = both-true (whole s plane) (whole s (length v)) (x .0) in (
+      record {
+        depth = depth-of (s .bits) (a .0);
+        accepted = verdict-accepts s plan p 0 (b .0) (z .1 .0);
+        plane-len = eqb-true plane _ (y .0);
+        resid-len = eqb-true (length v) _ (y .1);
+        tables = x .1;
+      },
+      (λ i l. leb-true (natAbs (getD v i (pos 0))) 65535 (every-at residualOk (pos 0) v d i l), z .1 .1),
+    )
+
+-- number 0 of the checks before the plan's: the picture is good
+pub replay-picture : (s : Still) (t : Tables) (plane : ℕ) (v : List ℤ) → replayNo s t plane v ≡ 0 → pictureOk (pictureOf (s .frame)) ≡ true
+replay-picture s t plane v e = passed (pictureOk (pictureOf (s .frame))) _ 4 (omega arith) (passed (depthOk (s .bits)) _ 1 (omega arith) e .1) .0
+
+-- what a call gives
+pub refused-is : (v w : Verdict) (plan : List (List ℕ)) (p : Progress) (grant : ℕ) → v ≡ w → (v .no ≡ 0 → ⊥) → record { no = v .no; block = v .block; did = 0; next = p } ≡ steppedBy w plan p grant
+refused-is v w plan p grant e h =
+    subst (λ (u : Verdict). record { no = v .no; block = v .block; did = 0; next = p } ≡ steppedBy u plan p grant) e (unserved (v .no) _ _ h)
+
+pub stepped-is : (w : Verdict) (plan : List (List ℕ)) (p : Progress) (grant did : ℕ) → w .no ≡ 0 → did ≡ doing plan p grant
+    → record { no = 0; block = 0; did = did; next = record { done = p .done + did } } ≡ steppedBy w plan p grant
+stepped-is w plan p grant did z e =
+    ap (λ (k : ℕ). record { no = 0; block = 0; did = k; next = record { done = p .done + k } }) e ∙ worked (w .no) _ _ z

@@ -19,7 +19,7 @@ ghost use Rattle.walk.specs.Block.{rebuilt, replayUnit};
 ghost use Rattle.walk.specs.Door.{every, whole, roomy, doing, residualOk, verdictOf, steppedBy, replayVerdict, replayAfter};
 ghost use Rattle.walk.specs.Bridge.{geoOf};
 ghost use Rattle.walk.specs.Ready.{Small, RowIn, RowsIn, Ready, Lies, Predicted, Sound};
-ghost use Rattle.walk.specs.Laws.{replayNo};
+ghost use Rattle.walk.specs.Laws.{openingNo, replayNo};
 use fmt::LumaCol;
 use fmt::LumaRow;
 use order::Picture;
@@ -183,4 +183,236 @@ fn rebuild_block(
     let width = s.frame.width as usize;
     let base = (b.row as usize) * width + (b.col as usize);
     rebuild_rows(&mut *plane, &pred, residuals, n, base, width, at, largest_of(s.bits));
+}
+
+// Block i of a plan.
+fn block_at(plan: &[[u32; 4]], i: usize) -> Block
+    requires { ⌜ i < length (now plan) ⌝ }
+    ensures { λ r. ⌜ r ≡ planOf (now (plan .entry)) i ⌝ }
+{
+    Block {
+        row: plan[i][0],
+        col: plan[i][1],
+        side: plan[i][2],
+        mode: plan[i][3],
+    }
+}
+
+// Where the residuals of block k begin.
+fn place_of(plan: &[[u32; 4]], k: usize) -> usize
+    requires { ⌜ (k ≤ length (now plan)) × (place (planOf (now plan)) k ≤ 16777216) ⌝ }
+    ensures { λ r. ⌜ r ≡ place (planOf (now (plan .entry))) k ⌝ }
+{
+    let mut at: usize = 0;
+    let mut i: usize = 0;
+    while i < k {
+        let n = block_at(plan, i).side as usize;
+        at += n * n;
+        i += 1;
+    }
+    at
+}
+
+// `did` blocks of a plan from block `from` on.
+fn replay_blocks(
+    s: Still,
+    plan: &[[u32; 4]],
+    residuals: &[i32],
+    plane: &mut [u16],
+    refs: &mut [u16],
+    indices: &mut [u32],
+    fractions: &mut [u32],
+    from: usize,
+    did: usize,
+)
+    requires { ⌜ Sound s (now plan) (length (now plane)) (length (now residuals)) (record { refs = length (now refs); indices = length (now indices); fractions = length (now fractions) }) × (Small (now residuals) × (from + did ≤ length (now plan))) ⌝ }
+    ensures { λ _. ⌜ now (plane .exit) ≡ units (replayUnit s (planOf (now (plan .entry))) (now (residuals .entry))) from did (now (plane .entry)) ⌝ }
+{
+    let upto = from + did;
+    let mut at = place_of(plan, from);
+    let mut k = from;
+    while k < upto {
+        let b = block_at(plan, k);
+        rebuild_block(
+            s,
+            b,
+            at,
+            residuals,
+            &mut *plane,
+            &mut *refs,
+            &mut *indices,
+            &mut *fractions,
+        );
+        let n = b.side as usize;
+        at += n * n;
+        k += 1;
+    }
+}
+
+// Number 4: whether the picture is not refused.
+fn picture_ok(f: Frame) -> bool
+    ensures { λ r. ⌜ r ≡ pictureOk (pictureOf f) ⌝ }
+{
+    domain::side_ok(f.width) & domain::side_ok(f.height) & domain::ctu_ok(f.ctu)
+}
+
+// Number 5: whether so many entries are the picture's samples.
+fn is_whole(s: Still, len: usize) -> bool
+    ensures { λ r. ⌜ r ≡ whole s len ⌝ }
+{
+    len == (s.frame.height as usize) * (s.frame.width as usize)
+}
+
+// Number 5: whether the tables are long enough.
+fn is_roomy(refs: usize, indices: usize, fractions: usize) -> bool
+    ensures { λ r. ⌜ r ≡ roomy (record { refs = refs; indices = indices; fractions = fractions }) ⌝ }
+{
+    (refs >= 193) & (indices >= 32) & (fractions >= 32)
+}
+
+// Numbers 1, 4, 5; fit says whether all that is lent is long enough.
+fn opening_no(s: Still, fit: bool) -> u32
+    ensures { λ r. ⌜ r ≡ openingNo s fit ⌝ }
+{
+    if !domain::depth_ok(s.bits) {
+        return 1;
+    }
+    if !picture_ok(s.frame) {
+        return 4;
+    }
+    if !fit {
+        return 5;
+    }
+    0
+}
+
+fn residual_ok(r: i32) -> bool
+    ensures { λ b. ⌜ b ≡ residualOk r ⌝ }
+{
+    helpers::abs(r) <= 65535
+}
+
+// Number 8: whether every residual is in range.
+fn residuals_ok(residuals: &[i32]) -> bool
+    ensures { λ b. ⌜ b ≡ every residualOk (now (residuals .entry)) ⌝ }
+{
+    let count = residuals.len();
+    let mut ok = true;
+    let mut i = 0;
+    while i < count {
+        ok = ok & residual_ok(residuals[i]);
+        i += 1;
+    }
+    ok
+}
+
+// The number of the checks before the plan's: 1, 4, 5, 8.
+fn replay_no(
+    s: Still,
+    residuals: &[i32],
+    plane: usize,
+    refs: usize,
+    indices: usize,
+    fractions: usize,
+) -> u32
+    ensures { λ r. ⌜ r ≡ replayNo s (record { refs = refs; indices = indices; fractions = fractions }) plane (now (residuals .entry)) ⌝ }
+{
+    let planes = is_whole(s, plane) & is_whole(s, residuals.len());
+    let no = opening_no(s, planes & is_roomy(refs, indices, fractions));
+    if no != 0 {
+        return no;
+    }
+    if residuals_ok(residuals) { 0 } else { 8 }
+}
+
+// The number of the checks before the plan's, then the plan's, then 11.
+fn verdict_of(s: Still, plan: &[[u32; 4]], p: Progress, early: u32) -> Verdict
+    requires { ⌜ (early ≡ 0 → pictureOk (pictureOf (s .frame)) ≡ true) ⌝ }
+    ensures { λ v. ⌜ v ≡ verdictOf s (now (plan .entry)) p early ⌝ }
+{
+    if early != 0 {
+        return Verdict {
+            no: early,
+            block: 0,
+        };
+    }
+    let v = plan::check_plan(s.frame, plan);
+    if v.no != 0 {
+        return v;
+    }
+    if (p.done as usize) <= plan.len() {
+        return Verdict { no: 0, block: 0 };
+    }
+    Verdict { no: 11, block: 0 }
+}
+
+// The lesser of the grant and what remains.
+fn doing_of(count: usize, done: u32, grant: u32) -> u32
+    requires { ⌜ (count ≤ 16777216) × (done ≤ count) ⌝ }
+    ensures { λ r. ⌜ r ≡ min grant (count - done) ⌝ }
+{
+    helpers::min(grant, (count as u32) - done)
+}
+
+impl Progress {
+    // No block is done.
+    pub fn fresh() -> Self
+        ensures { λ r. ⌜ r ≡ record { done = 0 } ⌝ }
+    {
+        Progress { done: 0 }
+    }
+
+    // Decodes the next blocks of a plan from their residuals, as many as are granted.
+    pub fn replay(
+        self,
+        still: Still,
+        plan: &[[u32; 4]],
+        residuals: &[i32],
+        plane: &mut [u16],
+        refs: &mut [u16],
+        indices: &mut [u32],
+        fractions: &mut [u32],
+        grant: u32,
+    ) -> Stepped
+        ensures { λ r. ⌜ (r ≡ steppedBy (replayVerdict still (now (plan .entry)) (record { refs = length (now (refs .entry)); indices = length (now (indices .entry)); fractions = length (now (fractions .entry)) }) self (length (now (plane .entry))) (now (residuals .entry))) (now (plan .entry)) self grant) × ((now (plane .exit) ≡ replayAfter still (now (plan .entry)) (record { refs = length (now (refs .entry)); indices = length (now (indices .entry)); fractions = length (now (fractions .entry)) }) self grant (now (residuals .entry)) (now (plane .entry))) × ((r .no ≡ 0 → ⊥) → (now (refs .exit) ≡ now (refs .entry)) × ((now (indices .exit) ≡ now (indices .entry)) × (now (fractions .exit) ≡ now (fractions .entry))))) ⌝ }
+    {
+        let no = replay_no(
+            still,
+            residuals,
+            plane.len(),
+            refs.len(),
+            indices.len(),
+            fractions.len(),
+        );
+        let v = verdict_of(still, plan, self, no);
+        if v.no != 0 {
+            return Stepped {
+                no: v.no,
+                block: v.block,
+                did: 0,
+                next: self,
+            };
+        }
+        let did = doing_of(plan.len(), self.done, grant);
+        replay_blocks(
+            still,
+            plan,
+            residuals,
+            &mut *plane,
+            &mut *refs,
+            &mut *indices,
+            &mut *fractions,
+            self.done as usize,
+            did as usize,
+        );
+        let next = Progress {
+            done: self.done + did,
+        };
+        Stepped {
+            no: 0,
+            block: 0,
+            did,
+            next,
+        }
+    }
 }

@@ -1,71 +1,60 @@
+-- `walk::rebuild_block` meets its contract: the prediction, then the rows. Rests on both.
+use Prim.Native.Nat.{_≤_}
+use lib.ListN.{length}
+use native.Mathlib.Omega.{arith}
+use Rattle.walk.specs.Laws.{rows-in, base-small, rebuilt-is}
 use borrow.Author.Needs.{needs}
 use Rattle.walk.proofs.rebuild_block.Statement.{statement}
 use Rattle.walk.proofs.rebuild_block.Tie as tie
-use Rattle.walk.proofs.rebuild_block.Reads as reads
-use Rattle.walk.proofs.rebuild_block.Lts as lts
-use Rattle.walk.proofs.largest_of.Reads as largest-of-reads
-use Rattle.walk.proofs.predict_block.Reads as predict-block-reads
-use Rattle.walk.proofs.rebuild_rows.Reads as rebuild-rows-reads
 
--- src/lib.rt:181:16
 predict-block-requires : tie.Need-predict-block-requires
 predict-block-requires c κs = search needs
 
--- src/lib.rt:182:13
 cast-n : tie.Need-cast-n
 cast-n c = search needs
 
--- src/lib.rt:183:17
 cast-width : tie.Need-cast-width
 cast-width c = search needs
 
--- src/lib.rt:184:17
 cast-base : tie.Need-cast-base
 cast-base c = search needs
 
--- src/lib.rt:184:16
 mul-base : tie.Need-mul-base
-mul-base c = ?
+mul-base c = let q = c .before .before .before .before .before .before .before .before .before .before .before .before .before .before .before .before .before .before .pre in record { fits = omega (arith, base-small _ _ _ _ _ _ (q .0) (q .1 .0)) }
 
--- src/lib.rt:184:44
 cast-base-2 : tie.Need-cast-base-2
 cast-base-2 c = search needs
 
--- src/lib.rt:184:16
 add-base : tie.Need-add-base
-add-base c = ?
+add-base c = let q = c .before .before .before .before .before .before .before .before .before .before .before .before .before .before .before .before .before .before .before .pre in record { fits = omega (arith, base-small _ _ _ _ _ _ (q .0) (q .1 .0)) }
 
--- src/lib.rt:185:31
 slice-aggregate-rebuild-rows : tie.Need-slice-aggregate-rebuild-rows
 slice-aggregate-rebuild-rows c = search needs
 
--- src/lib.rt:185:69
 largest-of-requires : tie.Need-largest-of-requires
 largest-of-requires c κs = search needs
 
--- src/lib.rt:185:5
 rebuild-rows-requires : tie.Need-rebuild-rows-requires
-rebuild-rows-requires c κs = ?
+rebuild-rows-requires c κs =
+    let q = c .before .before .before .before .before .before .before .before .before .before .before .before .before .before .before .before .before .before .before .before .before .before .pre in
+    let long : 1024 ≤ length (c .before .before .before .before .before .before .before .before .before .before .before .before .before .predict-block .result) = search needs in
+    (rows-in _ _ _ _ _ _ (q .0) (q .1 .0) _ long, q .1 .1)
 
--- src/lib.rt:168:1
 same-length : tie.Need-same-length
 same-length c = search needs
 
--- src/lib.rt:168:1
 same-length-2 : tie.Need-same-length-2
 same-length-2 c = search needs
 
--- src/lib.rt:168:1
 same-length-3 : tie.Need-same-length-3
 same-length-3 c = search needs
 
--- src/lib.rt:168:1
 same-length-4 : tie.Need-same-length-4
 same-length-4 c = search needs
 
--- src/lib.rt:168:1
 returns : tie.Need-returns
-returns c = ?
+returns c =
+    rebuilt-is (c .before .before .before .before .before .before .before .before .before .before .before .before .before .before .before .before .before .before .before .before .before .before .before .before .before .args .s) (c .before .before .before .before .before .before .before .before .before .before .before .before .before .before .before .before .before .before .before .before .before .before .before .before .before .args .b) _ _ _ _ _ _ (c .before .before .before .largest-of .ensures) (c .before .before .before .before .before .before .before .before .before .before .before .before .before .before .before .before .predict-block .ensures) (c .before .before .rebuild-rows .ensures)
 
 pub rebuild-block-spec : {M : Type 1} → statement M
 rebuild-block-spec =
