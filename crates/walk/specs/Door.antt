@@ -63,7 +63,7 @@ replayVerdict s plan t p plane residuals =
     verdictOf s plan p
     (firstFail
     ((1 unless depthOk (s .bits)) ∷ (4 unless pictureOk (pictureOf (s .frame)))
-     ∷ (5 unless whole s plane && whole s (length residuals) && roomy t) ∷ (8 unless every residualOk residuals) ∷ []))
+    ∷ (5 unless whole s plane && whole s (length residuals) && roomy t) ∷ (8 unless every residualOk residuals) ∷ []))
 
 -- the plane after a call of replay
 unfoldable pub replayAfter : Still → List (List ℕ) → Tables → Progress → ℕ → List ℤ → List ℕ → List ℕ
@@ -76,8 +76,8 @@ walkVerdict s plan t p source w =
     verdictOf s plan p
     (firstFail
     ((1 unless depthOk (s .bits)) ∷ (4 unless pictureOk (pictureOf (s .frame)))
-     ∷ (5 unless whole s (length source) && whole s (length (w .work)) && whole s (length (w .residuals)) && roomy t)
-     ∷ (7 unless every (λ v. leb v (largestOf s)) source) ∷ []))
+    ∷ (5 unless whole s (length source) && whole s (length (w .work)) && whole s (length (w .residuals)) && roomy t)
+    ∷ (7 unless every (λ v. leb v (largestOf s)) source) ∷ []))
 
 -- the work plane and the residuals after a call of walk
 unfoldable pub walkAfter : Still → List (List ℕ) → Tables → Progress → ℕ → List ℕ → World → World

@@ -7,13 +7,13 @@ use Prim.Native.Nat.{ℕ, zero, suc, _+_, _-_, _*_, _^_, _≤_, _<_}
 use native.Mathlib.Nat.{mul-le-mul-right, mul-le-mul, eq-or-lt-of-le, le-of-suc-le-suc}
 use native.Mathlib.Numerals.{add-one}
 use native.Mathlib.Omega.{arith}
-use lib.Dec.{leb, eqb}
+use lib.Dec.{leb, ltb, eqb}
 use lib.ListN.{length, getD, replicate, length-replicate}
-use lib.IntN.{ℤ, pos, natAbs, _+ℤ_, _-ℤ_}
+use lib.IntN.{ℤ, pos, negsuc, natAbs, _+ℤ_, _-ℤ_}
 use borrow.Author.Tests.{leb-true, le-leb, eqb-true, eqb-false, eq-eqb, ne-eqb}
 use Rattle.laws.specs.Fill.{block}
 use Rattle.laws.specs.FillLaws.{rows-at}
-use Rattle.laws.specs.Paint.{paint, paint-same}
+use Rattle.laws.specs.Paint.{paint, paint-in, paint-same}
 use Rattle.laws.specs.Chain.{units, units-add}
 use Rattle.laws.specs.Choose.{_unless_, firstFail, served, if-yes, if-no, passed, both-true, worked, unserved}
 use Rattle.h265.specs.Notation.{clipTo}
@@ -39,8 +39,8 @@ use Rattle.plan.specs.Verdict.{Accepted, verdict-good}
 use Rattle.walk.specs.declared.Still.{Still}
 use Rattle.walk.specs.declared.Progress.{Progress}
 use Rattle.walk.specs.declared.Stepped.{Stepped}
-use Rattle.walk.specs.Block.{predictedAt, largestOf, rebuilt, replayUnit}
-use Rattle.walk.specs.Door.{every, whole, Tables, roomy, residualOk, doing, verdictOf, steppedBy, replayVerdict}
+use Rattle.walk.specs.Block.{predictedAt, largestOf, rebuilt, stored, World, walked, replayUnit, walkUnit}
+use Rattle.walk.specs.Door.{every, whole, Tables, roomy, residualOk, doing, verdictOf, steppedBy, replayVerdict, replayAfter, walkVerdict, walkAfter}
 use Rattle.walk.specs.Bridge.{geoOf, geo-fine, bridge}
 use Rattle.walk.specs.Ready.{Small, RowIn, RowsIn, Ready, Lies, Predicted, Sound}
 
@@ -58,12 +58,15 @@ row-in plane pred residuals n base width at r h l =
 abbrev pub openingNo : Still → Bool → ℕ
 openingNo s fit = firstFail ((1 unless depthOk (s .bits)) ∷ (4 unless pictureOk (pictureOf (s .frame))) ∷ (5 unless fit) ∷ [])
 
--- the number of the checks before the plan's
+-- the number of the checks before the plan's: the last is number k
+abbrev pub callNo : Still → Bool → ℕ → Bool → ℕ
+callNo s fit k ok = firstFail ((1 unless depthOk (s .bits)) ∷ (4 unless pictureOk (pictureOf (s .frame))) ∷ (5 unless fit) ∷ (k unless ok) ∷ [])
+
+abbrev pub replayFits : Still → Tables → ℕ → ℕ → Bool
+replayFits s t plane residuals = whole s plane && whole s residuals && roomy t
+
 abbrev pub replayNo : Still → Tables → ℕ → List ℤ → ℕ
-replayNo s t plane residuals =
-    firstFail
-    ((1 unless depthOk (s .bits)) ∷ (4 unless pictureOk (pictureOf (s .frame)))
-     ∷ (5 unless whole s plane && whole s (length residuals) && roomy t) ∷ (8 unless every residualOk residuals) ∷ [])
+replayNo s t plane residuals = callNo s (replayFits s t plane (length residuals)) 8 (every residualOk residuals)
 
 -- a block that is ready is predicted
 module _ (s : Still) (b : Block) (plane : List ℕ) (t : Tables) (h : Ready s b (length plane) t) where
@@ -265,24 +268,27 @@ module _ {A : Type 0} (p : A → Bool) (z : A) where
   every-at (x ∷ l) e zero h = both-true (p x) (every p l) e .0
   every-at (x ∷ l) e (suc i) h = every-at l (both-true (p x) (every p l) e .1) i (omega arith)
 
--- the checks in their order: 1, 4, 5, and a last one
-abbrev fourOf : Bool → Bool → Bool → ℕ → Bool → ℕ
-fourOf a b c k d = firstFail ((1 unless a) ∷ (4 unless b) ∷ (5 unless c) ∷ (k unless d) ∷ [])
+-- the checks before the plan's stop at 5, or go on to the last one
+stops : (a b c : Bool) (k : ℕ) (d : Bool) → (firstFail ((1 unless a) ∷ (4 unless b) ∷ (5 unless c) ∷ []) ≡ 0 → ⊥)
+    → firstFail ((1 unless a) ∷ (4 unless b) ∷ (5 unless c) ∷ []) ≡ firstFail ((1 unless a) ∷ (4 unless b) ∷ (5 unless c) ∷ (k unless d) ∷ [])
+stops true true true k d h = absurd (h refl)
+stops true true false k d h = refl
+stops true false c k d h = refl
+stops false b c k d h = refl
 
-abbrev threeOf : Bool → Bool → Bool → ℕ
-threeOf a b c = firstFail ((1 unless a) ∷ (4 unless b) ∷ (5 unless c) ∷ [])
+goes : (a b c : Bool) (k : ℕ) (d e : Bool) → firstFail ((1 unless a) ∷ (4 unless b) ∷ (5 unless c) ∷ []) ≡ 0 → d ≡ e
+    → cond e 0 k ≡ firstFail ((1 unless a) ∷ (4 unless b) ∷ (5 unless c) ∷ (k unless d) ∷ [])
+goes true true true k d e h q = ap (λ (x : Bool). cond x 0 k) (sym q)
+goes true true false k d e h q = absurd (omega arith)
+goes true false c k d e h q = absurd (omega arith)
+goes false b c k d e h q = absurd (omega arith)
 
-pub opening-stops : (a b c : Bool) (k : ℕ) (d : Bool) → (threeOf a b c ≡ 0 → ⊥) → threeOf a b c ≡ fourOf a b c k d
-opening-stops true true true k d h = absurd (h refl)
-opening-stops true true false k d h = refl
-opening-stops true false c k d h = refl
-opening-stops false b c k d h = refl
+module _ (s : Still) (fit : Bool) (k : ℕ) (ok : Bool) where
+  pub opening-stops : (openingNo s fit ≡ 0 → ⊥) → openingNo s fit ≡ callNo s fit k ok
+  opening-stops h = stops (depthOk (s .bits)) (pictureOk (pictureOf (s .frame))) fit k ok h
 
-pub opening-goes : (a b c : Bool) (k : ℕ) (d e : Bool) → threeOf a b c ≡ 0 → d ≡ e → cond e 0 k ≡ fourOf a b c k d
-opening-goes true true true k d e h q = ap (λ (x : Bool). cond x 0 k) (sym q)
-opening-goes true true false k d e h q = absurd (omega arith)
-opening-goes true false c k d e h q = absurd (omega arith)
-opening-goes false b c k d e h q = absurd (omega arith)
+  pub opening-goes : (e : Bool) → openingNo s fit ≡ 0 → ok ≡ e → cond e 0 k ≡ callNo s fit k ok
+  opening-goes e h q = goes (depthOk (s .bits)) (pictureOk (pictureOf (s .frame))) fit k ok e h q
 
 -- the verdict, check by check
 module _ (s : Still) (plan : List (List ℕ)) (p : Progress) (early : ℕ) where
@@ -349,8 +355,8 @@ replay-sound s plan t p plane v e =
     )
 
 -- number 0 of the checks before the plan's: the picture is good
-pub replay-picture : (s : Still) (t : Tables) (plane : ℕ) (v : List ℤ) → replayNo s t plane v ≡ 0 → pictureOk (pictureOf (s .frame)) ≡ true
-replay-picture s t plane v e = passed (pictureOk (pictureOf (s .frame))) _ 4 (omega arith) (passed (depthOk (s .bits)) _ 1 (omega arith) e .1) .0
+pub good-call : (s : Still) (fit : Bool) (k : ℕ) (ok : Bool) → callNo s fit k ok ≡ 0 → pictureOk (pictureOf (s .frame)) ≡ true
+good-call s fit k ok e = passed (pictureOk (pictureOf (s .frame))) _ 4 (omega arith) (passed (depthOk (s .bits)) _ 1 (omega arith) e .1) .0
 
 -- what a call gives
 pub refused-is : (v w : Verdict) (plan : List (List ℕ)) (p : Progress) (grant : ℕ) → v ≡ w → (v .no ≡ 0 → ⊥) → record { no = v .no; block = v .block; did = 0; next = p } ≡ steppedBy w plan p grant
@@ -361,3 +367,112 @@ pub stepped-is : (w : Verdict) (plan : List (List ℕ)) (p : Progress) (grant di
     → record { no = 0; block = 0; did = did; next = record { done = p .done + did } } ≡ steppedBy w plan p grant
 stepped-is w plan p grant did z e =
     ap (λ (k : ℕ). record { no = 0; block = 0; did = k; next = record { done = p .done + k } }) e ∙ worked (w .no) _ _ z
+
+-- the plane after a call
+module _ (s : Still) (plan : List (List ℕ)) (t : Tables) (p : Progress) (grant : ℕ) (v : List ℤ) (d : List ℕ) where
+  pub replay-kept : (replayVerdict s plan t p (length d) v .no ≡ 0 → ⊥) → d ≡ replayAfter s plan t p grant v d
+  unfolding replayAfter
+  replay-kept h = unserved (replayVerdict s plan t p (length d) v .no) _ _ h
+
+  pub replay-done : (did : ℕ) (e : List ℕ) → replayVerdict s plan t p (length d) v .no ≡ 0 → did ≡ doing plan p grant → e ≡ units (replayUnit s (planOf plan) v) (p .done) did d → e ≡ replayAfter s plan t p grant v d
+  unfolding replayAfter
+  replay-done did e z q h = h ∙ ap (λ (k : ℕ). units (replayUnit s (planOf plan) v) (p .done) k d) q ∙ worked (replayVerdict s plan t p (length d) v .no) _ _ z
+
+  pub replay-verdict : (w : Verdict) (early : ℕ) → early ≡ replayNo s t (length d) v → w ≡ verdictOf s plan p early → w ≡ replayVerdict s plan t p (length d) v
+  unfolding replayVerdict
+  replay-verdict w early e q = q ∙ ap (verdictOf s plan p) e
+
+-- a difference of two samples is small
+pub small-diff : (o p : ℕ) → o < 2 ^ 16 → p < 2 ^ 16 → natAbs (pos o -ℤ pos p) ≤ 65535
+small-diff o zero h k = omega arith
+small-diff o (suc p) h k = go (ltb o (suc p)) refl
+  where
+    go : (t : Bool) → ltb o (suc p) ≡ t → natAbs (cond t (negsuc (suc p - suc o)) (pos (o - suc p))) ≤ 65535
+    go true e = omega arith
+    go false e = omega arith
+
+-- walk: the source less the prediction, and the sample that it gives back
+abbrev pub lessAt : List ℕ → List ℕ → ℕ → ℕ → ℤ
+lessAt source pred i j = pos (getD source i 0) -ℤ pos (getD pred j 0)
+
+abbrev pub backAt : ℕ → List ℕ → List ℕ → ℕ → ℕ → ℕ
+backAt largest source pred i j = clipTo largest (pos (getD pred j 0) +ℤ lessAt source pred i j)
+
+-- a block of the walk
+module _ (s : Still) (b : Block) (at largest : ℕ) (source work work′ pred : List ℕ) (v v′ : List ℤ)
+    (most : largest ≡ 2 ^ s .bits - 1) (holds : Predicted s b work pred) (room : at + b .side * b .side ≤ length v)
+    (is-resid : v′ ≡ paint at (b .side) (b .side) (λ (r c : ℕ). lessAt source pred (b .row * s .frame .width + b .col + r * s .frame .width + c) (r * b .side + c)) (b .side) v)
+    (is-work : work′ ≡ paint (b .row * s .frame .width + b .col) (s .frame .width) (b .side) (λ (r c : ℕ). backAt largest source pred (b .row * s .frame .width + b .col + r * s .frame .width + c) (r * b .side + c)) (b .side) work)
+  where
+    stored-is : v′ ≡ stored s source b at work v
+    unfolding stored
+    stored-is = is-resid ∙ paint-same _ _ _ _ _ (b .side) v (λ r c l m. ap₂ (λ (i p : ℕ). pos (getD source i 0) -ℤ pos p) (omega arith) (holds r c l m))
+
+    read-back : (r c : ℕ) → r < b .side → c < b .side → getD v′ (at + r * b .side + c) (pos 0) ≡ lessAt source pred (b .row * s .frame .width + b .col + r * s .frame .width + c) (r * b .side + c)
+    read-back r c l m =
+        let k : (r + 1) * b .side ≤ b .side * b .side = mul-le-mul-right (b .side) (omega arith) in
+        ap (λ (x : List ℤ). getD x (at + r * b .side + c) (pos 0)) is-resid ∙ paint-in at (b .side) (b .side) _ (b .side) v r c (pos 0) (omega arith) l m (omega (arith, room, k))
+
+    back-is : work′ ≡ rebuilt s b at v′ work
+    unfolding rebuilt
+    back-is =
+        is-work
+        ∙ paint-same _ _ _ _ _ (b .side) work
+        (λ r c l m.
+        let z = lessAt source pred (b .row * s .frame .width + b .col + r * s .frame .width + c) (r * b .side + c) in
+        restored-at (largestOf s) _ _ z (getD v′ (at + r * b .side + c) (pos 0)) (ap (λ (k : ℕ). clipTo k (pos (getD pred (r * b .side + c) 0) +ℤ z)) most) (holds r c l m) (sym (read-back r c l m)))
+
+    pub walked-is : _≡_ {A = World} (record { work = work′; residuals = v′ }) (walked s source b at (record { work = work; residuals = v }))
+    unfolding walked
+    walked-is = ap₂ (λ (x : List ℕ) (y : List ℤ). record { work = x; residuals = y }) (back-is ∙ ap (λ (y : List ℤ). rebuilt s b at y work) stored-is) stored-is
+
+pub walk-more : (s : Still) (plan : ℕ → Block) (source : List ℕ) (from k at : ℕ) (b : Block) (d e f : World) → from ≤ k → at ≡ place plan k → b ≡ plan k
+    → e ≡ units (walkUnit s plan source) from (k - from) d → f ≡ walked s source b at e → f ≡ units (walkUnit s plan source) from (k + 1 - from) d
+walk-more s plan source from k at b d e f l p q u r =
+    r ∙ ap₂ (λ (x : Block) (a : ℕ). walked s source x a e) q p ∙ units-more (walkUnit s plan source) from k d e l u
+
+abbrev pub walkFits : Still → Tables → ℕ → ℕ → ℕ → Bool
+walkFits s t source work residuals = whole s source && whole s work && whole s residuals && roomy t
+
+abbrev pub walkNo : Still → Tables → List ℕ → ℕ → ℕ → ℕ
+walkNo s t source work residuals = callNo s (walkFits s t (length source) work residuals) 7 (every (λ v. leb v (largestOf s)) source)
+
+-- number 0 of 1, 4, 5: the depth is one
+pub opening-depth : (s : Still) (fit : Bool) → openingNo s fit ≡ 0 → Depth (s .bits)
+opening-depth s fit e = depth-of (s .bits) (passed (depthOk (s .bits)) _ 1 (omega arith) e .0)
+
+-- a call of walk that is served
+pub walk-sound : (s : Still) (plan : List (List ℕ)) (t : Tables) (p : Progress) (source : List ℕ) (w : World) → walkVerdict s plan t p source w .no ≡ 0
+    → Sound s plan (length (w .work)) (length (w .residuals)) t × ((length source ≡ length (w .work)) × (p .done ≤ length plan))
+unfolding walkVerdict
+walk-sound s plan t p source w e =
+    let z = verdict-zero s plan p (walkNo s t source (length (w .work)) (length (w .residuals))) e in
+    let a = passed (depthOk (s .bits)) _ 1 (omega arith) (z .0) in
+    let b = passed (pictureOk (pictureOf (s .frame))) _ 4 (omega arith) (a .1) in
+    let c = passed (walkFits s t (length source) (length (w .work)) (length (w .residuals))) _ 5 (omega arith) (b .1) in
+    let x = both-true (whole s (length source) && whole s (length (w .work)) && whole s (length (w .residuals))) (roomy t) (c .0) in
+    let y = both-true (whole s (length source) && whole s (length (w .work))) (whole s (length (w .residuals))) (x .0) in
+    let u = both-true (whole s (length source)) (whole s (length (w .work))) (y .0) in (
+      record {
+        depth = depth-of (s .bits) (a .0);
+        accepted = verdict-accepts s plan p 0 (b .0) (z .1 .0);
+        plane-len = eqb-true (length (w .work)) _ (u .1);
+        resid-len = eqb-true (length (w .residuals)) _ (y .1);
+        tables = x .1;
+      },
+      (eqb-true (length source) _ (u .0) ∙ sym (eqb-true (length (w .work)) _ (u .1)), z .1 .1),
+    )
+
+-- the work plane and the residuals after a call
+module _ (s : Still) (plan : List (List ℕ)) (t : Tables) (p : Progress) (grant : ℕ) (source : List ℕ) (w : World) where
+  pub walk-kept : (walkVerdict s plan t p source w .no ≡ 0 → ⊥) → w ≡ walkAfter s plan t p grant source w
+  unfolding walkAfter
+  walk-kept h = unserved (walkVerdict s plan t p source w .no) _ _ h
+
+  pub walk-done : (did : ℕ) (u : World) → walkVerdict s plan t p source w .no ≡ 0 → did ≡ doing plan p grant → u ≡ units (walkUnit s (planOf plan) source) (p .done) did w → u ≡ walkAfter s plan t p grant source w
+  unfolding walkAfter
+  walk-done did u z q h = h ∙ ap (λ (k : ℕ). units (walkUnit s (planOf plan) source) (p .done) k w) q ∙ worked (walkVerdict s plan t p source w .no) _ _ z
+
+  pub walk-verdict : (v : Verdict) (early : ℕ) → early ≡ walkNo s t source (length (w .work)) (length (w .residuals)) → v ≡ verdictOf s plan p early → v ≡ walkVerdict s plan t p source w
+  unfolding walkVerdict
+  walk-verdict v early e q = q ∙ ap (verdictOf s plan p) e

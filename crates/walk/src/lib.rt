@@ -15,11 +15,11 @@ ghost use Rattle.h265.specs.Notation.{clipTo};
 ghost use Rattle.domain.specs.Facts.{Depth};
 ghost use Rattle.order.specs.Order.{pictureOk};
 ghost use Rattle.plan.specs.Plan.{pictureOf, planOf, place};
-ghost use Rattle.walk.specs.Block.{rebuilt, replayUnit};
-ghost use Rattle.walk.specs.Door.{every, whole, roomy, doing, residualOk, verdictOf, steppedBy, replayVerdict, replayAfter};
+ghost use Rattle.walk.specs.Block.{rebuilt, walked, replayUnit, walkUnit};
+ghost use Rattle.walk.specs.Door.{every, whole, roomy, doing, residualOk, verdictOf, steppedBy, replayVerdict, replayAfter, walkVerdict, walkAfter};
 ghost use Rattle.walk.specs.Bridge.{geoOf};
 ghost use Rattle.walk.specs.Ready.{Small, RowIn, RowsIn, Ready, Lies, Predicted, Sound};
-ghost use Rattle.walk.specs.Laws.{openingNo, replayNo};
+ghost use Rattle.walk.specs.Laws.{openingNo, replayNo, lessAt, backAt, walkNo};
 use fmt::LumaCol;
 use fmt::LumaRow;
 use order::Picture;
@@ -182,7 +182,16 @@ fn rebuild_block(
     let n = b.side as usize;
     let width = s.frame.width as usize;
     let base = (b.row as usize) * width + (b.col as usize);
-    rebuild_rows(&mut *plane, &pred, residuals, n, base, width, at, largest_of(s.bits));
+    rebuild_rows(
+        &mut *plane,
+        &pred,
+        residuals,
+        n,
+        base,
+        width,
+        at,
+        largest_of(s.bits),
+    );
 }
 
 // Block i of a plan.
@@ -354,6 +363,178 @@ fn doing_of(count: usize, done: u32, grant: u32) -> u32
     helpers::min(grant, (count as u32) - done)
 }
 
+// A residual, and that it is in range.
+fn less(o: u16, p: u16) -> i32
+    ensures { λ r. ⌜ (r ≡ pos o -ℤ pos p) × (natAbs r ≤ 65535) ⌝ }
+{
+    (o as i32) - (p as i32)
+}
+
+// A row of the walk: residuals stored from `at` on, samples restored from base on.
+fn walk_row(
+    work: &mut [u16],
+    residuals: &mut [i32],
+    source: &[u16],
+    pred: &[u16],
+    n: usize,
+    base: usize,
+    from: usize,
+    at: usize,
+    largest: u16,
+)
+    requires { ⌜ RowIn (length (now work)) (length (now pred)) (length (now residuals)) n base from at × (length (now source) ≡ length (now work)) ⌝ }
+    ensures { λ _. ⌜ (now (residuals .exit) ≡ run (λ (c : ℕ). lessAt (now (source .entry)) (now (pred .entry)) (base + c) (from + c)) at n (now (residuals .entry))) × (now (work .exit) ≡ run (λ (c : ℕ). backAt largest (now (source .entry)) (now (pred .entry)) (base + c) (from + c)) base n (now (work .entry))) ⌝ }
+{
+    let mut c = 0;
+    while c < n {
+        let p = pred[from + c];
+        let d = less(source[base + c], p);
+        residuals[at + c] = d;
+        work[base + c] = restored(p, d, largest);
+        c += 1;
+    }
+}
+
+// All rows of a block of the walk.
+fn walk_rows(
+    work: &mut [u16],
+    residuals: &mut [i32],
+    source: &[u16],
+    pred: &[u16],
+    n: usize,
+    base: usize,
+    width: usize,
+    at: usize,
+    largest: u16,
+)
+    requires { ⌜ RowsIn (length (now work)) (length (now pred)) (length (now residuals)) n base width at × (length (now source) ≡ length (now work)) ⌝ }
+    ensures { λ _. ⌜ (now (residuals .exit) ≡ paint at n n (λ (r c : ℕ). lessAt (now (source .entry)) (now (pred .entry)) (base + r * width + c) (r * n + c)) n (now (residuals .entry))) × (now (work .exit) ≡ paint base width n (λ (r c : ℕ). backAt largest (now (source .entry)) (now (pred .entry)) (base + r * width + c) (r * n + c)) n (now (work .entry))) ⌝ }
+{
+    let mut r = 0;
+    while r < n {
+        walk_row(
+            work,
+            residuals,
+            source,
+            pred,
+            n,
+            base + r * width,
+            r * n,
+            at + r * n,
+            largest,
+        );
+        r += 1;
+    }
+}
+
+// A block of the walk.
+fn walk_block(
+    s: Still,
+    b: Block,
+    at: usize,
+    source: &[u16],
+    work: &mut [u16],
+    residuals: &mut [i32],
+    refs: &mut [u16],
+    indices: &mut [u32],
+    fractions: &mut [u32],
+)
+    requires { ⌜ Ready s b (length (now work)) (record { refs = length (now refs); indices = length (now indices); fractions = length (now fractions) }) × (Lies s b (length (now residuals)) at × (length (now source) ≡ length (now work))) ⌝ }
+    ensures { λ _. ⌜ record { work = now (work .exit); residuals = now (residuals .exit) } ≡ walked s (now (source .entry)) b at (record { work = now (work .entry); residuals = now (residuals .entry) }) ⌝ }
+{
+    let pred = predict_block(s, b, work, &mut *refs, &mut *indices, &mut *fractions);
+    let n = b.side as usize;
+    let width = s.frame.width as usize;
+    let base = (b.row as usize) * width + (b.col as usize);
+    walk_rows(
+        &mut *work,
+        &mut *residuals,
+        source,
+        &pred,
+        n,
+        base,
+        width,
+        at,
+        largest_of(s.bits),
+    );
+}
+
+// `did` blocks of the walk from block `from` on.
+fn walk_blocks(
+    s: Still,
+    plan: &[[u32; 4]],
+    source: &[u16],
+    work: &mut [u16],
+    residuals: &mut [i32],
+    refs: &mut [u16],
+    indices: &mut [u32],
+    fractions: &mut [u32],
+    from: usize,
+    did: usize,
+)
+    requires { ⌜ Sound s (now plan) (length (now work)) (length (now residuals)) (record { refs = length (now refs); indices = length (now indices); fractions = length (now fractions) }) × ((length (now source) ≡ length (now work)) × (from + did ≤ length (now plan))) ⌝ }
+    ensures { λ _. ⌜ record { work = now (work .exit); residuals = now (residuals .exit) } ≡ units (walkUnit s (planOf (now (plan .entry))) (now (source .entry))) from did (record { work = now (work .entry); residuals = now (residuals .entry) }) ⌝ }
+{
+    let upto = from + did;
+    let mut at = place_of(plan, from);
+    let mut k = from;
+    while k < upto {
+        let b = block_at(plan, k);
+        walk_block(
+            s,
+            b,
+            at,
+            source,
+            &mut *work,
+            &mut *residuals,
+            &mut *refs,
+            &mut *indices,
+            &mut *fractions,
+        );
+        let n = b.side as usize;
+        at += n * n;
+        k += 1;
+    }
+}
+
+// Number 7: whether every source sample is one of the depth's.
+fn samples_ok(source: &[u16], largest: u16) -> bool
+    ensures { λ b. ⌜ b ≡ every (λ (v : ℕ). leb v largest) (now (source .entry)) ⌝ }
+{
+    let count = source.len();
+    let mut ok = true;
+    let mut i = 0;
+    while i < count {
+        ok = ok & (source[i] <= largest);
+        i += 1;
+    }
+    ok
+}
+
+// The number of the checks before the plan's: 1, 4, 5, 7.
+fn walk_no(
+    s: Still,
+    source: &[u16],
+    work: usize,
+    residuals: usize,
+    refs: usize,
+    indices: usize,
+    fractions: usize,
+) -> u32
+    ensures { λ r. ⌜ r ≡ walkNo s (record { refs = refs; indices = indices; fractions = fractions }) (now (source .entry)) work residuals ⌝ }
+{
+    let planes = is_whole(s, source.len()) & is_whole(s, work) & is_whole(s, residuals);
+    let no = opening_no(s, planes & is_roomy(refs, indices, fractions));
+    if no != 0 {
+        return no;
+    }
+    if samples_ok(source, largest_of(s.bits)) {
+        0
+    } else {
+        7
+    }
+}
+
 impl Progress {
     // No block is done.
     pub fn fresh() -> Self
@@ -399,6 +580,63 @@ impl Progress {
             plan,
             residuals,
             &mut *plane,
+            &mut *refs,
+            &mut *indices,
+            &mut *fractions,
+            self.done as usize,
+            did as usize,
+        );
+        let next = Progress {
+            done: self.done + did,
+        };
+        Stepped {
+            no: 0,
+            block: 0,
+            did,
+            next,
+        }
+    }
+
+    // Stores the residuals of the next blocks of a plan, as many as are granted, and reconstructs them in the work plane.
+    pub fn walk(
+        self,
+        still: Still,
+        plan: &[[u32; 4]],
+        source: &[u16],
+        work: &mut [u16],
+        residuals: &mut [i32],
+        refs: &mut [u16],
+        indices: &mut [u32],
+        fractions: &mut [u32],
+        grant: u32,
+    ) -> Stepped
+        ensures { λ r. ⌜ (r ≡ steppedBy (walkVerdict still (now (plan .entry)) (record { refs = length (now (refs .entry)); indices = length (now (indices .entry)); fractions = length (now (fractions .entry)) }) self (now (source .entry)) (record { work = now (work .entry); residuals = now (residuals .entry) })) (now (plan .entry)) self grant) × ((record { work = now (work .exit); residuals = now (residuals .exit) } ≡ walkAfter still (now (plan .entry)) (record { refs = length (now (refs .entry)); indices = length (now (indices .entry)); fractions = length (now (fractions .entry)) }) self grant (now (source .entry)) (record { work = now (work .entry); residuals = now (residuals .entry) })) × ((r .no ≡ 0 → ⊥) → (now (refs .exit) ≡ now (refs .entry)) × ((now (indices .exit) ≡ now (indices .entry)) × (now (fractions .exit) ≡ now (fractions .entry))))) ⌝ }
+    {
+        let no = walk_no(
+            still,
+            source,
+            work.len(),
+            residuals.len(),
+            refs.len(),
+            indices.len(),
+            fractions.len(),
+        );
+        let v = verdict_of(still, plan, self, no);
+        if v.no != 0 {
+            return Stepped {
+                no: v.no,
+                block: v.block,
+                did: 0,
+                next: self,
+            };
+        }
+        let did = doing_of(plan.len(), self.done, grant);
+        walk_blocks(
+            still,
+            plan,
+            source,
+            &mut *work,
+            &mut *residuals,
             &mut *refs,
             &mut *indices,
             &mut *fractions,

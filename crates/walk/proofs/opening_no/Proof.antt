@@ -18,10 +18,10 @@ returns-2 : tie.Need-returns-2
 returns-2 c = rw (sym (c .before .before .before .depth-ok .ensures) ∙ not-false _ (c .before .before .if1 .left), sym (c .before .picture-ok .ensures) ∙ not-true _ (c .if2 .taken))
 
 returns-3 : tie.Need-returns-3
-returns-3 c = rw (sym (c .before .before .before .before .depth-ok .ensures) ∙ not-false _ (c .before .before .before .if1 .left), sym (c .before .before .picture-ok .ensures) ∙ not-false _ (c .before .if2 .left), not-true _ (c .if3 .taken))
+returns-3 c = rw (sym (c .before .before .before .before .depth-ok .ensures) ∙ not-false _ (c .before .before .before .if1 .left), sym (c .before .before .picture-ok .ensures) ∙ not-false _ (c .before .if2 .left), not-true (c .before .before .before .before .before .args .fit) (c .if3 .taken))
 
 returns-4 : tie.Need-returns-4
-returns-4 c = rw (sym (c .before .before .before .before .depth-ok .ensures) ∙ not-false _ (c .before .before .before .if1 .left), sym (c .before .before .picture-ok .ensures) ∙ not-false _ (c .before .if2 .left), not-false _ (c .if3 .left))
+returns-4 c = rw (sym (c .before .before .before .before .depth-ok .ensures) ∙ not-false _ (c .before .before .before .if1 .left), sym (c .before .before .picture-ok .ensures) ∙ not-false _ (c .before .if2 .left), not-false (c .before .before .before .before .before .args .fit) (c .if3 .left))
 
 pub opening-no-spec : {M : Type 1} → statement M
 opening-no-spec = tie.close (tie.spec

@@ -54,7 +54,7 @@ same-length-4 c = search needs
 
 returns : tie.Need-returns
 returns c =
-    rebuilt-is (c .before .before .before .before .before .before .before .before .before .before .before .before .before .before .before .before .before .before .before .before .before .before .before .before .before .args .s) (c .before .before .before .before .before .before .before .before .before .before .before .before .before .before .before .before .before .before .before .before .before .before .before .before .before .args .b) _ _ _ _ _ _ (c .before .before .before .largest-of .ensures) (c .before .before .before .before .before .before .before .before .before .before .before .before .before .before .before .before .predict-block .ensures) (c .before .before .rebuild-rows .ensures)
+    rebuilt-is (c .before .before .before .before .before .before .before .before .before .before .before .before .before .before .before .before .before .before .before .before .before .before .before .before .before .args .s) (c .before .before .before .before .before .before .before .before .before .before .before .before .before .before .before .before .before .before .before .before .before .before .before .before .before .args .b) _ _ (c .before .before .before .before .before .before .before .before .before .before .before .before .before .before .before .before .predict-block .result) _ _ (c .before .before .before .before .before .before .before .before .before .before .before .before .before .before .before .before .before .before .before .before .before .before .before .before .before .args .residuals .now) (c .before .before .before .largest-of .ensures) (c .before .before .before .before .before .before .before .before .before .before .before .before .before .before .before .before .predict-block .ensures) (c .before .before .rebuild-rows .ensures)
 
 pub rebuild-block-spec : {M : Type 1} → statement M
 rebuild-block-spec =
