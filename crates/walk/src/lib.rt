@@ -363,6 +363,32 @@ fn doing_of(count: usize, done: u32, grant: u32) -> u32
     helpers::min(grant, (count as u32) - done)
 }
 
+// What a refused call gives: the record as it was.
+fn refusal(v: Verdict, p: Progress) -> Stepped
+    ensures { λ r. ⌜ r ≡ record { no = v .no; block = v .block; did = 0; next = p } ⌝ }
+{
+    Stepped {
+        no: v.no,
+        block: v.block,
+        did: 0,
+        next: p,
+    }
+}
+
+// What a served call gives: the record's successor.
+fn step_of(p: Progress, did: u32) -> Stepped
+    requires { ⌜ p .done + did ≤ 16777216 ⌝ }
+    ensures { λ r. ⌜ r ≡ record { no = 0; block = 0; did = did; next = record { done = p .done + did } } ⌝ }
+{
+    let next = Progress { done: p.done + did };
+    Stepped {
+        no: 0,
+        block: 0,
+        did,
+        next,
+    }
+}
+
 // A residual, and that it is in range.
 fn less(o: u16, p: u16) -> i32
     ensures { λ r. ⌜ (r ≡ pos o -ℤ pos p) × (natAbs r ≤ 65535) ⌝ }
@@ -567,12 +593,7 @@ impl Progress {
         );
         let v = verdict_of(still, plan, self, no);
         if v.no != 0 {
-            return Stepped {
-                no: v.no,
-                block: v.block,
-                did: 0,
-                next: self,
-            };
+            return refusal(v, self);
         }
         let did = doing_of(plan.len(), self.done, grant);
         replay_blocks(
@@ -586,15 +607,7 @@ impl Progress {
             self.done as usize,
             did as usize,
         );
-        let next = Progress {
-            done: self.done + did,
-        };
-        Stepped {
-            no: 0,
-            block: 0,
-            did,
-            next,
-        }
+        step_of(self, did)
     }
 
     // Stores the residuals of the next blocks of a plan, as many as are granted, and reconstructs them in the work plane.
@@ -623,12 +636,7 @@ impl Progress {
         );
         let v = verdict_of(still, plan, self, no);
         if v.no != 0 {
-            return Stepped {
-                no: v.no,
-                block: v.block,
-                did: 0,
-                next: self,
-            };
+            return refusal(v, self);
         }
         let did = doing_of(plan.len(), self.done, grant);
         walk_blocks(
@@ -643,14 +651,6 @@ impl Progress {
             self.done as usize,
             did as usize,
         );
-        let next = Progress {
-            done: self.done + did,
-        };
-        Stepped {
-            no: 0,
-            block: 0,
-            did,
-            next,
-        }
+        step_of(self, did)
     }
 }

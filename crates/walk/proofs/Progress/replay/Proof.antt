@@ -3,6 +3,7 @@ use mathlib.Core.Path.{refl, sym, ap, _∙_}
 use native.Mathlib.Omega.{arith}
 use lib.ListN.{length}
 use Rattle.plan.specs.declared.Verdict.{Verdict}
+use Rattle.walk.specs.declared.Stepped.{Stepped}
 use Rattle.walk.specs.Door.{every, residualOk, replayVerdict}
 use Rattle.walk.specs.Laws.{replayFits, good-call, replay-verdict, replay-sound, replay-kept, replay-done, count-small, refused-is, stepped-is}
 use borrow.Author.Needs.{needs}
@@ -17,12 +18,15 @@ verdict-of-requires c κs =
     let a = c .before .before .before .before .before .args in
     λ z. good-call (a .still) (replayFits (a .still) (record { refs = length (a .refs .now); indices = length (a .indices .now); fractions = length (a .fractions .now) }) (length (a .plane .now)) (length (a .residuals .now))) 8 (every residualOk (a .residuals .now)) (sym (c .replay-no .ensures) ∙ z)
 
+refusal-requires : tie.Need-refusal-requires
+refusal-requires c κs = search needs
+
 returns : tie.Need-returns
 returns c =
-    let a = c .before .before .before .before .before .before .before .before .args in
-    let w = replay-verdict (a .still) (a .plan .now) (record { refs = length (a .refs .now); indices = length (a .indices .now); fractions = length (a .fractions .now) }) (a .self) (a .grant) (a .residuals .now) (a .plane .now) (c .before .before .verdict-of .result) (c .before .before .before .replay-no .result) (c .before .before .before .replay-no .ensures) (c .before .before .verdict-of .ensures) in
+    let a = c .before .before .before .before .before .before .before .before .before .args in
+    let w = replay-verdict (a .still) (a .plan .now) (record { refs = length (a .refs .now); indices = length (a .indices .now); fractions = length (a .fractions .now) }) (a .self) (a .grant) (a .residuals .now) (a .plane .now) (c .before .before .before .verdict-of .result) (c .before .before .before .before .replay-no .result) (c .before .before .before .before .replay-no .ensures) (c .before .before .before .verdict-of .ensures) in
     let n = ap (λ (v : Verdict). v .no) w in
-    (refused-is (c .before .before .verdict-of .result) _ (a .plan .now) (a .self) (a .grant) w (c .if1 .taken), (replay-kept (a .still) (a .plan .now) (record { refs = length (a .refs .now); indices = length (a .indices .now); fractions = length (a .fractions .now) }) (a .self) (a .grant) (a .residuals .now) (a .plane .now) (λ e. c .if1 .taken (n ∙ e)), λ z. (refl, (refl, refl))))
+    (c .refusal .ensures ∙ refused-is (c .before .before .before .verdict-of .result) _ (a .plan .now) (a .self) (a .grant) w (c .before .if1 .taken), (replay-kept (a .still) (a .plan .now) (record { refs = length (a .refs .now); indices = length (a .indices .now); fractions = length (a .fractions .now) }) (a .self) (a .grant) (a .residuals .now) (a .plane .now) (λ e. c .before .if1 .taken (n ∙ e)), λ z. (refl, (refl, refl))))
 
 doing-of-requires : tie.Need-doing-of-requires
 doing-of-requires c κs =
@@ -48,14 +52,14 @@ replay-blocks-requires c κs =
     let q = replay-sound (a .still) (a .plan .now) (record { refs = length (a .refs .now); indices = length (a .indices .now); fractions = length (a .fractions .now) }) (a .self) (length (a .plane .now)) (a .residuals .now) z in
     (q .0, (q .1 .0, omega (arith, c .before .before .before .before .before .doing-of .ensures, q .1 .1)))
 
-add-t28 : tie.Need-add-t28
-add-t28 c =
-    let a = c .before .before .before .before .before .before .before .before .before .before .before .before .before .before .before .before .before .before .before .before .before .before .before .before .args in
-    let w = replay-verdict (a .still) (a .plan .now) (record { refs = length (a .refs .now); indices = length (a .indices .now); fractions = length (a .fractions .now) }) (a .self) (a .grant) (a .residuals .now) (a .plane .now) (c .before .before .before .before .before .before .before .before .before .before .before .before .before .before .before .before .before .before .verdict-of .result) (c .before .before .before .before .before .before .before .before .before .before .before .before .before .before .before .before .before .before .before .replay-no .result) (c .before .before .before .before .before .before .before .before .before .before .before .before .before .before .before .before .before .before .before .replay-no .ensures) (c .before .before .before .before .before .before .before .before .before .before .before .before .before .before .before .before .before .before .verdict-of .ensures) in
+step-of-requires : tie.Need-step-of-requires
+step-of-requires c κs =
+    let a = c .before .before .before .before .before .before .before .before .before .before .before .before .before .before .before .before .before .before .before .before .before .before .before .args in
+    let w = replay-verdict (a .still) (a .plan .now) (record { refs = length (a .refs .now); indices = length (a .indices .now); fractions = length (a .fractions .now) }) (a .self) (a .grant) (a .residuals .now) (a .plane .now) (c .before .before .before .before .before .before .before .before .before .before .before .before .before .before .before .before .before .verdict-of .result) (c .before .before .before .before .before .before .before .before .before .before .before .before .before .before .before .before .before .before .replay-no .result) (c .before .before .before .before .before .before .before .before .before .before .before .before .before .before .before .before .before .before .replay-no .ensures) (c .before .before .before .before .before .before .before .before .before .before .before .before .before .before .before .before .before .verdict-of .ensures) in
     let n = ap (λ (v : Verdict). v .no) w in
-    let z = sym n ∙ c .before .before .before .before .before .before .before .before .before .before .before .before .before .before .before .before .if1 .left in
+    let z = sym n ∙ c .before .before .before .before .before .before .before .before .before .before .before .before .before .before .before .if1 .left in
     let q = replay-sound (a .still) (a .plan .now) (record { refs = length (a .refs .now); indices = length (a .indices .now); fractions = length (a .fractions .now) }) (a .self) (length (a .plane .now)) (a .residuals .now) z in
-    record { fits = omega (arith, c .before .before .before .before .before .before .before .before .before .before .before .before .before .before .before .doing-of .ensures, q .1 .1, count-small _ _ _ _ _ (q .0)) }
+    omega (arith, c .before .before .before .before .before .before .before .before .before .before .before .before .before .before .doing-of .ensures, q .1 .1, count-small _ _ _ _ _ (q .0))
 
 same-length : tie.Need-same-length
 same-length c = search needs
@@ -76,18 +80,19 @@ returns-2 c =
     let n = ap (λ (v : Verdict). v .no) w in
     let z = sym n ∙ c .before .before .before .before .before .before .before .before .before .before .before .before .before .before .before .before .if1 .left in
     let q = replay-sound (a .still) (a .plan .now) (record { refs = length (a .refs .now); indices = length (a .indices .now); fractions = length (a .fractions .now) }) (a .self) (length (a .plane .now)) (a .residuals .now) z in
-    (stepped-is (replayVerdict (a .still) (a .plan .now) (record { refs = length (a .refs .now); indices = length (a .indices .now); fractions = length (a .fractions .now) }) (a .self) (length (a .plane .now)) (a .residuals .now)) (a .plan .now) (a .self) (a .grant) _ z (c .before .before .before .before .before .before .before .before .before .before .before .before .before .before .before .doing-of .ensures), (replay-done (a .still) (a .plan .now) (record { refs = length (a .refs .now); indices = length (a .indices .now); fractions = length (a .fractions .now) }) (a .self) (a .grant) (a .residuals .now) (a .plane .now) _ _ z (c .before .before .before .before .before .before .before .before .before .before .before .before .before .before .before .doing-of .ensures) (c .before .before .before .before .before .before .before .before .before .replay-blocks .ensures), λ x. absurd (x refl)))
+    (c .step-of .ensures ∙ stepped-is (replayVerdict (a .still) (a .plan .now) (record { refs = length (a .refs .now); indices = length (a .indices .now); fractions = length (a .fractions .now) }) (a .self) (length (a .plane .now)) (a .residuals .now)) (a .plan .now) (a .self) (a .grant) _ z (c .before .before .before .before .before .before .before .before .before .before .before .before .before .before .before .doing-of .ensures), (replay-done (a .still) (a .plan .now) (record { refs = length (a .refs .now); indices = length (a .indices .now); fractions = length (a .fractions .now) }) (a .self) (a .grant) (a .residuals .now) (a .plane .now) _ _ z (c .before .before .before .before .before .before .before .before .before .before .before .before .before .before .before .doing-of .ensures) (c .before .before .before .before .before .before .before .before .before .replay-blocks .ensures), λ x. absurd (x (ap (λ (r : Stepped). r .no) (c .step-of .ensures)))))
 
 pub replay-spec : {M : Type 1} → statement M
 replay-spec = tie.close (tie.spec
     replay-no-requires
     verdict-of-requires
+    refusal-requires
     returns
     doing-of-requires
     cast-replay-blocks
     cast-replay-blocks-2
     replay-blocks-requires
-    add-t28
+    step-of-requires
     same-length
     same-length-2
     same-length-3

@@ -3,6 +3,7 @@ use mathlib.Core.Path.{refl, sym, ap, _∙_}
 use native.Mathlib.Omega.{arith}
 use lib.ListN.{length}
 use Rattle.plan.specs.declared.Verdict.{Verdict}
+use Rattle.walk.specs.declared.Stepped.{Stepped}
 use Prim.Native.Nat.{ℕ}
 use lib.Dec.{leb}
 use Rattle.walk.specs.Block.{largestOf}
@@ -20,12 +21,15 @@ verdict-of-requires c κs =
     let a = c .before .before .before .before .before .before .args in
     λ z. good-call (a .still) (walkFits (a .still) (record { refs = length (a .refs .now); indices = length (a .indices .now); fractions = length (a .fractions .now) }) (length (a .source .now)) (length (a .work .now)) (length (a .residuals .now))) 7 (every (λ (v : ℕ). leb v (largestOf (a .still))) (a .source .now)) (sym (c .walk-no .ensures) ∙ z)
 
+refusal-requires : tie.Need-refusal-requires
+refusal-requires c κs = search needs
+
 returns : tie.Need-returns
 returns c =
-    let a = c .before .before .before .before .before .before .before .before .before .args in
-    let w = walk-verdict (a .still) (a .plan .now) (record { refs = length (a .refs .now); indices = length (a .indices .now); fractions = length (a .fractions .now) }) (a .self) (a .grant) (a .source .now) (record { work = a .work .now; residuals = a .residuals .now }) (c .before .before .verdict-of .result) (c .before .before .before .walk-no .result) (c .before .before .before .walk-no .ensures) (c .before .before .verdict-of .ensures) in
+    let a = c .before .before .before .before .before .before .before .before .before .before .args in
+    let w = walk-verdict (a .still) (a .plan .now) (record { refs = length (a .refs .now); indices = length (a .indices .now); fractions = length (a .fractions .now) }) (a .self) (a .grant) (a .source .now) (record { work = a .work .now; residuals = a .residuals .now }) (c .before .before .before .verdict-of .result) (c .before .before .before .before .walk-no .result) (c .before .before .before .before .walk-no .ensures) (c .before .before .before .verdict-of .ensures) in
     let n = ap (λ (v : Verdict). v .no) w in
-    (refused-is (c .before .before .verdict-of .result) _ (a .plan .now) (a .self) (a .grant) w (c .if1 .taken), (walk-kept (a .still) (a .plan .now) (record { refs = length (a .refs .now); indices = length (a .indices .now); fractions = length (a .fractions .now) }) (a .self) (a .grant) (a .source .now) (record { work = a .work .now; residuals = a .residuals .now }) (λ e. c .if1 .taken (n ∙ e)), λ z. (refl, (refl, refl))))
+    (c .refusal .ensures ∙ refused-is (c .before .before .before .verdict-of .result) _ (a .plan .now) (a .self) (a .grant) w (c .before .if1 .taken), (walk-kept (a .still) (a .plan .now) (record { refs = length (a .refs .now); indices = length (a .indices .now); fractions = length (a .fractions .now) }) (a .self) (a .grant) (a .source .now) (record { work = a .work .now; residuals = a .residuals .now }) (λ e. c .before .if1 .taken (n ∙ e)), λ z. (refl, (refl, refl))))
 
 doing-of-requires : tie.Need-doing-of-requires
 doing-of-requires c κs =
@@ -51,14 +55,14 @@ walk-blocks-requires c κs =
     let q = walk-sound (a .still) (a .plan .now) (record { refs = length (a .refs .now); indices = length (a .indices .now); fractions = length (a .fractions .now) }) (a .self) (a .source .now) (record { work = a .work .now; residuals = a .residuals .now }) z in
     (q .0, (q .1 .0, omega (arith, c .before .before .before .before .before .before .doing-of .ensures, q .1 .1)))
 
-add-t32 : tie.Need-add-t32
-add-t32 c =
-    let a = c .before .before .before .before .before .before .before .before .before .before .before .before .before .before .before .before .before .before .before .before .before .before .before .before .before .before .before .args in
-    let w = walk-verdict (a .still) (a .plan .now) (record { refs = length (a .refs .now); indices = length (a .indices .now); fractions = length (a .fractions .now) }) (a .self) (a .grant) (a .source .now) (record { work = a .work .now; residuals = a .residuals .now }) (c .before .before .before .before .before .before .before .before .before .before .before .before .before .before .before .before .before .before .before .before .verdict-of .result) (c .before .before .before .before .before .before .before .before .before .before .before .before .before .before .before .before .before .before .before .before .before .walk-no .result) (c .before .before .before .before .before .before .before .before .before .before .before .before .before .before .before .before .before .before .before .before .before .walk-no .ensures) (c .before .before .before .before .before .before .before .before .before .before .before .before .before .before .before .before .before .before .before .before .verdict-of .ensures) in
+step-of-requires : tie.Need-step-of-requires
+step-of-requires c κs =
+    let a = c .before .before .before .before .before .before .before .before .before .before .before .before .before .before .before .before .before .before .before .before .before .before .before .before .before .before .args in
+    let w = walk-verdict (a .still) (a .plan .now) (record { refs = length (a .refs .now); indices = length (a .indices .now); fractions = length (a .fractions .now) }) (a .self) (a .grant) (a .source .now) (record { work = a .work .now; residuals = a .residuals .now }) (c .before .before .before .before .before .before .before .before .before .before .before .before .before .before .before .before .before .before .before .verdict-of .result) (c .before .before .before .before .before .before .before .before .before .before .before .before .before .before .before .before .before .before .before .before .walk-no .result) (c .before .before .before .before .before .before .before .before .before .before .before .before .before .before .before .before .before .before .before .before .walk-no .ensures) (c .before .before .before .before .before .before .before .before .before .before .before .before .before .before .before .before .before .before .before .verdict-of .ensures) in
     let n = ap (λ (v : Verdict). v .no) w in
-    let z = sym n ∙ c .before .before .before .before .before .before .before .before .before .before .before .before .before .before .before .before .before .before .if1 .left in
+    let z = sym n ∙ c .before .before .before .before .before .before .before .before .before .before .before .before .before .before .before .before .before .if1 .left in
     let q = walk-sound (a .still) (a .plan .now) (record { refs = length (a .refs .now); indices = length (a .indices .now); fractions = length (a .fractions .now) }) (a .self) (a .source .now) (record { work = a .work .now; residuals = a .residuals .now }) z in
-    record { fits = omega (arith, c .before .before .before .before .before .before .before .before .before .before .before .before .before .before .before .before .before .doing-of .ensures, q .1 .1, count-small _ _ _ _ _ (q .0)) }
+    omega (arith, c .before .before .before .before .before .before .before .before .before .before .before .before .before .before .before .before .doing-of .ensures, q .1 .1, count-small _ _ _ _ _ (q .0))
 
 same-length : tie.Need-same-length
 same-length c = search needs
@@ -82,18 +86,19 @@ returns-2 c =
     let n = ap (λ (v : Verdict). v .no) w in
     let z = sym n ∙ c .before .before .before .before .before .before .before .before .before .before .before .before .before .before .before .before .before .before .if1 .left in
     let q = walk-sound (a .still) (a .plan .now) (record { refs = length (a .refs .now); indices = length (a .indices .now); fractions = length (a .fractions .now) }) (a .self) (a .source .now) (record { work = a .work .now; residuals = a .residuals .now }) z in
-    (stepped-is (walkVerdict (a .still) (a .plan .now) (record { refs = length (a .refs .now); indices = length (a .indices .now); fractions = length (a .fractions .now) }) (a .self) (a .source .now) (record { work = a .work .now; residuals = a .residuals .now })) (a .plan .now) (a .self) (a .grant) _ z (c .before .before .before .before .before .before .before .before .before .before .before .before .before .before .before .before .before .doing-of .ensures), (walk-done (a .still) (a .plan .now) (record { refs = length (a .refs .now); indices = length (a .indices .now); fractions = length (a .fractions .now) }) (a .self) (a .grant) (a .source .now) (record { work = a .work .now; residuals = a .residuals .now }) _ _ z (c .before .before .before .before .before .before .before .before .before .before .before .before .before .before .before .before .before .doing-of .ensures) (c .before .before .before .before .before .before .before .before .before .before .walk-blocks .ensures), λ x. absurd (x refl)))
+    (c .step-of .ensures ∙ stepped-is (walkVerdict (a .still) (a .plan .now) (record { refs = length (a .refs .now); indices = length (a .indices .now); fractions = length (a .fractions .now) }) (a .self) (a .source .now) (record { work = a .work .now; residuals = a .residuals .now })) (a .plan .now) (a .self) (a .grant) _ z (c .before .before .before .before .before .before .before .before .before .before .before .before .before .before .before .before .before .doing-of .ensures), (walk-done (a .still) (a .plan .now) (record { refs = length (a .refs .now); indices = length (a .indices .now); fractions = length (a .fractions .now) }) (a .self) (a .grant) (a .source .now) (record { work = a .work .now; residuals = a .residuals .now }) _ _ z (c .before .before .before .before .before .before .before .before .before .before .before .before .before .before .before .before .before .doing-of .ensures) (c .before .before .before .before .before .before .before .before .before .before .walk-blocks .ensures), λ x. absurd (x (ap (λ (r : Stepped). r .no) (c .step-of .ensures)))))
 
 pub walk-spec : {M : Type 1} → statement M
 walk-spec = tie.close (tie.spec
     walk-no-requires
     verdict-of-requires
+    refusal-requires
     returns
     doing-of-requires
     cast-walk-blocks
     cast-walk-blocks-2
     walk-blocks-requires
-    add-t32
+    step-of-requires
     same-length
     same-length-2
     same-length-3
