@@ -7,3 +7,6 @@ pub mod Bridge
 pub mod Replay
 -- Picture: the same for a plan over flat planes.
 pub mod Picture
+-- Ready: what the functions ask. Laws: what joins them.
+pub mod Ready
+pub mod Laws
