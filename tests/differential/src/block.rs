@@ -145,7 +145,8 @@ const FAULTS: &[fn(&mut Block)] = &[
     |c| c.fractions = 0,
 ];
 
-const ROW_FAULTS: &[fn(&mut Block)] = &[|c| c.above.truncate(64), |c| c.left.truncate(64), |c| c.above.clear(), |c| c.left.clear()];
+const ROW_FAULTS: &[fn(&mut Block)] =
+    &[|c| c.above.truncate(64), |c| c.left.truncate(64), |c| c.above.clear(), |c| c.left.clear()];
 
 fn run(t: &mut Tally, luma: bool, seed: u64) {
     let mut random = Random::new(seed);

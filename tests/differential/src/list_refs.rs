@@ -80,7 +80,8 @@ impl Call {
         let mut lines = String::new();
         for (plane, (corner, above, left)) in planes.iter().enumerate() {
             for (side, row) in [above, left].into_iter().enumerate() {
-                let mut words = vec![self.kind, self.bits, self.ctu, self.width, self.height, self.unit, self.row, self.col, self.n];
+                let mut words =
+                    vec![self.kind, self.bits, self.ctu, self.width, self.height, self.unit, self.row, self.col, self.n];
                 words.extend([self.current.0, self.current.1, self.seed, self.top, self.entries]);
                 words.extend([2 * plane as u32 + side as u32, place as u32, no, *corner as u32]);
                 words.extend(row[place..place + WINDOW].iter().map(|&s| s as u32));
@@ -151,7 +152,8 @@ pub fn write() {
         ] {
             let current = (random.below(65537) as u32, random.below(65537) as u32);
             let (bits, top, seed) = (random.pick(&[8, 10, 12]), random.pick(&TOPS), random.below(65537) as u32);
-            list += &Call { kind: 1, bits, ctu: corner, width, height, unit: odds, n, current, seed, top, ..Call::default() }.lines();
+            list +=
+                &Call { kind: 1, bits, ctu: corner, width, height, unit: odds, n, current, seed, top, ..Call::default() }.lines();
         }
     }
     for call in with_faults(Call { kind: 1, bits: 8, ctu: 1, unit: 8, n: 4, top: 65535, ..Call::default() }) {

@@ -205,7 +205,7 @@ pub fn check(t: &mut Tally) {
             }
         }
     }
-    // the largest picture, in blocks of 32 and by chance
+    // a picture of the largest width, whole and with its last block missing
     let f = Frame { width: 4096, height: 64, ctu: 64 };
     let plan = f.good_plan(&mut random);
     seen[ask(t, f, &plan) as usize] += 1;

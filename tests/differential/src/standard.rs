@@ -1,7 +1,7 @@
 //! The references as H.265 has them, 6.4.1 and 8.4.4.2.2, and the smallest inputs of docs/DIFFERENCES.md at substitution and
 //! the gathers: where the Rust and the port agree with each other and not with the standard.
-use crate::order::panics;
 use crate::oracle::intra;
+use crate::order::panics;
 use crate::random::Random;
 use crate::refs::{Chroma, Luma, Marked, Rows, ask_chroma, ask_luma, ask_substitute, every_luma, neutral};
 use crate::table::Picture;
