@@ -7,6 +7,7 @@ use mathlib.Core.List.{List}
 use contract.Lifetimes.{Lfts}
 use denote.Ref.{now}
 use Rattle.laws.specs.Choose.{served}
+use Rattle.walk.specs.Block.{World}
 use Rattle.domain.proofs.depth_ok.Reads as domain-depth-ok
 use Rattle.domain.proofs.size_ok.Reads as domain-size-ok
 use Rattle.domain.proofs.mode_ok.Reads as domain-mode-ok
@@ -40,6 +41,7 @@ use Rattle.refs.proofs.substitute_refs.Reads as refs-substitute-refs
 use Rattle.refs.proofs.get_reference_samples.Reads as refs-get-reference-samples
 use Rattle.refs.proofs.get_reference_samples_chroma_pair.Reads as refs-get-reference-samples-chroma-pair
 use Rattle.plan.proofs.check_plan.Reads as plan-check-plan
+use Rattle.walk.proofs.Progress.fresh.Reads as walk-fresh
 use Rattle.flat.proofs.predict_planar_into.Reads as flat-predict-planar-into
 use Rattle.flat.proofs.predict_dc_into.Reads as flat-predict-dc-into
 use Rattle.angular.proofs.predict_angular_slices.Reads as angular-predict-angular-slices
@@ -47,6 +49,8 @@ use Rattle.predict.proofs.predict_chroma_tb_slices.Reads as predict-predict-chr
 use Rattle.predict.proofs.predict_luma_tb_slices.Reads as predict-predict-luma-tb-slices
 use Rattle.residual.proofs.compute_residual_i32_into.Reads as residual-compute-residual-i32-into
 use Rattle.residual.proofs.reconstruct_into.Reads as residual-reconstruct-into
+use Rattle.walk.proofs.Progress.replay.Reads as walk-replay
+use Rattle.walk.proofs.Progress.walk.Reads as walk-walk
 
 -- at most one answer meets a contract
 abbrev Once : {A X S : Type 0} → (A → X → S → Type 0) → Type 0
@@ -78,6 +82,7 @@ domain-ctu-ok-once a x y s t p q = p ∙ sym q
 
 domain-unit-ok-once : Once (domain-unit-ok.Post tt)
 domain-unit-ok-once a x y s t p q = p ∙ sym q
+
 
 -- fmt
 fmt-from-bits-once : Once (fmt-from-bits.Post tt)
@@ -113,6 +118,7 @@ fmt-chroma-row-once a x y s t p q = p ∙ sym q
 fmt-chroma-col-once : Once (fmt-chroma-col.Post tt)
 fmt-chroma-col-once a x y s t p q = p ∙ sym q
 
+
 -- order
 order-decode-order-once : Once (order-decode-order.Post tt)
 order-decode-order-once a x y s t p q = p ∙ sym q
@@ -126,9 +132,11 @@ order-luma-reach-once a x y s t p q = p ∙ sym q
 order-chroma-reach-once : Once (order-chroma-reach.Post tt)
 order-chroma-reach-once a x y s t p q = p ∙ sym q
 
+
 -- rows
 rows-zero-rows-once : Once (rows-zero-rows.Post tt)
 rows-zero-rows-once a x y s t p q = p ∙ sym q
+
 
 -- helpers
 helpers-min-once : Once (helpers-min.Post tt)
@@ -143,6 +151,7 @@ helpers-abs-once a x y s t p q = p ∙ sym q
 helpers-clamp-once : Once (helpers-clamp.Post tt)
 helpers-clamp-once a x y s t p q = p ∙ sym q
 
+
 -- smooth
 smooth-should-filter-refs-once : Once (smooth-should-filter-refs.Post tt)
 smooth-should-filter-refs-once a x y s t p q = p ∙ sym q
@@ -152,6 +161,7 @@ smooth-filter-references-once κs a x y s t p q = p ∙ sym q
 
 smooth-filter-luma-refs-once : (κs : Lfts 2) → Once (smooth-filter-luma-refs.Post κs)
 smooth-filter-luma-refs-once κs a x y s t p q = p ∙ sym q
+
 
 -- refs
 refs-substitute-refs-once : Once (refs-substitute-refs.Post tt)
@@ -163,9 +173,15 @@ refs-get-reference-samples-once κs a x y s t p q = p ∙ sym q
 refs-get-reference-samples-chroma-pair-once : (κs : Lfts 2) → Once (refs-get-reference-samples-chroma-pair.Post κs)
 refs-get-reference-samples-chroma-pair-once κs a x y s t p q = p ∙ sym q
 
+
 -- plan
 plan-check-plan-once : (κs : Lfts 1) → Once (plan-check-plan.Post κs)
 plan-check-plan-once κs a x y s t p q = p ∙ sym q
+
+
+-- walk
+walk-fresh-once : Once (walk-fresh.Post tt)
+walk-fresh-once a x y s t p q = p ∙ sym q
 
 -- flat
 flat-predict-planar-into-once : (κs : Lfts 3) → OnceLeft (λ s. now (s .1 .1 .1 .0)) (flat-predict-planar-into.Post κs)
@@ -191,3 +207,10 @@ residual-compute-residual-i32-into-once κs a x y s t p q = (p .0 ∙ sym (q .0)
 
 residual-reconstruct-into-once : (κs : Lfts 3) → OnceLeft (λ s. now (s .1 .1 .1 .1 .0)) (residual-reconstruct-into.Post κs)
 residual-reconstruct-into-once κs a x y s t p q = (p .0 ∙ sym (q .0), p .1 ∙ sym (q .1))
+
+-- walk
+walk-replay-once : (κs : Lfts 6) → OnceLeft (λ s. now (s .1 .1 .1 .1 .0)) (walk-replay.Post κs)
+walk-replay-once κs a x y s t p q = (p .0 ∙ sym (q .0), p .1 .0 ∙ sym (q .1 .0))
+
+walk-walk-once : (κs : Lfts 7) → OnceLeft {L = World} (λ s. record { work = now (s .1 .1 .1 .1 .0); residuals = now (s .1 .1 .1 .1 .1 .0) }) (walk-walk.Post κs)
+walk-walk-once κs a x y s t p q = (p .0 ∙ sym (q .0), p .1 .0 ∙ sym (q .1 .0))
