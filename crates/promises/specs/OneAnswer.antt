@@ -83,7 +83,6 @@ domain-ctu-ok-once a x y s t p q = p ∙ sym q
 domain-unit-ok-once : Once (domain-unit-ok.Post tt)
 domain-unit-ok-once a x y s t p q = p ∙ sym q
 
-
 -- fmt
 fmt-from-bits-once : Once (fmt-from-bits.Post tt)
 fmt-from-bits-once a x y s t p q = p ∙ sym q
@@ -118,7 +117,6 @@ fmt-chroma-row-once a x y s t p q = p ∙ sym q
 fmt-chroma-col-once : Once (fmt-chroma-col.Post tt)
 fmt-chroma-col-once a x y s t p q = p ∙ sym q
 
-
 -- order
 order-decode-order-once : Once (order-decode-order.Post tt)
 order-decode-order-once a x y s t p q = p ∙ sym q
@@ -132,11 +130,9 @@ order-luma-reach-once a x y s t p q = p ∙ sym q
 order-chroma-reach-once : Once (order-chroma-reach.Post tt)
 order-chroma-reach-once a x y s t p q = p ∙ sym q
 
-
 -- rows
 rows-zero-rows-once : Once (rows-zero-rows.Post tt)
 rows-zero-rows-once a x y s t p q = p ∙ sym q
-
 
 -- helpers
 helpers-min-once : Once (helpers-min.Post tt)
@@ -151,7 +147,6 @@ helpers-abs-once a x y s t p q = p ∙ sym q
 helpers-clamp-once : Once (helpers-clamp.Post tt)
 helpers-clamp-once a x y s t p q = p ∙ sym q
 
-
 -- smooth
 smooth-should-filter-refs-once : Once (smooth-should-filter-refs.Post tt)
 smooth-should-filter-refs-once a x y s t p q = p ∙ sym q
@@ -161,7 +156,6 @@ smooth-filter-references-once κs a x y s t p q = p ∙ sym q
 
 smooth-filter-luma-refs-once : (κs : Lfts 2) → Once (smooth-filter-luma-refs.Post κs)
 smooth-filter-luma-refs-once κs a x y s t p q = p ∙ sym q
-
 
 -- refs
 refs-substitute-refs-once : Once (refs-substitute-refs.Post tt)
@@ -173,11 +167,9 @@ refs-get-reference-samples-once κs a x y s t p q = p ∙ sym q
 refs-get-reference-samples-chroma-pair-once : (κs : Lfts 2) → Once (refs-get-reference-samples-chroma-pair.Post κs)
 refs-get-reference-samples-chroma-pair-once κs a x y s t p q = p ∙ sym q
 
-
 -- plan
 plan-check-plan-once : (κs : Lfts 1) → Once (plan-check-plan.Post κs)
 plan-check-plan-once κs a x y s t p q = p ∙ sym q
-
 
 -- walk
 walk-fresh-once : Once (walk-fresh.Post tt)
