@@ -42,6 +42,19 @@ use Rattle.refs.proofs.get_reference_samples.Reads as refs-get-reference-sample
 use Rattle.refs.proofs.get_reference_samples_chroma_pair.Reads as refs-get-reference-samples-chroma-pair
 use Rattle.plan.proofs.check_plan.Reads as plan-check-plan
 use Rattle.walk.proofs.Progress.fresh.Reads as walk-fresh
+use Rattle.probes.proofs.salvrunde_probe_depth.Reads as probes-salvrunde-probe-depth
+use Rattle.probes.proofs.salvrunde_probe_format.Reads as probes-salvrunde-probe-format
+use Rattle.probes.proofs.salvrunde_probe_on_luma.Reads as probes-salvrunde-probe-on-luma
+use Rattle.probes.proofs.salvrunde_probe_on_chroma.Reads as probes-salvrunde-probe-on-chroma
+use Rattle.probes.proofs.salvrunde_probe_decode_order.Reads as probes-salvrunde-probe-decode-order
+use Rattle.probes.proofs.salvrunde_probe_is_available.Reads as probes-salvrunde-probe-is-available
+use Rattle.probes.proofs.salvrunde_probe_should_filter_refs.Reads as probes-salvrunde-probe-should-filter-refs
+use Rattle.probes.proofs.salvrunde_probe_filter_references.Reads as probes-salvrunde-probe-filter-references
+use Rattle.probes.proofs.salvrunde_probe_filter_luma_refs.Reads as probes-salvrunde-probe-filter-luma-refs
+use Rattle.probes.proofs.salvrunde_probe_substitute_refs.Reads as probes-salvrunde-probe-substitute-refs
+use Rattle.probes.proofs.salvrunde_probe_get_reference_samples.Reads as probes-salvrunde-probe-get-reference-samples
+use Rattle.probes.proofs.salvrunde_probe_get_reference_samples_chroma_pair.Reads as probes-salvrunde-probe-get-reference-samples-chroma-pair
+use Rattle.probes.proofs.salvrunde_probe_check_plan.Reads as probes-salvrunde-probe-check-plan
 use Rattle.flat.proofs.predict_planar_into.Reads as flat-predict-planar-into
 use Rattle.flat.proofs.predict_dc_into.Reads as flat-predict-dc-into
 use Rattle.angular.proofs.predict_angular_slices.Reads as angular-predict-angular-slices
@@ -49,6 +62,13 @@ use Rattle.predict.proofs.predict_chroma_tb_slices.Reads as predict-predict-chr
 use Rattle.predict.proofs.predict_luma_tb_slices.Reads as predict-predict-luma-tb-slices
 use Rattle.residual.proofs.compute_residual_i32_into.Reads as residual-compute-residual-i32-into
 use Rattle.residual.proofs.reconstruct_into.Reads as residual-reconstruct-into
+use Rattle.probes.proofs.salvrunde_probe_predict_planar_into.Reads as probes-salvrunde-probe-predict-planar-into
+use Rattle.probes.proofs.salvrunde_probe_predict_dc_into.Reads as probes-salvrunde-probe-predict-dc-into
+use Rattle.probes.proofs.salvrunde_probe_predict_angular_slices.Reads as probes-salvrunde-probe-predict-angular-slices
+use Rattle.probes.proofs.salvrunde_probe_predict_chroma_tb_slices.Reads as probes-salvrunde-probe-predict-chroma-tb-slices
+use Rattle.probes.proofs.salvrunde_probe_predict_luma_tb_slices.Reads as probes-salvrunde-probe-predict-luma-tb-slices
+use Rattle.probes.proofs.salvrunde_probe_compute_residual_i32_into.Reads as probes-salvrunde-probe-compute-residual-i32-into
+use Rattle.probes.proofs.salvrunde_probe_reconstruct_into.Reads as probes-salvrunde-probe-reconstruct-into
 use Rattle.walk.proofs.Progress.replay.Reads as walk-replay
 use Rattle.walk.proofs.Progress.walk.Reads as walk-walk
 
@@ -175,6 +195,46 @@ plan-check-plan-once κs a x y s t p q = p ∙ sym q
 walk-fresh-once : Once (walk-fresh.Post tt)
 walk-fresh-once a x y s t p q = p ∙ sym q
 
+-- probes
+probes-salvrunde-probe-depth-once : Once (probes-salvrunde-probe-depth.Post tt)
+probes-salvrunde-probe-depth-once a x y s t p q = p ∙ sym q
+
+probes-salvrunde-probe-format-once : Once (probes-salvrunde-probe-format.Post tt)
+probes-salvrunde-probe-format-once a x y s t p q = p ∙ sym q
+
+probes-salvrunde-probe-on-luma-once : Once (probes-salvrunde-probe-on-luma.Post tt)
+probes-salvrunde-probe-on-luma-once a x y s t p q = p ∙ sym q
+
+probes-salvrunde-probe-on-chroma-once : Once (probes-salvrunde-probe-on-chroma.Post tt)
+probes-salvrunde-probe-on-chroma-once a x y s t p q = p ∙ sym q
+
+probes-salvrunde-probe-decode-order-once : Once (probes-salvrunde-probe-decode-order.Post tt)
+probes-salvrunde-probe-decode-order-once a x y s t p q = p ∙ sym q
+
+probes-salvrunde-probe-is-available-once : Once (probes-salvrunde-probe-is-available.Post tt)
+probes-salvrunde-probe-is-available-once a x y s t p q = p ∙ sym q
+
+probes-salvrunde-probe-should-filter-refs-once : Once (probes-salvrunde-probe-should-filter-refs.Post tt)
+probes-salvrunde-probe-should-filter-refs-once a x y s t p q = p ∙ sym q
+
+probes-salvrunde-probe-filter-references-once : (κs : Lfts 2) → Once (probes-salvrunde-probe-filter-references.Post κs)
+probes-salvrunde-probe-filter-references-once κs a x y s t p q = p ∙ sym q
+
+probes-salvrunde-probe-filter-luma-refs-once : (κs : Lfts 2) → Once (probes-salvrunde-probe-filter-luma-refs.Post κs)
+probes-salvrunde-probe-filter-luma-refs-once κs a x y s t p q = p ∙ sym q
+
+probes-salvrunde-probe-substitute-refs-once : (κs : Lfts 4) → Once (probes-salvrunde-probe-substitute-refs.Post κs)
+probes-salvrunde-probe-substitute-refs-once κs a x y s t p q = p ∙ sym q
+
+probes-salvrunde-probe-get-reference-samples-once : (κs : Lfts 1) → Once (probes-salvrunde-probe-get-reference-samples.Post κs)
+probes-salvrunde-probe-get-reference-samples-once κs a x y s t p q = p ∙ sym q
+
+probes-salvrunde-probe-get-reference-samples-chroma-pair-once : (κs : Lfts 2) → Once (probes-salvrunde-probe-get-reference-samples-chroma-pair.Post κs)
+probes-salvrunde-probe-get-reference-samples-chroma-pair-once κs a x y s t p q = p ∙ sym q
+
+probes-salvrunde-probe-check-plan-once : (κs : Lfts 1) → Once (probes-salvrunde-probe-check-plan.Post κs)
+probes-salvrunde-probe-check-plan-once κs a x y s t p q = p ∙ sym q
+
 -- flat
 flat-predict-planar-into-once : (κs : Lfts 3) → OnceLeft (λ s. now (s .1 .1 .1 .0)) (flat-predict-planar-into.Post κs)
 flat-predict-planar-into-once κs a x y s t p q = by-number _ _ (p .0) (q .0) (p .1) (q .1)
@@ -199,6 +259,28 @@ residual-compute-residual-i32-into-once κs a x y s t p q = (p .0 ∙ sym (q .0)
 
 residual-reconstruct-into-once : (κs : Lfts 3) → OnceLeft (λ s. now (s .1 .1 .1 .1 .0)) (residual-reconstruct-into.Post κs)
 residual-reconstruct-into-once κs a x y s t p q = (p .0 ∙ sym (q .0), p .1 ∙ sym (q .1))
+
+-- probes
+probes-salvrunde-probe-predict-planar-into-once : (κs : Lfts 3) → OnceLeft (λ s. now (s .1 .1 .1 .0)) (probes-salvrunde-probe-predict-planar-into.Post κs)
+probes-salvrunde-probe-predict-planar-into-once κs a x y s t p q = by-number _ _ (p .0) (q .0) (p .1) (q .1)
+
+probes-salvrunde-probe-predict-dc-into-once : (κs : Lfts 3) → OnceLeft (λ s. now (s .1 .1 .1 .1 .0)) (probes-salvrunde-probe-predict-dc-into.Post κs)
+probes-salvrunde-probe-predict-dc-into-once κs a x y s t p q = by-number _ _ (p .0) (q .0) (p .1) (q .1)
+
+probes-salvrunde-probe-predict-angular-slices-once : (κs : Lfts 6) → OnceLeft (λ s. now (s .1 .1 .1 .1 .1 .1 .1 .0)) (probes-salvrunde-probe-predict-angular-slices.Post κs)
+probes-salvrunde-probe-predict-angular-slices-once κs a x y s t p q = by-number _ _ (p .0) (q .0) (p .1 .0) (q .1 .0)
+
+probes-salvrunde-probe-predict-chroma-tb-slices-once : (κs : Lfts 6) → OnceLeft (λ s. now (s .1 .1 .1 .1 .1 .1 .0)) (probes-salvrunde-probe-predict-chroma-tb-slices.Post κs)
+probes-salvrunde-probe-predict-chroma-tb-slices-once κs a x y s t p q = by-number _ _ (p .0) (q .0) (p .1 .0) (q .1 .0)
+
+probes-salvrunde-probe-predict-luma-tb-slices-once : (κs : Lfts 6) → OnceLeft (λ s. now (s .1 .1 .1 .1 .1 .1 .0)) (probes-salvrunde-probe-predict-luma-tb-slices.Post κs)
+probes-salvrunde-probe-predict-luma-tb-slices-once κs a x y s t p q = by-number _ _ (p .0) (q .0) (p .1 .0) (q .1 .0)
+
+probes-salvrunde-probe-compute-residual-i32-into-once : (κs : Lfts 3) → OnceLeft (λ s. now (s .1 .1 .1 .0)) (probes-salvrunde-probe-compute-residual-i32-into.Post κs)
+probes-salvrunde-probe-compute-residual-i32-into-once κs a x y s t p q = (p .0 ∙ sym (q .0), p .1 ∙ sym (q .1))
+
+probes-salvrunde-probe-reconstruct-into-once : (κs : Lfts 3) → OnceLeft (λ s. now (s .1 .1 .1 .1 .0)) (probes-salvrunde-probe-reconstruct-into.Post κs)
+probes-salvrunde-probe-reconstruct-into-once κs a x y s t p q = (p .0 ∙ sym (q .0), p .1 ∙ sym (q .1))
 
 -- walk
 walk-replay-once : (κs : Lfts 6) → OnceLeft (λ s. now (s .1 .1 .1 .1 .0)) (walk-replay.Post κs)
