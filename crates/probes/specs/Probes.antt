@@ -26,6 +26,7 @@ use Rattle.refs.specs.declared.GatheredPair.{GatheredPair}
 use Rattle.refs.specs.declared.ChromaRefGeometry.{ChromaRefGeometry}
 use Rattle.refs.specs.Door as gather
 use Rattle.plan.specs.declared.Verdict.{Verdict}
+use Rattle.plan.specs.Plan.{planOf}
 use Rattle.plan.specs.Check.{planVerdict}
 use Rattle.walk.specs.declared.Still.{Still}
 use Rattle.walk.specs.declared.Stepped.{Stepped}
@@ -145,7 +146,7 @@ abbrev pub verdictOf : Verdict → PlanAnswer
 verdictOf v = record { no = v .no; block = v .block }
 
 abbrev pub planAnswer : ℕ → ℕ → ℕ → List (List ℕ) → PlanAnswer
-planAnswer width height ctu plan = verdictOf (planVerdict (record { width = width; height = height; ctu = ctu }) plan)
+planAnswer width height ctu plan = verdictOf (planVerdict (record { width = width; height = height; ctu = ctu }) (planOf plan))
 
 -- a still as bare numbers, and what a call of walk or replay gives
 abbrev pub stillOf : ℕ → ℕ → ℕ → ℕ → Still

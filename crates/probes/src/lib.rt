@@ -21,6 +21,7 @@ ghost use Rattle.rows.specs.Neighbours.{neighboursOf};
 ghost use Rattle.predict.specs.Door.{predictNo};
 ghost use Rattle.predict.specs.Contents.{chromaAt};
 ghost use Rattle.probes.specs.Probes.{pictureOf, substituteAnswer, gatherAnswer, pairAnswer, planAnswer};
+ghost use Rattle.plan.specs.Plan.{planOf};
 ghost use Rattle.walk.specs.Door.{steppedBy, walkVerdict, walkAfter, replayVerdict, replayAfter};
 ghost use Rattle.probes.specs.Probes.{stillOf, stepOf};
 use fmt::BitDepth;
@@ -608,7 +609,7 @@ pub extern "C" fn salvrunde_probe_walk(
     fractions: &mut [u32],
     grant: u32,
 ) -> StepAnswer
-    ensures { λ r. ⌜ (r ≡ stepOf (steppedBy (walkVerdict (stillOf bits width height ctu) (now (plan .entry)) (record { refs = length (now (refs .entry)); indices = length (now (indices .entry)); fractions = length (now (fractions .entry)) }) (record { done = done }) (now (source .entry)) (record { work = now (work .entry); residuals = now (residuals .entry) })) (now (plan .entry)) (record { done = done }) grant)) × ((record { work = now (work .exit); residuals = now (residuals .exit) } ≡ walkAfter (stillOf bits width height ctu) (now (plan .entry)) (record { refs = length (now (refs .entry)); indices = length (now (indices .entry)); fractions = length (now (fractions .entry)) }) (record { done = done }) grant (now (source .entry)) (record { work = now (work .entry); residuals = now (residuals .entry) })) × ((r .no ≡ 0 → ⊥) → (now (refs .exit) ≡ now (refs .entry)) × ((now (indices .exit) ≡ now (indices .entry)) × (now (fractions .exit) ≡ now (fractions .entry))))) ⌝ }
+    ensures { λ r. ⌜ (r ≡ stepOf (steppedBy (walkVerdict (stillOf bits width height ctu) (planOf (now (plan .entry))) (record { refs = length (now (refs .entry)); indices = length (now (indices .entry)); fractions = length (now (fractions .entry)) }) (record { done = done }) (now (source .entry)) (record { work = now (work .entry); residuals = now (residuals .entry) })) (planOf (now (plan .entry))) (record { done = done }) grant)) × ((record { work = now (work .exit); residuals = now (residuals .exit) } ≡ walkAfter (stillOf bits width height ctu) (planOf (now (plan .entry))) (record { refs = length (now (refs .entry)); indices = length (now (indices .entry)); fractions = length (now (fractions .entry)) }) (record { done = done }) grant (now (source .entry)) (record { work = now (work .entry); residuals = now (residuals .entry) })) × ((r .no ≡ 0 → ⊥) → (now (refs .exit) ≡ now (refs .entry)) × ((now (indices .exit) ≡ now (indices .entry)) × (now (fractions .exit) ≡ now (fractions .entry))))) ⌝ }
 {
     let frame = Frame { width, height, ctu };
     let p = Progress { done };
@@ -646,7 +647,7 @@ pub extern "C" fn salvrunde_probe_replay(
     fractions: &mut [u32],
     grant: u32,
 ) -> StepAnswer
-    ensures { λ r. ⌜ (r ≡ stepOf (steppedBy (replayVerdict (stillOf bits width height ctu) (now (plan .entry)) (record { refs = length (now (refs .entry)); indices = length (now (indices .entry)); fractions = length (now (fractions .entry)) }) (record { done = done }) (length (now (plane .entry))) (now (residuals .entry))) (now (plan .entry)) (record { done = done }) grant)) × ((now (plane .exit) ≡ replayAfter (stillOf bits width height ctu) (now (plan .entry)) (record { refs = length (now (refs .entry)); indices = length (now (indices .entry)); fractions = length (now (fractions .entry)) }) (record { done = done }) grant (now (residuals .entry)) (now (plane .entry))) × ((r .no ≡ 0 → ⊥) → (now (refs .exit) ≡ now (refs .entry)) × ((now (indices .exit) ≡ now (indices .entry)) × (now (fractions .exit) ≡ now (fractions .entry))))) ⌝ }
+    ensures { λ r. ⌜ (r ≡ stepOf (steppedBy (replayVerdict (stillOf bits width height ctu) (planOf (now (plan .entry))) (record { refs = length (now (refs .entry)); indices = length (now (indices .entry)); fractions = length (now (fractions .entry)) }) (record { done = done }) (length (now (plane .entry))) (now (residuals .entry))) (planOf (now (plan .entry))) (record { done = done }) grant)) × ((now (plane .exit) ≡ replayAfter (stillOf bits width height ctu) (planOf (now (plan .entry))) (record { refs = length (now (refs .entry)); indices = length (now (indices .entry)); fractions = length (now (fractions .entry)) }) (record { done = done }) grant (now (residuals .entry)) (now (plane .entry))) × ((r .no ≡ 0 → ⊥) → (now (refs .exit) ≡ now (refs .entry)) × ((now (indices .exit) ≡ now (indices .entry)) × (now (fractions .exit) ≡ now (fractions .entry))))) ⌝ }
 {
     let frame = Frame { width, height, ctu };
     let p = Progress { done };
