@@ -30,7 +30,7 @@ impl Frame {
     }
 
     /// Adds the squares of a side that a square is made of and that begin in the picture, in decode order.
-    fn add_squares(self, row: u32, col: u32, side: u32, least: u32, squares: &mut Vec<(u32, u32)>) {
+    pub fn add_squares(self, row: u32, col: u32, side: u32, least: u32, squares: &mut Vec<(u32, u32)>) {
         if !self.holds(row, col) {
             return;
         }
@@ -52,7 +52,6 @@ impl Frame {
     }
 
     /// A plan of blocks of one side, which divides the picture's, with all modes in turn.
-    #[allow(dead_code)] // the timing has no use for it
     pub fn even_plan(self, side: u32) -> Vec<Block> {
         self.squares(side).into_iter().zip((0..35).cycle()).map(|((row, col), mode)| [row, col, side, mode]).collect()
     }
