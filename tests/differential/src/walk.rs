@@ -127,13 +127,18 @@ fn to_the_end(t: &mut Tally, call: &mut Call, random: &mut Random) {
     assert_eq!(call.ask(t, random).did, 0);
 }
 
-/// Makes the calls of a split: a block where the mask's bit is not set ends a call.
-fn by_mask(t: &mut Tally, call: &mut Call, mask: u32, random: &mut Random) {
-    let count = call.plan.len() as u32;
-    call.done = 0;
-    while call.done < count {
-        call.grant = 1 + (mask >> call.done).trailing_ones().min(count - 1 - call.done);
-        call.done = call.ask(t, random).done;
+/// Every split of a small plan into calls comes to one call: where the mask's bit is not set a call ends after that block.
+fn every_split(t: &mut Tally, fresh: &Call, random: &mut Random) {
+    let mut whole = fresh.clone();
+    whole.ask(t, random);
+    let count = fresh.plan.len() as u32;
+    for mask in 0u32..1 << (count - 1) {
+        let mut call = fresh.clone();
+        while call.done < count {
+            call.grant = 1 + (mask >> call.done).trailing_ones().min(count - 1 - call.done);
+            call.done = call.ask(t, random).done;
+        }
+        assert!(call.plane == whole.plane && call.residuals == whole.residuals);
     }
 }
 
@@ -219,11 +224,8 @@ pub fn walk(t: &mut Tally) {
     }
     met.all();
     for _ in 0..20 {
-        let still = small(&mut random);
-        for mask in 0..1 << (still.plan.len() - 1) {
-            let mut call = still.walk(&mut random);
-            by_mask(t, &mut call, mask, &mut random);
-        }
+        let call = small(&mut random).walk(&mut random);
+        every_split(t, &call, &mut random);
     }
     // document 01's example: the sums of absolute residuals are 128 and 0
     let frame = Frame { width: 16, height: 8, ctu: 16 };
@@ -250,8 +252,11 @@ pub fn replay(t: &mut Tally) {
         }
         let kind = random.below(4);
         for residuals in [altered, in_range(kind, still.area(), &mut random)] {
+            let mut whole = still.replay(residuals.clone(), &mut random);
+            whole.ask(t, &mut random);
             let mut call = still.replay(residuals, &mut random);
-            call.ask(t, &mut random);
+            to_the_end(t, &mut call, &mut random);
+            assert!(call.plane == whole.plane, "what a plane held before leaves no trace");
             call.plane = samples(random.below(KINDS), still.area(), &mut random);
             call.done = random.below(still.plan.len() as u64 + 1) as u32;
             to_the_end(t, &mut call, &mut random);
@@ -261,10 +266,8 @@ pub fn replay(t: &mut Tally) {
     for _ in 0..20 {
         let still = small(&mut random);
         let residuals = in_range(random.below(4), still.area(), &mut random);
-        for mask in 0..1 << (still.plan.len() - 1) {
-            let mut call = still.replay(residuals.clone(), &mut random);
-            by_mask(t, &mut call, mask, &mut random);
-        }
+        let call = still.replay(residuals, &mut random);
+        every_split(t, &call, &mut random);
     }
 }
 
