@@ -55,7 +55,7 @@ fn ask(t: &mut Tally, f: Frame, plan: &[Block]) -> u32 {
 }
 
 /// One change to a plan. Some leave it good.
-fn change(f: Frame, plan: &mut Vec<Block>, random: &mut Random) {
+pub fn change(f: Frame, plan: &mut Vec<Block>, random: &mut Random) {
     if plan.is_empty() {
         return plan.push([0, 0, 8, 1]);
     }

@@ -1,5 +1,6 @@
 //! Walk and replay of whole pictures, in calls of every kind, and every refusal. What is wanted of a call is in step.rs.
 use crate::frame::{Block, Frame};
+use crate::plan::change;
 use crate::random::Random;
 use crate::samples::{DEPTHS, KINDS, SIZES, any, dirt_32, largest, samples};
 use crate::step::Call;
@@ -334,25 +335,38 @@ const FAULTS: &[Fault] = &[
     |_| (),
 ];
 
+/// A call of either kind, begun anywhere, with a grant of any kind.
+fn any_call(walk: bool, frame: Frame, random: &mut Random) -> Call {
+    let still = Still::any(frame, random.pick(&DEPTHS), 6, random);
+    let residuals = in_range(2, still.area(), random);
+    let mut call = if walk { still.walk(random) } else { still.replay(residuals, random) };
+    call.done = random.below(call.plan.len() as u64 + 1) as u32;
+    call.grant = grant(&call, random);
+    call
+}
+
 pub fn refused(t: &mut Tally) {
     let mut random = Random::new(21);
     let mut seen = [[0u64; 12]; 2];
     for (width, height, ctu) in [(24, 16, 16), (8, 40, 32), (40, 24, 64)] {
+        let frame = Frame { width, height, ctu };
         for walk in [true, false] {
+            // every fault with every other
             for one in FAULTS {
                 for other in FAULTS {
-                    let still = Still::any(Frame { width, height, ctu }, random.pick(&DEPTHS), 6, &mut random);
-                    let mut call = still.walk(&mut random);
-                    if !walk {
-                        let residuals = in_range(2, still.area(), &mut random);
-                        call = still.replay(residuals, &mut random);
-                    }
-                    call.done = random.below(still.plan.len() as u64 + 1) as u32;
-                    call.grant = grant(&call, &mut random);
+                    let mut call = any_call(walk, frame, &mut random);
                     one(&mut call);
                     other(&mut call);
                     seen[walk as usize][call.ask(t, &mut random).no as usize] += 1;
                 }
+            }
+            // plans with changes of every kind at any block
+            for _ in 0..600 {
+                let mut call = any_call(walk, frame, &mut random);
+                for _ in 0..=random.below(2) {
+                    change(frame, &mut call.plan, &mut random);
+                }
+                seen[walk as usize][call.ask(t, &mut random).no as usize] += 1;
             }
         }
     }
