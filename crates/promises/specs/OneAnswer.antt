@@ -69,6 +69,8 @@ use Rattle.probes.proofs.salvrunde_probe_predict_chroma_tb_slices.Reads as prob
 use Rattle.probes.proofs.salvrunde_probe_predict_luma_tb_slices.Reads as probes-salvrunde-probe-predict-luma-tb-slices
 use Rattle.probes.proofs.salvrunde_probe_compute_residual_i32_into.Reads as probes-salvrunde-probe-compute-residual-i32-into
 use Rattle.probes.proofs.salvrunde_probe_reconstruct_into.Reads as probes-salvrunde-probe-reconstruct-into
+use Rattle.probes.proofs.salvrunde_probe_walk.Reads as probes-salvrunde-probe-walk
+use Rattle.probes.proofs.salvrunde_probe_replay.Reads as probes-salvrunde-probe-replay
 use Rattle.walk.proofs.Progress.replay.Reads as walk-replay
 use Rattle.walk.proofs.Progress.walk.Reads as walk-walk
 
@@ -281,6 +283,12 @@ probes-salvrunde-probe-compute-residual-i32-into-once κs a x y s t p q = (p .0 
 
 probes-salvrunde-probe-reconstruct-into-once : (κs : Lfts 3) → OnceLeft (λ s. now (s .1 .1 .1 .1 .0)) (probes-salvrunde-probe-reconstruct-into.Post κs)
 probes-salvrunde-probe-reconstruct-into-once κs a x y s t p q = (p .0 ∙ sym (q .0), p .1 ∙ sym (q .1))
+
+probes-salvrunde-probe-walk-once : (κs : Lfts 7) → OnceLeft {L = World} (λ s. record { work = now (s .1 .1 .1 .1 .1 .1 .1 .0); residuals = now (s .1 .1 .1 .1 .1 .1 .1 .1 .0) }) (probes-salvrunde-probe-walk.Post κs)
+probes-salvrunde-probe-walk-once κs a x y s t p q = (p .0 ∙ sym (q .0), p .1 .0 ∙ sym (q .1 .0))
+
+probes-salvrunde-probe-replay-once : (κs : Lfts 6) → OnceLeft (λ s. now (s .1 .1 .1 .1 .1 .1 .1 .0)) (probes-salvrunde-probe-replay.Post κs)
+probes-salvrunde-probe-replay-once κs a x y s t p q = (p .0 ∙ sym (q .0), p .1 .0 ∙ sym (q .1 .0))
 
 -- walk
 walk-replay-once : (κs : Lfts 6) → OnceLeft (λ s. now (s .1 .1 .1 .1 .0)) (walk-replay.Post κs)
