@@ -12,3 +12,7 @@ pub mod Range
 pub mod Spots
 -- OneAnswer: at most one answer meets the contract of each public function.
 pub mod OneAnswer
+-- Exact: rows of document 01's table, and what it means that a number is given exactly when its row says.
+pub mod Exact
+-- Table: document 01's table of numbers at each door.
+pub mod Table
