@@ -8,7 +8,7 @@ use Prim.Native.Nat.{ℕ, zero, suc, _<_, _≤_}
 use native.Mathlib.Omega.{arith}
 use lib.Dec.{leb, ltb, eqb}
 use borrow.Author.Tests.{leb-true, leb-false, ltb-true, ltb-false, eqb-true, eqb-false, eq-eqb, ne-eqb}
-use Rattle.laws.specs.Choose.{both-true}
+use Rattle.laws.specs.Choose.{served}
 
 -- a row: an answer, and when it is given
 pub record Row (A : Type 0) : Type 1 where
@@ -76,6 +76,17 @@ exact-row {b} {P} {k} {m} {rows} t e rest = record { given = λ j. go b t rest j
     go true t rest j false q = (λ n. (t .passed refl, rest refl .given j .0 n), λ g. rest refl .given j .1 (g .1))
     go false t rest j true q = (λ n. t .failed refl, λ p. sym (eqb-true j k q))
     go false t rest j false q = (λ n. absurd (eqb-false j k q (sym n)), λ g. absurd (g .0 (t .failed refl)))
+
+-- an answer that holds its number: 0 in what a served call gives, the call's own in what a refused one gives
+pub number-in : {A : Type 0} (no-of : A → ℕ) (work kept : A) {k : ℕ} → no-of work ≡ 0 → no-of kept ≡ k → no-of (served k work kept) ≡ k
+number-in no-of work kept {k} z e = go (eqb k 0) refl
+  where
+    go : (b : Bool) → eqb k 0 ≡ b → no-of (cond b work kept) ≡ k
+    go true q = z ∙ sym (eqb-true k 0 q)
+    go false q = e
+
+pub exact-answer : {A : Type 0} (no-of : A → ℕ) (work kept : A) {k : ℕ} {rows : List (Row ℕ)} → no-of work ≡ 0 → no-of kept ≡ k → Exact k rows → Exact (no-of (served k work kept)) rows
+exact-answer no-of work kept {rows = rows} z e x = subst (λ (j : ℕ). Exact j rows) (sym (number-in no-of work kept z e)) x
 
 -- Rows of any answers
 module _ {A : Type 0} (done : A) where
