@@ -101,14 +101,17 @@ module _ {A : Type 0} (done : A) where
   pub first-exact : (a : A) (rows : List (Row A)) → First done a rows → ExactFirst done a rows
   first-exact a rows f = record { given = λ b. (λ e. subst (λ (x : A). First done x rows) e f, λ g. one a b rows f g) }
 
-  -- one row more, where the answer goes by the number of the first test that fails
-  pub first-row : {b : Bool} {P : Type 0} (from : ℕ → A) (k m : ℕ) (rows : List (Row A)) → Tells b P → (b ≡ true → First done (from m) rows)
-      → First done (from (cond b m k)) ((from k when P) ∷ rows)
-  first-row {b} {P} from k m rows t rest = go b t rest
-    where
-      go : (b : Bool) → Tells b P → (b ≡ true → First done (from m) rows) → First done (from (cond b m k)) ((from k when P) ∷ rows)
-      go true t rest = inr (t .passed refl, rest refl)
-      go false t rest = inl (t .failed refl, refl)
+-- the same of an answer that goes by the number of the first test that fails
+pub record FirstBy {A : Type 0} (done : A) (from : ℕ → A) (k : ℕ) (rows : List (Row A)) : Type 0 where
+  pub first : First done (from k) rows
+
+pub first-row : {A : Type 0} {done : A} {from : ℕ → A} {b : Bool} {P : Type 0} {k m : ℕ} {rows : List (Row A)} → Tells b P → (b ≡ true → FirstBy done from m rows)
+    → FirstBy done from (cond b m k) ((from k when P) ∷ rows)
+first-row {A} {done} {from} {b} {P} {k} {m} {rows} t rest = record { first = go b t rest }
+  where
+    go : (b : Bool) → Tells b P → (b ≡ true → FirstBy done from m rows) → First done (from (cond b m k)) ((from k when P) ∷ rows)
+    go true t rest = inr (t .passed refl, rest refl .first)
+    go false t rest = inl (t .failed refl, refl)
 
 -- Tests
 pub all-of : {a b : Bool} {P Q : Type 0} → Tells a P → Tells b Q → Tells (a && b) (P or Q)
