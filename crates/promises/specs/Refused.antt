@@ -30,7 +30,6 @@ use Rattle.plan.specs.declared.Verdict.{Verdict}
 use Rattle.plan.specs.Plan.{Plan}
 use Rattle.walk.specs.declared.Still.{Still}
 use Rattle.walk.specs.declared.Progress.{Progress}
-use Rattle.walk.specs.declared.Stepped.{Stepped}
 use Rattle.walk.specs.Block.{World}
 use Rattle.walk.specs.Door.{Tables, steppedBy, replayVerdict, replayAfter, walkVerdict, walkAfter}
 use Rattle.promises.specs.Exact.{number-in}

@@ -13,17 +13,17 @@
 --                                                             residual::reconstruct_into           reconstruct
 --
 -- plan::check_plan, Progress::walk and Progress::replay, whose numbers carry a block, are in TableWalk; what a refused call gives back is in Refused.
-use mathlib.Core.Path.{_≡_, refl, sym, ap, subst}
+use mathlib.Core.Path.{_≡_, refl, ap, subst}
 use mathlib.Core.Bool.{Bool, true, false, cond, _&&_, _||_, true≢false, false≢true}
 use mathlib.Core.List.{List, [], _∷_}
-use mathlib.Core.Logic.{_⊎_, inl, inr, ⊎-elim, _↔_}
+use mathlib.Core.Logic.{inl, inr, ⊎-elim, _↔_}
 use Prim.Native.Nat.{ℕ, zero, suc, _+_, _*_, _/_, _%_, _<_, _≤_}
 use native.Mathlib.Nat.{not-suc-le-zero, eq-or-lt-of-le, le-of-suc-le-suc}
 use native.Mathlib.Omega.{arith}
 use lib.Dec.{leb, eqb}
 use lib.IntN.{ℤ, pos, negsuc, natAbs}
 use lib.ListN.{length, getD}
-use borrow.Author.Tests.{le-leb, eq-eqb, ne-eqb, leb-true, leb-false, eqb-true, eqb-false}
+use borrow.Author.Tests.{le-leb, eq-eqb, ne-eqb, leb-true, leb-false}
 use Rattle.laws.specs.Choose.{both-true}
 use Rattle.domain.specs.Domain.{depthOk, sizeOk, sideOk, ctuOk, unitOk}
 use Rattle.domain.specs.Facts.{Depth, Size, Side, Ctu, Unit, depth-of, size-of, side-of, ctu-of, unit-of, at-depth, at-size, size-small}
@@ -35,7 +35,7 @@ use Rattle.fmt.specs.declared.ChromaFormat.the-variants.{Monochrome, Yuv420, Yu
 use Rattle.fmt.specs.declared.LumaRow.{LumaRow}
 use Rattle.fmt.specs.declared.LumaCol.{LumaCol}
 use Rattle.fmt.specs.declared.FormatFrom.the-variants.{Unknown}
-use Rattle.fmt.specs.Fmt.{depthFrom, depthNumber, formatFrom, subWidth, subHeight}
+use Rattle.fmt.specs.Fmt.{depthFrom, depthNumber, formatFrom, subWidth}
 use Rattle.order.specs.declared.Picture.{Picture}
 use Rattle.order.specs.declared.LumaNeighbour.{LumaNeighbour}
 use Rattle.order.specs.declared.LumaBlock.{LumaBlock}

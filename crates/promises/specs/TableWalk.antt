@@ -1,8 +1,8 @@
 -- Document 01, 'The numbers a call gives back', where a number carries a block: the plan check (`check-plan`), walk (`walk`) and replay (`replay`). The rows are in
 -- the order of the checks, the blocks' in list order, and the answer is given exactly when it is that of the first row that holds. Rests on
 -- Exact and on what the plan's verdict tells.
-use mathlib.Core.Path.{_≡_, refl, sym, ap, _∙_, subst}
-use mathlib.Core.Bool.{Bool, true, false, cond, _&&_, true≢false, false≢true}
+use mathlib.Core.Path.{_≡_, refl, sym, ap, subst}
+use mathlib.Core.Bool.{Bool, true, false, cond, true≢false}
 use mathlib.Core.List.{List, [], _∷_}
 use mathlib.Core.Logic.{_⊎_, inl, inr, ⊎-elim}
 use Prim.Native.Nat.{ℕ, zero, suc, _+_, _*_, _<_, _≤_}
@@ -21,12 +21,12 @@ use Rattle.plan.specs.declared.Verdict.{Verdict}
 use Rattle.plan.specs.Plan.{pictureOf, Plan, In, Covered, Placed, Next}
 use Rattle.plan.specs.Check.{placedOk, blocksVerdict, planVerdict}
 use Rattle.plan.specs.Tests.{picture-good, placed-of}
-use Rattle.plan.specs.Verdict.{Fine, Broken, bad-size, bad-mode, bad-place, bad-order, Accepted, Told, is-good, bad-picture, bad-block, bad-cover, told, verdict-good, good-verdict}
+use Rattle.plan.specs.Verdict.{Fine, Broken, bad-size, bad-mode, bad-place, bad-order, Told, is-good, bad-picture, bad-block, bad-cover, told, verdict-good, good-verdict}
 use Rattle.walk.specs.declared.Still.{Still}
 use Rattle.walk.specs.declared.Progress.{Progress}
 use Rattle.walk.specs.declared.Stepped.{Stepped}
 use Rattle.walk.specs.Block.{largestOf, World}
-use Rattle.walk.specs.Door.{every, whole, Tables, roomy, doing, verdictOf, steppedBy, residualOk, replayVerdict, walkVerdict}
+use Rattle.walk.specs.Door.{every, whole, Tables, roomy, doing, verdictOf, steppedBy, replayVerdict, walkVerdict}
 use Rattle.promises.specs.Exact.{Row, _when_, _or_, First, ExactFirst, FirstBy, Tells, first-exact, first-row, all-of, at-most, same}
 use Rattle.promises.specs.Table.{BadPicture, BadPlace, depth, picture, placed}
 
