@@ -60,6 +60,7 @@ use Rattle.flat.proofs.predict_dc_into.Reads as flat-predict-dc-into
 use Rattle.angular.proofs.predict_angular_slices.Reads as angular-predict-angular-slices
 use Rattle.predict.proofs.predict_chroma_tb_slices.Reads as predict-predict-chroma-tb-slices
 use Rattle.predict.proofs.predict_luma_tb_slices.Reads as predict-predict-luma-tb-slices
+use Rattle.scratch.proofs.AngularScratch.new.Reads as scratch-new
 use Rattle.residual.proofs.compute_residual_i32_into.Reads as residual-compute-residual-i32-into
 use Rattle.residual.proofs.reconstruct_into.Reads as residual-reconstruct-into
 use Rattle.probes.proofs.salvrunde_probe_predict_planar_into.Reads as probes-salvrunde-probe-predict-planar-into
@@ -252,6 +253,10 @@ predict-predict-chroma-tb-slices-once κs a x y s t p q = by-number _ _ (p .0) (
 
 predict-predict-luma-tb-slices-once : (κs : Lfts 4) → OnceLeft (λ s. now (s .1 .1 .1 .1 .0)) (predict-predict-luma-tb-slices.Post κs)
 predict-predict-luma-tb-slices-once κs a x y s t p q = by-number _ _ (p .0) (q .0) (p .1 .0) (q .1 .0)
+
+-- scratch
+scratch-new-once : Once (scratch-new.Post tt)
+scratch-new-once a x y s t p q = p ∙ sym q
 
 -- residual
 residual-compute-residual-i32-into-once : (κs : Lfts 3) → OnceLeft (λ s. now (s .1 .1 .1 .0)) (residual-compute-residual-i32-into.Post κs)
