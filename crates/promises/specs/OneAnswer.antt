@@ -61,6 +61,12 @@ use Rattle.angular.proofs.predict_angular_slices.Reads as angular-predict-angul
 use Rattle.predict.proofs.predict_chroma_tb_slices.Reads as predict-predict-chroma-tb-slices
 use Rattle.predict.proofs.predict_luma_tb_slices.Reads as predict-predict-luma-tb-slices
 use Rattle.scratch.proofs.AngularScratch.new.Reads as scratch-new
+use Rattle.scratch.proofs.predict_angular_into.Reads as scratch-predict-angular-into
+use Rattle.scratch.proofs.predict_chroma_tb_into.Reads as scratch-predict-chroma-tb-into
+use Rattle.scratch.proofs.predict_luma_tb_into.Reads as scratch-predict-luma-tb-into
+use Rattle.scratch.proofs.predict_angular_fresh.Reads as scratch-predict-angular-fresh
+use Rattle.scratch.proofs.predict_chroma_tb_fresh.Reads as scratch-predict-chroma-tb-fresh
+use Rattle.scratch.proofs.predict_luma_tb_fresh.Reads as scratch-predict-luma-tb-fresh
 use Rattle.residual.proofs.compute_residual_i32_into.Reads as residual-compute-residual-i32-into
 use Rattle.residual.proofs.reconstruct_into.Reads as residual-reconstruct-into
 use Rattle.probes.proofs.salvrunde_probe_predict_planar_into.Reads as probes-salvrunde-probe-predict-planar-into
@@ -257,6 +263,24 @@ predict-predict-luma-tb-slices-once κs a x y s t p q = by-number _ _ (p .0) (q 
 -- scratch
 scratch-new-once : Once (scratch-new.Post tt)
 scratch-new-once a x y s t p q = p ∙ sym q
+
+scratch-predict-angular-into-once : (κs : Lfts 4) → OnceLeft (λ s. now (s .1 .1 .1 .1 .1 .1 .1 .0)) (scratch-predict-angular-into.Post κs)
+scratch-predict-angular-into-once κs a x y s t p q = by-number _ _ (p .0) (q .0) (p .1 .0) (q .1 .0)
+
+scratch-predict-chroma-tb-into-once : (κs : Lfts 4) → OnceLeft (λ s. now (s .1 .1 .1 .1 .1 .1 .0)) (scratch-predict-chroma-tb-into.Post κs)
+scratch-predict-chroma-tb-into-once κs a x y s t p q = by-number _ _ (p .0) (q .0) (p .1 .0) (q .1 .0)
+
+scratch-predict-luma-tb-into-once : (κs : Lfts 2) → OnceLeft (λ s. now (s .1 .1 .1 .1 .0)) (scratch-predict-luma-tb-into.Post κs)
+scratch-predict-luma-tb-into-once κs a x y s t p q = by-number _ _ (p .0) (q .0) (p .1 .0) (q .1 .0)
+
+scratch-predict-angular-fresh-once : (κs : Lfts 3) → OnceLeft (λ s. now (s .1 .1 .1 .1 .1 .1 .1 .0)) (scratch-predict-angular-fresh.Post κs)
+scratch-predict-angular-fresh-once κs a x y s t p q = by-number _ _ (p .0) (q .0) (p .1) (q .1)
+
+scratch-predict-chroma-tb-fresh-once : (κs : Lfts 3) → OnceLeft (λ s. now (s .1 .1 .1 .1 .1 .1 .0)) (scratch-predict-chroma-tb-fresh.Post κs)
+scratch-predict-chroma-tb-fresh-once κs a x y s t p q = by-number _ _ (p .0) (q .0) (p .1) (q .1)
+
+scratch-predict-luma-tb-fresh-once : (κs : Lfts 1) → OnceLeft (λ s. now (s .1 .1 .1 .1 .0)) (scratch-predict-luma-tb-fresh.Post κs)
+scratch-predict-luma-tb-fresh-once κs a x y s t p q = by-number _ _ (p .0) (q .0) (p .1) (q .1)
 
 -- residual
 residual-compute-residual-i32-into-once : (κs : Lfts 3) → OnceLeft (λ s. now (s .1 .1 .1 .0)) (residual-compute-residual-i32-into.Post κs)

@@ -153,14 +153,14 @@ module _ {M : Type 1} (𝓤 : URA M) (H : Heap 𝓤) (A : Atoms 𝓤) (b o : ℕ
       ⊛ (raw (Back 𝓤 H A b o) ⊛ (‵ (fobor κ q (Body (mem T.the-row) b o γ)) ⊛ (‵ (fobs γ (T.the-row .coded .code h)) ⊛ ‵ (fauth γ (T.the-row .coded .code h)))))
 
   -- the reference itself
-  abbrev pub Held-by : Lifetime → Lft → GName → AngularScratch → Item 𝓤
-  Held-by ℓ κ γ h = ‵ (MutRef ℓ κ T.the-row .own (record { ptr = (b, o); name = γ; now = h }) (vptr b o ∷ []))
+  abbrev pub Holds : Lifetime → Lft → GName → AngularScratch → Item 𝓤
+  Holds ℓ κ γ h = ‵ (MutRef ℓ κ T.the-row .own (record { ptr = (b, o); name = γ; now = h }) (vptr b o ∷ []))
 
 module _ {M : Type 1} (𝓤 : URA M) (H : Heap 𝓤) (A : Atoms 𝓤) (W : Given 𝓤 H A) (b o : ℕ) (ℓ : Lifetime) (κ : Lft) (q : Share) (γ : GName) where
-  pub lend : (h : AngularScratch) → ent 𝓤 (mean 𝓤 H A (Held-by 𝓤 H A b o ℓ κ γ h ⊛ ‵ (flft κ q)))
+  pub lend : (h : AngularScratch) → ent 𝓤 (mean 𝓤 H A (Holds 𝓤 H A b o ℓ κ γ h ⊛ ‵ (flft κ q)))
       (mean 𝓤 H A (later (some (λ (l : Loan). given (Long (h .refs) (h .indices) (h .fractions)) (Tokens 𝓤 H A b o l ⊛ (Lent 𝓤 H A b o l h ⊛ Kept 𝓤 H A b o κ q γ l h))))))
   lend h =
-      qed W ((Held-by 𝓤 H A b o ℓ κ γ h ⊛ ‵ (flft κ q)) ∷ []) ∵ updating ! $ split ! $ fsplit3 ! $ drop ! $ open-ref ! tt (mem T.the-row) {x = h} {b = b} {o = o} $
+      qed W ((Holds 𝓤 H A b o ℓ κ γ h ⊛ ‵ (flft κ q)) ∷ []) ∵ updating ! $ split ! $ fsplit3 ! $ drop ! $ open-ref ! tt (mem T.the-row) {x = h} {b = b} {o = o} $
       use1 W (given (Long (h .refs) (h .indices) (h .fractions)) (Lie 𝓤 H A b o (h .refs) (h .indices) (h .fractions))) (apart 𝓤 H A W b o h) $ learn ! (λ long.
       split ! $ move ! (1 ∷ []) $ split ! $ move ! (1 ∷ []) $ split ! $
       -- [fractions; the way back; indices; refs; the open borrow; obs; auth]
@@ -182,7 +182,7 @@ module _ {M : Type 1} (𝓤 : URA M) (H : Heap 𝓤) (A : Atoms 𝓤) (W : Given
       (record { life₁ = α₁; life₂ = α₂; life₃ = α₃; name₁ = δ₁; name₂ = δ₂; name₃ = δ₃ }) $ check ! long $
       move ! (8 ∷ 7 ∷ 6 ∷ []) $ group ! 3 $ move ! (5 ∷ 3 ∷ 1 ∷ []) $ group ! 3 $ move ! (4 ∷ 3 ∷ 2 ∷ []) $ group ! 3 $ move ! (2 ∷ 1 ∷ 0 ∷ []) $ frame ! $ frame ! $ frame ! $ done !)))))))
 
-  pub regain : (l : Loan) (h h′ : AngularScratch) → Long (h′ .refs) (h′ .indices) (h′ .fractions) → ent 𝓤 (mean 𝓤 H A (Tokens 𝓤 H A b o l ⊛ (Lasts 𝓤 H A b o l h′ ⊛ Kept 𝓤 H A b o κ q γ l h))) (mean 𝓤 H A (later (Held-by 𝓤 H A b o ℓ κ γ h′ ⊛ ‵ (flft κ q))))
+  pub regain : (l : Loan) (h h′ : AngularScratch) → Long (h′ .refs) (h′ .indices) (h′ .fractions) → ent 𝓤 (mean 𝓤 H A (Tokens 𝓤 H A b o l ⊛ (Lasts 𝓤 H A b o l h′ ⊛ Kept 𝓤 H A b o κ q γ l h))) (mean 𝓤 H A (later (Holds 𝓤 H A b o ℓ κ γ h′ ⊛ ‵ (flft κ q))))
   regain l h h′ long =
       qed W ((Tokens 𝓤 H A b o l ⊛ (Lasts 𝓤 H A b o l h′ ⊛ Kept 𝓤 H A b o κ q γ l h)) ∷ []) ∵ updating ! $ split ! $ split ! $ lft-end ! tt $ move ! (1 ∷ []) $ split ! $ lft-end ! tt $ move ! (1 ∷ []) $ lft-end ! tt $
       -- [ended 3, 2, 1; the rest]
