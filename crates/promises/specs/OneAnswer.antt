@@ -73,9 +73,9 @@ use Rattle.scratch.proofs.AngularScratch.new.Reads as scratch-new
 use Rattle.scratch.proofs.predict_angular_into as scratch-predict-angular-into
 use Rattle.scratch.proofs.predict_chroma_tb_into as scratch-predict-chroma-tb-into
 use Rattle.scratch.proofs.predict_luma_tb_into as scratch-predict-luma-tb-into
-use Rattle.scratch.proofs.predict_angular_fresh as scratch-predict-angular-fresh
-use Rattle.scratch.proofs.predict_chroma_tb_fresh as scratch-predict-chroma-tb-fresh
-use Rattle.scratch.proofs.predict_luma_tb_fresh as scratch-predict-luma-tb-fresh
+use Rattle.scratch.proofs.predict_angular_fresh.Reads as scratch-predict-angular-fresh
+use Rattle.scratch.proofs.predict_chroma_tb_fresh.Reads as scratch-predict-chroma-tb-fresh
+use Rattle.scratch.proofs.predict_luma_tb_fresh.Reads as scratch-predict-luma-tb-fresh
 use Rattle.residual.proofs.compute_residual_i32_into.Reads as residual-compute-residual-i32-into
 use Rattle.residual.proofs.reconstruct_into.Reads as residual-reconstruct-into
 use Rattle.probes.proofs.salvrunde_probe_predict_planar_into.Reads as probes-salvrunde-probe-predict-planar-into
@@ -83,6 +83,9 @@ use Rattle.probes.proofs.salvrunde_probe_predict_dc_into.Reads as probes-salvru
 use Rattle.probes.proofs.salvrunde_probe_predict_angular_slices.Reads as probes-salvrunde-probe-predict-angular-slices
 use Rattle.probes.proofs.salvrunde_probe_predict_chroma_tb_slices.Reads as probes-salvrunde-probe-predict-chroma-tb-slices
 use Rattle.probes.proofs.salvrunde_probe_predict_luma_tb_slices.Reads as probes-salvrunde-probe-predict-luma-tb-slices
+use Rattle.probes.proofs.salvrunde_probe_predict_angular_scratch.Reads as probes-salvrunde-probe-predict-angular-scratch
+use Rattle.probes.proofs.salvrunde_probe_predict_chroma_tb_scratch.Reads as probes-salvrunde-probe-predict-chroma-tb-scratch
+use Rattle.probes.proofs.salvrunde_probe_predict_luma_tb_scratch.Reads as probes-salvrunde-probe-predict-luma-tb-scratch
 use Rattle.probes.proofs.salvrunde_probe_compute_residual_i32_into.Reads as probes-salvrunde-probe-compute-residual-i32-into
 use Rattle.probes.proofs.salvrunde_probe_reconstruct_into.Reads as probes-salvrunde-probe-reconstruct-into
 use Rattle.walk.proofs.Progress.replay.Reads as walk-replay
@@ -273,6 +276,15 @@ predict-predict-luma-tb-slices-once κs a x y s t p q = by-number _ _ (p .0) (q 
 scratch-new-once : Once (scratch-new.Post tt)
 scratch-new-once a x y s t p q = p ∙ sym q
 
+scratch-predict-angular-fresh-once : (κs : Lfts 3) → OnceLeft (λ s. now (s .1 .1 .1 .1 .1 .1 .1 .0)) (scratch-predict-angular-fresh.Post κs)
+scratch-predict-angular-fresh-once κs a x y s t p q = by-number _ _ (p .0) (q .0) (p .1) (q .1)
+
+scratch-predict-chroma-tb-fresh-once : (κs : Lfts 3) → OnceLeft (λ s. now (s .1 .1 .1 .1 .1 .1 .0)) (scratch-predict-chroma-tb-fresh.Post κs)
+scratch-predict-chroma-tb-fresh-once κs a x y s t p q = by-number _ _ (p .0) (q .0) (p .1) (q .1)
+
+scratch-predict-luma-tb-fresh-once : (κs : Lfts 1) → OnceLeft (λ s. now (s .1 .1 .1 .1 .0)) (scratch-predict-luma-tb-fresh.Post κs)
+scratch-predict-luma-tb-fresh-once κs a x y s t p q = by-number _ _ (p .0) (q .0) (p .1) (q .1)
+
 -- residual
 residual-compute-residual-i32-into-once : (κs : Lfts 3) → OnceLeft (λ s. now (s .1 .1 .1 .0)) (residual-compute-residual-i32-into.Post κs)
 residual-compute-residual-i32-into-once κs a x y s t p q = (p .0 ∙ sym (q .0), p .1 ∙ sym (q .1))
@@ -295,6 +307,15 @@ probes-salvrunde-probe-predict-chroma-tb-slices-once κs a x y s t p q = by-numb
 
 probes-salvrunde-probe-predict-luma-tb-slices-once : (κs : Lfts 6) → OnceLeft (λ s. now (s .1 .1 .1 .1 .1 .1 .0)) (probes-salvrunde-probe-predict-luma-tb-slices.Post κs)
 probes-salvrunde-probe-predict-luma-tb-slices-once κs a x y s t p q = by-number _ _ (p .0) (q .0) (p .1 .0) (q .1 .0)
+
+probes-salvrunde-probe-predict-angular-scratch-once : (κs : Lfts 3) → OnceLeft (λ s. now (s .1 .1 .1 .1 .1 .1 .1 .0)) (probes-salvrunde-probe-predict-angular-scratch.Post κs)
+probes-salvrunde-probe-predict-angular-scratch-once κs a x y s t p q = by-number _ _ (p .0) (q .0) (p .1) (q .1)
+
+probes-salvrunde-probe-predict-chroma-tb-scratch-once : (κs : Lfts 3) → OnceLeft (λ s. now (s .1 .1 .1 .1 .1 .1 .0)) (probes-salvrunde-probe-predict-chroma-tb-scratch.Post κs)
+probes-salvrunde-probe-predict-chroma-tb-scratch-once κs a x y s t p q = by-number _ _ (p .0) (q .0) (p .1) (q .1)
+
+probes-salvrunde-probe-predict-luma-tb-scratch-once : (κs : Lfts 3) → OnceLeft (λ s. now (s .1 .1 .1 .1 .1 .1 .0)) (probes-salvrunde-probe-predict-luma-tb-scratch.Post κs)
+probes-salvrunde-probe-predict-luma-tb-scratch-once κs a x y s t p q = by-number _ _ (p .0) (q .0) (p .1) (q .1)
 
 probes-salvrunde-probe-compute-residual-i32-into-once : (κs : Lfts 3) → OnceLeft (λ s. now (s .1 .1 .1 .0)) (probes-salvrunde-probe-compute-residual-i32-into.Post κs)
 probes-salvrunde-probe-compute-residual-i32-into-once κs a x y s t p q = (p .0 ∙ sym (q .0), p .1 ∙ sym (q .1))
@@ -327,12 +348,3 @@ module _ {M : Type 1} (𝓤 : URA M) (H : Heap 𝓤) (A : Atoms 𝓤) (mem : Mem
 
   scratch-predict-luma-tb-into-once : (κs : Lfts 2) → OnceHeld scratch-predict-luma-tb-into.ended κs (λ s. now (s .1 .1 .1 .1 .0)) (scratch-predict-luma-tb-into.clauses 𝓤 H A mem run)
   scratch-predict-luma-tb-into-once κs a g x y s t = held-both _ _ _ (λ p q. by-number _ _ (p .0) (q .0) (p .1 .0) (q .1 .0))
-
-  scratch-predict-angular-fresh-once : (κs : Lfts 3) → OnceHeld scratch-predict-angular-fresh.ended κs (λ s. now (s .1 .1 .1 .1 .1 .1 .1 .0)) (scratch-predict-angular-fresh.clauses 𝓤 H A mem run)
-  scratch-predict-angular-fresh-once κs a g x y s t = held-both _ _ _ (λ p q. by-number _ _ (p .0) (q .0) (p .1) (q .1))
-
-  scratch-predict-chroma-tb-fresh-once : (κs : Lfts 3) → OnceHeld scratch-predict-chroma-tb-fresh.ended κs (λ s. now (s .1 .1 .1 .1 .1 .1 .0)) (scratch-predict-chroma-tb-fresh.clauses 𝓤 H A mem run)
-  scratch-predict-chroma-tb-fresh-once κs a g x y s t = held-both _ _ _ (λ p q. by-number _ _ (p .0) (q .0) (p .1) (q .1))
-
-  scratch-predict-luma-tb-fresh-once : (κs : Lfts 1) → OnceHeld scratch-predict-luma-tb-fresh.ended κs (λ s. now (s .1 .1 .1 .1 .0)) (scratch-predict-luma-tb-fresh.clauses 𝓤 H A mem run)
-  scratch-predict-luma-tb-fresh-once κs a g x y s t = held-both _ _ _ (λ p q. by-number _ _ (p .0) (q .0) (p .1) (q .1))
