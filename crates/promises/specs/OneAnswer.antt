@@ -8,6 +8,12 @@ use contract.Lifetimes.{Lfts}
 use denote.Ref.{now}
 use Rattle.laws.specs.Choose.{served}
 use Rattle.walk.specs.Block.{World}
+use Rattle.bytes.proofs.sample.Reads as bytes-sample
+use Rattle.bytes.proofs.residual.Reads as bytes-residual
+use Rattle.bytes.proofs.byte_0.Reads as bytes-byte-0
+use Rattle.bytes.proofs.byte_1.Reads as bytes-byte-1
+use Rattle.bytes.proofs.byte_2.Reads as bytes-byte-2
+use Rattle.bytes.proofs.byte_3.Reads as bytes-byte-3
 use Rattle.domain.proofs.depth_ok.Reads as domain-depth-ok
 use Rattle.domain.proofs.size_ok.Reads as domain-size-ok
 use Rattle.domain.proofs.mode_ok.Reads as domain-mode-ok
@@ -83,6 +89,25 @@ OnceLeft {A} {X} {S} lent post = (a : A) (x y : X) (s t : S) → post a x s → 
 -- contents that go by the answer's number
 by-number : {L : Type 0} (work kept : L) {n x y : ℕ} {l m : L} → x ≡ n → y ≡ n → l ≡ served x work kept → m ≡ served y work kept → (x ≡ y) × (l ≡ m)
 by-number work kept p q u v = (p ∙ sym q, u ∙ ap (λ (k : ℕ). served k work kept) (p ∙ sym q) ∙ sym v)
+
+-- bytes
+bytes-sample-once : Once (bytes-sample.Post tt)
+bytes-sample-once a x y s t p q = p ∙ sym q
+
+bytes-residual-once : Once (bytes-residual.Post tt)
+bytes-residual-once a x y s t p q = p ∙ sym q
+
+bytes-byte-0-once : Once (bytes-byte-0.Post tt)
+bytes-byte-0-once a x y s t p q = p ∙ sym q
+
+bytes-byte-1-once : Once (bytes-byte-1.Post tt)
+bytes-byte-1-once a x y s t p q = p ∙ sym q
+
+bytes-byte-2-once : Once (bytes-byte-2.Post tt)
+bytes-byte-2-once a x y s t p q = p ∙ sym q
+
+bytes-byte-3-once : Once (bytes-byte-3.Post tt)
+bytes-byte-3-once a x y s t p q = p ∙ sym q
 
 -- domain
 domain-depth-ok-once : Once (domain-depth-ok.Post tt)
