@@ -24,6 +24,18 @@ unfolding bytesOf
 length-bytes [] = refl
 length-bytes (v ∷ l) = omega (arith, length-bytes l)
 
+-- as many bytes spell as many samples
+pub samples-alike : (a b : List ℕ) → length a ≡ length b → length (samplesOf a) ≡ length (samplesOf b)
+samples-alike a b e = length-samples a ∙ ap (λ (k : ℕ). k / 2) e ∙ sym (length-samples b)
+
+-- a sample's bytes lie in the list
+pub sample-in : (b : List ℕ) (i : ℕ) → i < length (samplesOf b) → 2 * i + 1 < length b
+sample-in b i h = omega (arith, length-samples b)
+
+-- a sample is its two bytes
+pub two-bytes : (v x y : ℕ) → v < 65536 → x ≡ v % 256 → y ≡ byte1 v → v ≡ le2 x y
+two-bytes v x y h p q = let m : byte1 v ≡ v / 256 = mod-eq-of-lt (omega arith) in omega (arith, m)
+
 -- sample i is the two bytes from 2 i on
 pub sample-at : (b : List ℕ) (i at : ℕ) → at ≡ 2 * i → at + 1 < length b → getD (samplesOf b) i 0 ≡ le2 (getD b at 0) (getD b (at + 1) 0)
 unfolding samplesOf
@@ -73,6 +85,10 @@ length-residuals (x ∷ []) = refl
 length-residuals (x ∷ y ∷ []) = refl
 length-residuals (x ∷ y ∷ z ∷ []) = refl
 length-residuals (x ∷ y ∷ z ∷ t ∷ b) = omega (arith, length-residuals b)
+
+-- a residual's bytes lie in the list
+pub residual-in : (b : List ℕ) (i : ℕ) → i < length (residualsOf b) → 4 * i + 3 < length b
+residual-in b i h = omega (arith, length-residuals b)
 
 -- residual i is the four bytes from 4 i on
 pub residual-at : (b : List ℕ) (i at : ℕ) → at ≡ 4 * i → at + 3 < length b → getD (residualsOf b) i (pos 0) ≡ residual4 (getD b at 0) (getD b (at + 1) 0) (getD b (at + 2) 0) (getD b (at + 3) 0)

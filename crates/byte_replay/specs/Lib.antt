@@ -1,0 +1,2 @@
+-- Door: what a call refuses, gives and leaves behind.
+pub mod Door
