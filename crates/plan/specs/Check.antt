@@ -2,9 +2,8 @@
 -- samples that are covered; that this decides 'next uncovered cell' and 'covers all' exactly is proved in Cover. Assumes nothing.
 use Prim.Native.Nat.{ℕ, zero, suc, _+_, _-_, _*_, _/_, _%_, min}
 use mathlib.Core.Bool.{Bool, cond, _&&_}
-use mathlib.Core.List.{List, [], _∷_}
+use mathlib.Core.List.{[], _∷_}
 use lib.Dec.{leb, eqb}
-use lib.ListN.{length}
 use Rattle.laws.specs.Choose.{_unless_, firstFail}
 use Rattle.h265.specs.Notation.{log2}
 use Rattle.domain.specs.Domain.{sizeOk, modeOk}
@@ -12,7 +11,7 @@ use Rattle.order.specs.Order.{pictureOk}
 use Rattle.plan.specs.declared.Frame.{Frame}
 use Rattle.plan.specs.declared.Block.{Block}
 use Rattle.plan.specs.declared.Verdict.{Verdict}
-use Rattle.plan.specs.Plan.{pictureOf, planOf}
+use Rattle.plan.specs.Plan.{pictureOf, Plan}
 
 -- The picture's cells that come before the cell (y, x), counted by the bits of y and x: m halvings below the CTU, a block of s by s
 -- cells at (y, x) in blocks; h and w are the picture's sides in cells.
@@ -45,8 +44,8 @@ verdictFrom f plan (suc m) k covered =
     cond (eqb n 0) (verdictFrom f plan m (suc k) (covered + plan k .side * plan k .side)) (record { no = n; block = k })
 
 -- the verdict on a plan whose picture is not refused
-abbrev pub blocksVerdict : Frame → List (List ℕ) → Verdict
-blocksVerdict f l = verdictFrom f (planOf l) (length l) 0 0
+abbrev pub blocksVerdict : Frame → Plan → Verdict
+blocksVerdict f l = verdictFrom f (l .block) (l .count) 0 0
 
-unfoldable pub planVerdict : Frame → List (List ℕ) → Verdict
+unfoldable pub planVerdict : Frame → Plan → Verdict
 planVerdict f l = cond (pictureOk (pictureOf f)) (blocksVerdict f l) (record { no = 4; block = 0 })

@@ -5,6 +5,7 @@ use Prim.Native.Nat.{ℕ}
 use Rattle.h265.specs.Notation.{halvings}
 use Rattle.plan.specs.declared.Frame.{Frame}
 use Rattle.plan.specs.declared.Verdict.{Verdict}
+use Rattle.plan.specs.Plan.{planOf}
 use Rattle.plan.specs.Check.{aheadBy, ahead, blockNo, verdictFrom, planVerdict}
 
 abbrev still : ℕ → ℕ → Frame
@@ -18,15 +19,15 @@ gives n k = record { no = n; block = k }
 
 -- good; one alone; exchanged; the first twice; then a block outside, a mode above 34, a side of 5, a block of 32 in CTUs of 16, sides of 12
 pub figures : _≡_ {A = List Verdict}
-    (planVerdict (still 16 8) (at 0 0 8 1 ∷ at 0 8 8 1 ∷ [])
-    ∷ planVerdict (still 16 8) (at 0 0 8 1 ∷ [])
-    ∷ planVerdict (still 16 8) (at 0 8 8 1 ∷ at 0 0 8 1 ∷ [])
-    ∷ planVerdict (still 16 8) (at 0 0 8 1 ∷ at 0 0 8 1 ∷ [])
-    ∷ planVerdict (still 16 8) (at 0 0 8 1 ∷ at 0 8 8 1 ∷ at 0 16 8 1 ∷ [])
-    ∷ planVerdict (still 16 8) (at 0 0 8 34 ∷ at 0 8 8 35 ∷ [])
-    ∷ planVerdict (still 16 8) (at 0 0 5 35 ∷ [])
-    ∷ planVerdict (still 32 32) (at 0 0 32 0 ∷ [])
-    ∷ planVerdict (still 12 8) []
+    (planVerdict (still 16 8) (planOf (at 0 0 8 1 ∷ at 0 8 8 1 ∷ []))
+    ∷ planVerdict (still 16 8) (planOf (at 0 0 8 1 ∷ []))
+    ∷ planVerdict (still 16 8) (planOf (at 0 8 8 1 ∷ at 0 0 8 1 ∷ []))
+    ∷ planVerdict (still 16 8) (planOf (at 0 0 8 1 ∷ at 0 0 8 1 ∷ []))
+    ∷ planVerdict (still 16 8) (planOf (at 0 0 8 1 ∷ at 0 8 8 1 ∷ at 0 16 8 1 ∷ []))
+    ∷ planVerdict (still 16 8) (planOf (at 0 0 8 34 ∷ at 0 8 8 35 ∷ []))
+    ∷ planVerdict (still 16 8) (planOf (at 0 0 5 35 ∷ []))
+    ∷ planVerdict (still 32 32) (planOf (at 0 0 32 0 ∷ []))
+    ∷ planVerdict (still 12 8) (planOf [])
     ∷ [])
     (gives 0 0 ∷ gives 10 0 ∷ gives 9 0 ∷ gives 9 1 ∷ gives 6 2 ∷ gives 3 1 ∷ gives 2 0 ∷ gives 6 0 ∷ gives 4 0 ∷ [])
 unfolding planVerdict verdictFrom blockNo ahead aheadBy halvings
@@ -34,7 +35,7 @@ figures = refl
 
 -- 24 by 16: of the second CTU there is the left half alone; and its cells come after all of the first
 pub half-ctu : _≡_ {A = List Verdict}
-    (planVerdict (still 24 16) (at 0 0 16 0 ∷ at 0 16 8 0 ∷ at 8 16 8 0 ∷ []) ∷ planVerdict (still 24 16) (at 0 0 8 0 ∷ at 0 8 8 0 ∷ at 0 16 8 0 ∷ []) ∷ [])
+    (planVerdict (still 24 16) (planOf (at 0 0 16 0 ∷ at 0 16 8 0 ∷ at 8 16 8 0 ∷ [])) ∷ planVerdict (still 24 16) (planOf (at 0 0 8 0 ∷ at 0 8 8 0 ∷ at 0 16 8 0 ∷ [])) ∷ [])
     (gives 0 0 ∷ gives 9 2 ∷ [])
 unfolding planVerdict verdictFrom blockNo ahead aheadBy halvings
 half-ctu = refl

@@ -3,7 +3,7 @@
 use Prim.Native.Nat.{ℕ, zero, suc, _+_, _*_, _%_, _≤_, _<_}
 use mathlib.Core.Path.{_≡_}
 use mathlib.Core.List.{List, []}
-use lib.ListN.{getD}
+use lib.ListN.{length, getD}
 use Rattle.domain.specs.Facts.{Size}
 use Rattle.order.specs.declared.Picture.{Picture}
 use Rattle.order.specs.Order.{numberAt}
@@ -58,9 +58,14 @@ unfoldable pub place : (ℕ → Block) → ℕ → ℕ
 place plan zero = 0
 place plan (suc k) = place plan k + plan k .side * plan k .side
 
+-- a plan: so many blocks, in their order
+pub record Plan : Type 0 where
+  pub count : ℕ
+  pub block : ℕ → Block
+
 -- a plan as lent numbers: each block's row, column, side and mode
 abbrev pub blockOf : List ℕ → Block
 blockOf l = record { row = getD l 0 0; col = getD l 1 0; side = getD l 2 0; mode = getD l 3 0 }
 
-abbrev pub planOf : List (List ℕ) → ℕ → Block
-planOf l k = blockOf (getD l k [])
+abbrev pub planOf : List (List ℕ) → Plan
+planOf l = record { count = length l; block = λ k. blockOf (getD l k []) }

@@ -3,13 +3,11 @@
 use mathlib.Core.Path.{_≡_, refl, sym, ap, _∙_, subst}
 use mathlib.Core.Bool.{Bool, true, false, cond, true≢false}
 use mathlib.Core.Logic.{_↔_, ⊎-elim}
-use mathlib.Core.List.{List}
 use Prim.Native.Nat.{ℕ, zero, suc, _+_, _*_, _≤_, _<_}
 use native.Mathlib.Omega.{arith}
 use native.Mathlib.Decide.{ℕ-discrete}
 use native.Mathlib.Nat.{eq-or-lt-of-le, le-of-suc-le-suc}
 use lib.Dec.{eqb}
-use lib.ListN.{length}
 use borrow.Author.Tests.{eq-eqb, ne-eqb}
 use Rattle.laws.specs.Choose.{if-yes, if-no}
 use Rattle.domain.specs.Facts.{Size}
@@ -18,7 +16,7 @@ use Rattle.order.specs.Good.{Good}
 use Rattle.plan.specs.declared.Frame.{Frame}
 use Rattle.plan.specs.declared.Block.{Block}
 use Rattle.plan.specs.declared.Verdict.{Verdict}
-use Rattle.plan.specs.Plan.{pictureOf, planOf, In, Covered, Placed, Next, GoodPlan, place}
+use Rattle.plan.specs.Plan.{pictureOf, Plan, In, Covered, Placed, Next, GoodPlan, place}
 use Rattle.plan.specs.Check.{ahead, blockNo, verdictFrom, planVerdict}
 use Rattle.plan.specs.Tests.{picture-good, good-picture, Numbered, is-fine, not-size, not-mode, not-placed, not-next, numbered}
 use Rattle.plan.specs.Cover.{Checked, refusal-9, gap, good-plan}
@@ -124,12 +122,12 @@ module _ (f : Frame) (plan : ℕ → Block) (g : Good (pictureOf f)) where
       go ih (not-next z p md a) = stops count k 9 x l h (bad-order refl p md (λ x. a (refusal-9 g plan k (h .0) p .1 x))) (omega arith) rest z
 
 -- the whole of it
-pub told : (f : Frame) (l : List (List ℕ)) → Told f (planOf l) (length l) (planVerdict f l)
+pub told : (f : Frame) (l : Plan) → Told f (l .block) (l .count) (planVerdict f l)
 unfolding planVerdict place
 told f l = go (pictureOk (pictureOf f)) refl
   where
-    go : (b : Bool) → pictureOk (pictureOf f) ≡ b → Told f (planOf l) (length l) (cond b (verdictFrom f (planOf l) (length l) 0 0) (record { no = 4; block = 0 }))
-    go true e = told-from f (planOf l) (picture-good f e) (length l) (length l) 0 (omega arith) (λ i m. absurd (omega arith), λ i m. absurd (omega arith))
+    go : (b : Bool) → pictureOk (pictureOf f) ≡ b → Told f (l .block) (l .count) (cond b (verdictFrom f (l .block) (l .count) 0 0) (record { no = 4; block = 0 }))
+    go true e = told-from f (l .block) (picture-good f e) (l .count) (l .count) 0 (omega arith) (λ i m. absurd (omega arith), λ i m. absurd (omega arith))
     go false e = bad-picture refl (λ g. true≢false (sym (good-picture f g) ∙ e))
 
 -- a block's number is none of the others
@@ -142,32 +140,32 @@ block-no (bad-order z p a b) = (λ y. omega (arith, z, y), (λ y. omega (arith, 
 no-of : {v w : Verdict} → v ≡ w → v .no ≡ w .no
 no-of q = ap (λ (v : Verdict). v .no) q
 
-module _ (f : Frame) (l : List (List ℕ)) where
+module _ (f : Frame) (l : Plan) where
   abbrev v : Verdict
   v = planVerdict f l
 
   -- the number is 0 exactly when the plan is good
-  pub verdict-good : v .no ≡ 0 → Accepted f (planOf l) (length l)
+  pub verdict-good : v .no ≡ 0 → Accepted f (l .block) (l .count)
   verdict-good e = go (told f l)
     where
-      go : Told f (planOf l) (length l) v → Accepted f (planOf l) (length l)
+      go : Told f (l .block) (l .count) v → Accepted f (l .block) (l .count)
       go (is-good q a) = a
       go (bad-picture q a) = absurd (omega (arith, e, no-of q))
       go (bad-block n k q g r) = absurd (block-no (r .broken) .0 (sym (no-of q) ∙ e))
       go (bad-cover q g a) = absurd (omega (arith, e, no-of q))
 
-  pub good-verdict : Accepted f (planOf l) (length l) → v ≡ record { no = 0; block = 0 }
+  pub good-verdict : Accepted f (l .block) (l .count) → v ≡ record { no = 0; block = 0 }
   good-verdict x = go (told f l)
     where
-      go : Told f (planOf l) (length l) v → v ≡ record { no = 0; block = 0 }
+      go : Told f (l .block) (l .count) v → v ≡ record { no = 0; block = 0 }
       go (is-good q a) = q
       go (bad-picture q a) = absurd (a (x .picture))
       go (bad-block n k q g r) = absurd (kept (r .broken))
         where
-          p : Placed f (planOf l k)
+          p : Placed f ((l .block) k)
           p = x .plan-good .placed k (r .listed)
 
-          kept : Broken f (planOf l) k n → ⊥
+          kept : Broken f (l .block) k n → ⊥
           kept (bad-size z a) = a (p .size)
           kept (bad-mode z a b) = omega (arith, b, x .modes k (r .listed))
           kept (bad-place z a b d) = d p
@@ -175,19 +173,19 @@ module _ (f : Frame) (l : List (List ℕ)) where
       go (bad-cover q g a) = absurd (a .bare (x .plan-good .all (a .row) (a .col) (a .inside)))
 
   -- every number but 0, 4 and 10 is about the block it names, and 10 about a sample
-  pub verdict-block : (v .no ≡ 0 → ⊥) → (v .no ≡ 4 → ⊥) → (v .no ≡ 10 → ⊥) → Refused f (planOf l) (length l) (v .no) (v .block)
+  pub verdict-block : (v .no ≡ 0 → ⊥) → (v .no ≡ 4 → ⊥) → (v .no ≡ 10 → ⊥) → Refused f (l .block) (l .count) (v .no) (v .block)
   verdict-block good picture cover = go (told f l)
     where
-      go : Told f (planOf l) (length l) v → Refused f (planOf l) (length l) (v .no) (v .block)
+      go : Told f (l .block) (l .count) v → Refused f (l .block) (l .count) (v .no) (v .block)
       go (is-good q a) = absurd (good (no-of q))
       go (bad-picture q a) = absurd (picture (no-of q))
-      go (bad-block n k q g r) = subst (λ (u : Verdict). Refused f (planOf l) (length l) (u .no) (u .block)) (sym q) r
+      go (bad-block n k q g r) = subst (λ (u : Verdict). Refused f (l .block) (l .count) (u .no) (u .block)) (sym q) r
       go (bad-cover q g a) = absurd (cover (no-of q))
 
-  pub verdict-cover : v .no ≡ 10 → Gap f (planOf l) (length l)
+  pub verdict-cover : v .no ≡ 10 → Gap f (l .block) (l .count)
   verdict-cover e = go (told f l)
     where
-      go : Told f (planOf l) (length l) v → Gap f (planOf l) (length l)
+      go : Told f (l .block) (l .count) v → Gap f (l .block) (l .count)
       go (is-good q a) = absurd (omega (arith, e, no-of q))
       go (bad-picture q a) = absurd (omega (arith, e, no-of q))
       go (bad-block n k q g r) = absurd (block-no (r .broken) .1 .1 (sym (no-of q) ∙ e))
@@ -197,13 +195,13 @@ module _ (f : Frame) (l : List (List ℕ)) where
   pub verdict-picture : (v .no ≡ 4) ↔ (Good (pictureOf f) → ⊥)
   verdict-picture = (λ e. to e (told f l), λ h. from h (told f l))
     where
-      to : v .no ≡ 4 → Told f (planOf l) (length l) v → Good (pictureOf f) → ⊥
+      to : v .no ≡ 4 → Told f (l .block) (l .count) v → Good (pictureOf f) → ⊥
       to e (is-good q a) g = omega (arith, e, no-of q)
       to e (bad-picture q a) g = a g
       to e (bad-block n k q g r) _ = block-no (r .broken) .1 .0 (sym (no-of q) ∙ e)
       to e (bad-cover q g a) _ = omega (arith, e, no-of q)
 
-      from : (Good (pictureOf f) → ⊥) → Told f (planOf l) (length l) v → v .no ≡ 4
+      from : (Good (pictureOf f) → ⊥) → Told f (l .block) (l .count) v → v .no ≡ 4
       from h (is-good q a) = absurd (h (a .picture))
       from h (bad-picture q a) = no-of q
       from h (bad-block n k q g r) = absurd (h g)

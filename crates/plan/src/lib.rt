@@ -145,7 +145,7 @@ fn block_no(f: Frame, b: Block, covered: usize) -> u32
 // Block i of a plan.
 fn block_at(plan: &[[u32; 4]], i: usize) -> Block
     requires { ⌜ i < length (now plan) ⌝ }
-    ensures { λ r. ⌜ r ≡ planOf (now (plan .entry)) i ⌝ }
+    ensures { λ r. ⌜ r ≡ planOf (now (plan .entry)) .block i ⌝ }
 {
     Block {
         row: plan[i][0],
@@ -158,7 +158,7 @@ fn block_at(plan: &[[u32; 4]], i: usize) -> Block
 // The verdict on a good picture's blocks.
 fn check_blocks(f: Frame, plan: &[[u32; 4]]) -> Verdict
     requires { ⌜ Good (pictureOf f) ⌝ }
-    ensures { λ r. ⌜ r ≡ blocksVerdict f (now (plan .entry)) ⌝ }
+    ensures { λ r. ⌜ r ≡ blocksVerdict f (planOf (now (plan .entry))) ⌝ }
 {
     let area = (f.height as usize) * (f.width as usize);
     let count = plan.len();
@@ -188,7 +188,7 @@ fn picture_ok(f: Frame) -> bool
 
 // The first rule that a plan breaks, its picture's first, then its blocks' in list order, then that they cover all.
 pub fn check_plan(frame: Frame, plan: &[[u32; 4]]) -> Verdict
-    ensures { λ r. ⌜ r ≡ planVerdict frame (now (plan .entry)) ⌝ }
+    ensures { λ r. ⌜ r ≡ planVerdict frame (planOf (now (plan .entry))) ⌝ }
 {
     if !picture_ok(frame) {
         return Verdict { no: 4, block: 0 };

@@ -26,6 +26,7 @@ use Rattle.refs.specs.declared.GatheredPair.{GatheredPair}
 use Rattle.refs.specs.declared.ChromaRefGeometry.{ChromaRefGeometry}
 use Rattle.refs.specs.Door as gather
 use Rattle.plan.specs.declared.Verdict.{Verdict}
+use Rattle.plan.specs.Plan.{planOf}
 use Rattle.plan.specs.Check.{planVerdict}
 use Rattle.probes.specs.declared.Answer.{Answer}
 use Rattle.probes.specs.declared.PairReferences.{PairReferences}
@@ -142,4 +143,4 @@ abbrev pub verdictOf : Verdict → PlanAnswer
 verdictOf v = record { no = v .no; block = v .block }
 
 abbrev pub planAnswer : ℕ → ℕ → ℕ → List (List ℕ) → PlanAnswer
-planAnswer width height ctu plan = verdictOf (planVerdict (record { width = width; height = height; ctu = ctu }) plan)
+planAnswer width height ctu plan = verdictOf (planVerdict (record { width = width; height = height; ctu = ctu }) (planOf plan))

@@ -13,7 +13,7 @@ use Rattle.domain.specs.Domain.{depthOk}
 use Rattle.domain.specs.Facts.{Depth, depth-of, at-depth}
 use Rattle.order.specs.Order.{pictureOk}
 use Rattle.plan.specs.declared.Verdict.{Verdict}
-use Rattle.plan.specs.Plan.{pictureOf, planOf}
+use Rattle.plan.specs.Plan.{pictureOf, Plan}
 use Rattle.plan.specs.Check.{blocksVerdict, planVerdict}
 use Rattle.plan.specs.Tests.{good-picture}
 use Rattle.plan.specs.Verdict.{Accepted, verdict-good, good-verdict}
@@ -28,32 +28,32 @@ use Rattle.promises.specs.Calls.{Job, Held, blocks, count, walkNo, walkC
 use Rattle.promises.specs.Chains.{next, Steps}
 
 -- the verdict: the checks before the blocks, the plan's, and the record's
-module _ (s : Still) (plan : List (List ℕ)) (p : Progress) (early : ℕ) where
-  verdict-told : verdictOf s plan p early .no ≡ 0 → (early ≡ 0) × (blocksVerdict (s .frame) plan .no ≡ 0) × (p .done ≤ length plan)
+module _ (s : Still) (plan : Plan) (p : Progress) (early : ℕ) where
+  verdict-told : verdictOf s plan p early .no ≡ 0 → (early ≡ 0) × (blocksVerdict (s .frame) plan .no ≡ 0) × (p .done ≤ plan .count)
   unfolding verdictOf
-  verdict-told = go (eqb early 0) (eqb (v .no) 0) (leb (p .done) (length plan)) refl refl refl
+  verdict-told = go (eqb early 0) (eqb (v .no) 0) (leb (p .done) (plan .count)) refl refl refl
     where
       v : Verdict
       v = blocksVerdict (s .frame) plan
 
-      go : (a b d : Bool) → eqb early 0 ≡ a → eqb (v .no) 0 ≡ b → leb (p .done) (length plan) ≡ d
+      go : (a b d : Bool) → eqb early 0 ≡ a → eqb (v .no) 0 ≡ b → leb (p .done) (plan .count) ≡ d
           → cond a (cond b (record { no = cond d 0 11; block = 0 }) v) (record { no = early; block = 0 }) .no ≡ 0
-          → (early ≡ 0) × (v .no ≡ 0) × (p .done ≤ length plan)
-      go true true true x y z e = (eqb-true early 0 x, eqb-true (v .no) 0 y, leb-true (p .done) (length plan) z)
+          → (early ≡ 0) × (v .no ≡ 0) × (p .done ≤ plan .count)
+      go true true true x y z e = (eqb-true early 0 x, eqb-true (v .no) 0 y, leb-true (p .done) (plan .count) z)
       go true true false x y z e = absurd (omega (arith, e))
       go true false d x y z e = absurd (eqb-false (v .no) 0 y e)
       go false b d x y z e = absurd (eqb-false early 0 x e)
 
-  verdict-fine : early ≡ 0 → blocksVerdict (s .frame) plan .no ≡ 0 → p .done ≤ length plan → verdictOf s plan p early .no ≡ 0
+  verdict-fine : early ≡ 0 → blocksVerdict (s .frame) plan .no ≡ 0 → p .done ≤ plan .count → verdictOf s plan p early .no ≡ 0
   unfolding verdictOf
-  verdict-fine x y z = simp (eq-eqb early 0 x, eq-eqb (blocksVerdict (s .frame) plan .no) 0 y, le-leb (p .done) (length plan) z)
+  verdict-fine x y z = simp (eq-eqb early 0 x, eq-eqb (blocksVerdict (s .frame) plan .no) 0 y, le-leb (p .done) (plan .count) z)
 
-module _ (s : Still) (plan : List (List ℕ)) where
-  blocks-told : pictureOk (pictureOf (s .frame)) ≡ true → blocksVerdict (s .frame) plan .no ≡ 0 → Accepted (s .frame) (planOf plan) (length plan)
+module _ (s : Still) (plan : Plan) where
+  blocks-told : pictureOk (pictureOf (s .frame)) ≡ true → blocksVerdict (s .frame) plan .no ≡ 0 → Accepted (s .frame) (plan .block) (plan .count)
   unfolding planVerdict
   blocks-told p e = verdict-good (s .frame) plan (rw p e)
 
-  blocks-fine : Accepted (s .frame) (planOf plan) (length plan) → blocksVerdict (s .frame) plan .no ≡ 0
+  blocks-fine : Accepted (s .frame) (plan .block) (plan .count) → blocksVerdict (s .frame) plan .no ≡ 0
   unfolding planVerdict
   blocks-fine a = ap (λ (v : Verdict). v .no) (rw (good-picture (s .frame) (a .picture)) at (good-verdict (s .frame) plan a))
 

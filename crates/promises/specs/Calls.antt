@@ -6,24 +6,24 @@ use lib.IntN.{ℤ, pos}
 use lib.ListN.{length, getD}
 use Rattle.plan.specs.declared.Block.{Block}
 use Rattle.plan.specs.declared.Verdict.{Verdict}
-use Rattle.plan.specs.Plan.{planOf, place}
+use Rattle.plan.specs.Plan.{Plan, place}
 use Rattle.walk.specs.declared.Still.{Still}
 use Rattle.walk.specs.declared.Progress.{Progress}
 use Rattle.walk.specs.Block.{World}
 use Rattle.walk.specs.Door.{Tables, steppedBy, walkVerdict, walkAfter, replayVerdict, replayAfter}
 
--- what all calls share: the still, its plan as lent numbers, and how long the lent scratch tables are
+-- what all calls share: the still, its plan, and how long the lent scratch tables are
 pub record Job : Type 0 where
   pub still : Still
-  pub plan : List (List ℕ)
+  pub plan : Plan
   pub tables : Tables
 
 -- the blocks of the plan, and their number
 abbrev pub blocks : Job → ℕ → Block
-blocks j = planOf (j .plan)
+blocks j = j .plan .block
 
 abbrev pub count : Job → ℕ
-count j = length (j .plan)
+count j = j .plan .count
 
 -- residual (r, c) of block i: blocks consecutive in plan order, each in rows
 abbrev pub residualAt : Job → List ℤ → ℕ → ℕ → ℕ → ℤ

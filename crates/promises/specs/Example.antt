@@ -6,6 +6,7 @@ use native.Mathlib.Omega.{arith}
 use lib.IntN.{pos}
 use lib.ListN.{replicate}
 use Rattle.laws.specs.Chain.{sum}
+use Rattle.plan.specs.Plan.{planOf}
 use Rattle.plan.specs.Check.{aheadBy, ahead, blockNo, verdictFrom}
 use Rattle.h265.specs.Notation.{halvings}
 use Rattle.walk.specs.Block.{World}
@@ -18,7 +19,7 @@ abbrev two : Job
 two =
     record {
       still = record { bits = 8; frame = record { width = 16; height = 8; ctu = 16 } };
-      plan = (0 ∷ 0 ∷ 8 ∷ 1 ∷ []) ∷ (0 ∷ 8 ∷ 8 ∷ 1 ∷ []) ∷ [];
+      plan = planOf ((0 ∷ 0 ∷ 8 ∷ 1 ∷ []) ∷ (0 ∷ 8 ∷ 8 ∷ 1 ∷ []) ∷ []);
       tables = record { refs = 193; indices = 32; fractions = 32 };
     }
 

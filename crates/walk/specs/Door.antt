@@ -10,7 +10,7 @@ use Rattle.laws.specs.Chain.{units}
 use Rattle.domain.specs.Domain.{depthOk}
 use Rattle.order.specs.Order.{pictureOk}
 use Rattle.plan.specs.declared.Verdict.{Verdict}
-use Rattle.plan.specs.Plan.{pictureOf, planOf}
+use Rattle.plan.specs.Plan.{pictureOf, Plan}
 use Rattle.plan.specs.Check.{blocksVerdict}
 use Rattle.walk.specs.declared.Still.{Still}
 use Rattle.walk.specs.declared.Progress.{Progress}
@@ -36,19 +36,19 @@ abbrev pub roomy : Tables → Bool
 roomy t = leb 193 (t .refs) && leb 32 (t .indices) && leb 32 (t .fractions)
 
 -- the verdict on a call: the checks before the blocks, then the plan's, then number 11
-unfoldable pub verdictOf : Still → List (List ℕ) → Progress → ℕ → Verdict
+unfoldable pub verdictOf : Still → Plan → Progress → ℕ → Verdict
 verdictOf s plan p early =
     let v = blocksVerdict (s .frame) plan in
     cond (eqb early 0)
-    (cond (eqb (v .no) 0) (record { no = cond (leb (p .done) (length plan)) 0 11; block = 0 }) v)
+    (cond (eqb (v .no) 0) (record { no = cond (leb (p .done) (plan .count)) 0 11; block = 0 }) v)
     (record { no = early; block = 0 })
 
 -- what a call that is served does: the lesser of the grant and what remains
-abbrev pub doing : List (List ℕ) → Progress → ℕ → ℕ
-doing plan p grant = min grant (length plan - p .done)
+abbrev pub doing : Plan → Progress → ℕ → ℕ
+doing plan p grant = min grant (plan .count - p .done)
 
 -- what a call gives: the successor of the record, or the record as given
-abbrev pub steppedBy : Verdict → List (List ℕ) → Progress → ℕ → Stepped
+abbrev pub steppedBy : Verdict → Plan → Progress → ℕ → Stepped
 steppedBy v plan p grant =
     served (v .no)
     (record { no = 0; block = 0; did = doing plan p grant; next = record { done = p .done + doing plan p grant } })
@@ -58,7 +58,7 @@ steppedBy v plan p grant =
 abbrev pub residualOk : ℤ → Bool
 residualOk r = leb (natAbs r) 65535
 
-unfoldable pub replayVerdict : Still → List (List ℕ) → Tables → Progress → ℕ → List ℤ → Verdict
+unfoldable pub replayVerdict : Still → Plan → Tables → Progress → ℕ → List ℤ → Verdict
 replayVerdict s plan t p plane residuals =
     verdictOf s plan p
     (firstFail
@@ -66,12 +66,12 @@ replayVerdict s plan t p plane residuals =
     ∷ (5 unless whole s plane && whole s (length residuals) && roomy t) ∷ (8 unless every residualOk residuals) ∷ []))
 
 -- the plane after a call of replay
-unfoldable pub replayAfter : Still → List (List ℕ) → Tables → Progress → ℕ → List ℤ → List ℕ → List ℕ
+unfoldable pub replayAfter : Still → Plan → Tables → Progress → ℕ → List ℤ → List ℕ → List ℕ
 replayAfter s plan t p grant residuals plane =
-    served (replayVerdict s plan t p (length plane) residuals .no) (units (replayUnit s (planOf plan) residuals) (p .done) (doing plan p grant) plane) plane
+    served (replayVerdict s plan t p (length plane) residuals .no) (units (replayUnit s (plan .block) residuals) (p .done) (doing plan p grant) plane) plane
 
 -- Walk: 1, 4, 5, then 7 over every source sample.
-unfoldable pub walkVerdict : Still → List (List ℕ) → Tables → Progress → List ℕ → World → Verdict
+unfoldable pub walkVerdict : Still → Plan → Tables → Progress → List ℕ → World → Verdict
 walkVerdict s plan t p source w =
     verdictOf s plan p
     (firstFail
@@ -80,6 +80,6 @@ walkVerdict s plan t p source w =
     ∷ (7 unless every (λ v. leb v (largestOf s)) source) ∷ []))
 
 -- the work plane and the residuals after a call of walk
-unfoldable pub walkAfter : Still → List (List ℕ) → Tables → Progress → ℕ → List ℕ → World → World
+unfoldable pub walkAfter : Still → Plan → Tables → Progress → ℕ → List ℕ → World → World
 walkAfter s plan t p grant source w =
-    served (walkVerdict s plan t p source w .no) (units (walkUnit s (planOf plan) source) (p .done) (doing plan p grant) w) w
+    served (walkVerdict s plan t p source w .no) (units (walkUnit s (plan .block) source) (p .done) (doing plan p grant) w) w

@@ -31,7 +31,7 @@ use Rattle.angular.specs.Door.{Lent}
 use Rattle.predict.specs.Door.{predictNo}
 use Rattle.plan.specs.declared.Block.{Block}
 use Rattle.plan.specs.declared.Verdict.{Verdict}
-use Rattle.plan.specs.Plan.{pictureOf, planOf, Placed, GoodPlan, place}
+use Rattle.plan.specs.Plan.{pictureOf, Plan, Placed, GoodPlan, place}
 use Rattle.plan.specs.Steps.{area-small}
 use Rattle.plan.specs.Cover.{area}
 use Rattle.plan.specs.Check.{blocksVerdict, planVerdict}
@@ -190,25 +190,25 @@ module _ (plan : ℕ → Block) where
       omega (arith, m, n)
 
 -- a call that is served
-module _ (s : Still) (plan : List (List ℕ)) (plane residuals : ℕ) (t : Tables) (h : Sound s plan plane residuals t) where
-  whole-area : place (planOf plan) (length plan) ≡ s .frame .height * s .frame .width
-  whole-area = area (h .accepted .picture) (planOf plan) (length plan) (h .accepted .plan-good)
+module _ (s : Still) (plan : Plan) (plane residuals : ℕ) (t : Tables) (h : Sound s plan plane residuals t) where
+  whole-area : place (plan .block) (plan .count) ≡ s .frame .height * s .frame .width
+  whole-area = area (h .accepted .picture) (plan .block) (plan .count) (h .accepted .plan-good)
 
-  pub place-small : (k : ℕ) → k ≤ length plan → place (planOf plan) k ≤ 16777216
-  place-small k l = omega (arith, place-up (planOf plan) k (length plan) l, whole-area, area-small (h .accepted .picture))
+  pub place-small : (k : ℕ) → k ≤ plan .count → place (plan .block) k ≤ 16777216
+  place-small k l = omega (arith, place-up (plan .block) k (plan .count) l, whole-area, area-small (h .accepted .picture))
 
-  pub count-small : length plan ≤ 16777216
+  pub count-small : plan .count ≤ 16777216
   count-small =
-      let m = count-up (planOf plan) (length plan) (λ i l. size-small (planOf plan i .side) (h .accepted .plan-good .placed i l .size) .0) in
+      let m = count-up (plan .block) (plan .count) (λ i l. size-small (plan .block i .side) (h .accepted .plan-good .placed i l .size) .0) in
       omega (arith, m, whole-area, area-small (h .accepted .picture))
 
   -- a block of it, whatever the lengths are now called
-  module _ (k at : ℕ) (b : Block) (l : k < length plan) (e : at ≡ place (planOf plan) k) (q : b ≡ planOf plan k) where
+  module _ (k at : ℕ) (b : Block) (l : k < plan .count) (e : at ≡ place (plan .block) k) (q : b ≡ plan .block k) where
     pub next-small : at + b .side * b .side ≤ 16777216
-    next-small = omega (arith, place-in (planOf plan) k (length plan) at b l e q, whole-area, area-small (h .accepted .picture))
+    next-small = omega (arith, place-in (plan .block) k (plan .count) at b l e q, whole-area, area-small (h .accepted .picture))
 
     pub lies : Lies s b residuals at
-    lies = record { resid-in = omega (arith, place-in (planOf plan) k (length plan) at b l e q, whole-area, h .resid-len); resid-len = h .resid-len }
+    lies = record { resid-in = omega (arith, place-in (plan .block) k (plan .count) at b l e q, whole-area, h .resid-len); resid-len = h .resid-len }
 
     pub ready : (plane′ refs indices fractions : ℕ) → plane′ ≡ plane → refs ≡ t .refs → indices ≡ t .indices → fractions ≡ t .fractions → Ready s b plane′ (record { refs = refs; indices = indices; fractions = fractions })
     ready plane′ refs indices fractions a x y z =
@@ -291,7 +291,7 @@ module _ (s : Still) (fit : Bool) (k : ℕ) (ok : Bool) where
   opening-goes e h q = goes (depthOk (s .bits)) (pictureOk (pictureOf (s .frame))) fit k ok e h q
 
 -- the verdict, check by check
-module _ (s : Still) (plan : List (List ℕ)) (p : Progress) (early : ℕ) where
+module _ (s : Still) (plan : Plan) (p : Progress) (early : ℕ) where
   pub verdict-early : (early ≡ 0 → ⊥) → record { no = early; block = 0 } ≡ verdictOf s plan p early
   unfolding verdictOf
   verdict-early h = if-no (eqb early 0) _ _ _ (ne-eqb early 0 h) refl
@@ -307,7 +307,7 @@ module _ (s : Still) (plan : List (List ℕ)) (p : Progress) (early : ℕ) where
       if-yes (eqb early 0) _ _ _ (eq-eqb early 0 z)
       (if-no (eqb (blocksVerdict (s .frame) plan .no) 0) _ _ _ (ne-eqb _ 0 (λ x. h (ap (λ (u : Verdict). u .no) b ∙ x))) b)
 
-  pub verdict-last : early ≡ 0 → pictureOk (pictureOf (s .frame)) ≡ true → (v : Verdict) → v ≡ planVerdict (s .frame) plan → v .no ≡ 0 → (t : Bool) → leb (p .done) (length plan) ≡ t
+  pub verdict-last : early ≡ 0 → pictureOk (pictureOf (s .frame)) ≡ true → (v : Verdict) → v ≡ planVerdict (s .frame) plan → v .no ≡ 0 → (t : Bool) → leb (p .done) (plan .count) ≡ t
       → record { no = cond t 0 11; block = 0 } ≡ verdictOf s plan p early
   unfolding verdictOf
   verdict-last z e v q h t w =
@@ -316,25 +316,25 @@ module _ (s : Still) (plan : List (List ℕ)) (p : Progress) (early : ℕ) where
       (if-yes (eqb (blocksVerdict (s .frame) plan .no) 0) _ _ _ (eq-eqb _ 0 (sym (ap (λ (u : Verdict). u .no) b) ∙ h)) (ap (λ (x : Bool). record { no = cond x 0 11; block = 0 }) (sym w)))
 
   -- number 0 says that every check holds
-  pub verdict-zero : verdictOf s plan p early .no ≡ 0 → (early ≡ 0) × ((blocksVerdict (s .frame) plan .no ≡ 0) × (p .done ≤ length plan))
+  pub verdict-zero : verdictOf s plan p early .no ≡ 0 → (early ≡ 0) × ((blocksVerdict (s .frame) plan .no ≡ 0) × (p .done ≤ plan .count))
   unfolding verdictOf
-  verdict-zero = go (eqb early 0) (eqb (blocksVerdict (s .frame) plan .no) 0) (leb (p .done) (length plan)) refl refl refl
+  verdict-zero = go (eqb early 0) (eqb (blocksVerdict (s .frame) plan .no) 0) (leb (p .done) (plan .count)) refl refl refl
     where
-      go : (a b c : Bool) → eqb early 0 ≡ a → eqb (blocksVerdict (s .frame) plan .no) 0 ≡ b → leb (p .done) (length plan) ≡ c
+      go : (a b c : Bool) → eqb early 0 ≡ a → eqb (blocksVerdict (s .frame) plan .no) 0 ≡ b → leb (p .done) (plan .count) ≡ c
           → cond a (cond b (record { no = cond c 0 11; block = 0 }) (blocksVerdict (s .frame) plan)) (record { no = early; block = 0 }) .no ≡ 0
-          → (early ≡ 0) × ((blocksVerdict (s .frame) plan .no ≡ 0) × (p .done ≤ length plan))
-      go true true true x y z e = (eqb-true early 0 x, (eqb-true _ 0 y, leb-true (p .done) (length plan) z))
+          → (early ≡ 0) × ((blocksVerdict (s .frame) plan .no ≡ 0) × (p .done ≤ plan .count))
+      go true true true x y z e = (eqb-true early 0 x, (eqb-true _ 0 y, leb-true (p .done) (plan .count) z))
       go true true false x y z e = absurd (omega arith)
       go true false c x y z e = absurd (eqb-false _ 0 y e)
       go false b c x y z e = absurd (eqb-false early 0 x e)
 
-  pub verdict-accepts : pictureOk (pictureOf (s .frame)) ≡ true → blocksVerdict (s .frame) plan .no ≡ 0 → Accepted (s .frame) (planOf plan) (length plan)
+  pub verdict-accepts : pictureOk (pictureOf (s .frame)) ≡ true → blocksVerdict (s .frame) plan .no ≡ 0 → Accepted (s .frame) (plan .block) (plan .count)
   unfolding planVerdict
   verdict-accepts e z = verdict-good (s .frame) plan (rw e z)
 
 -- a call of replay that is served
-pub replay-sound : (s : Still) (plan : List (List ℕ)) (t : Tables) (p : Progress) (plane : ℕ) (v : List ℤ) → replayVerdict s plan t p plane v .no ≡ 0
-    → Sound s plan plane (length v) t × (Small v × (p .done ≤ length plan))
+pub replay-sound : (s : Still) (plan : Plan) (t : Tables) (p : Progress) (plane : ℕ) (v : List ℤ) → replayVerdict s plan t p plane v .no ≡ 0
+    → Sound s plan plane (length v) t × (Small v × (p .done ≤ plan .count))
 unfolding replayVerdict
 replay-sound s plan t p plane v e =
     let z = verdict-zero s plan p (replayNo s t plane v) e in
@@ -359,24 +359,24 @@ pub good-call : (s : Still) (fit : Bool) (k : ℕ) (ok : Bool) → callNo s fit 
 good-call s fit k ok e = passed (pictureOk (pictureOf (s .frame))) _ 4 (omega arith) (passed (depthOk (s .bits)) _ 1 (omega arith) e .1) .0
 
 -- what a call gives
-pub refused-is : (v w : Verdict) (plan : List (List ℕ)) (p : Progress) (grant : ℕ) → v ≡ w → (v .no ≡ 0 → ⊥) → record { no = v .no; block = v .block; did = 0; next = p } ≡ steppedBy w plan p grant
+pub refused-is : (v w : Verdict) (plan : Plan) (p : Progress) (grant : ℕ) → v ≡ w → (v .no ≡ 0 → ⊥) → record { no = v .no; block = v .block; did = 0; next = p } ≡ steppedBy w plan p grant
 refused-is v w plan p grant e h =
     subst (λ (u : Verdict). record { no = v .no; block = v .block; did = 0; next = p } ≡ steppedBy u plan p grant) e (unserved (v .no) _ _ h)
 
-pub stepped-is : (w : Verdict) (plan : List (List ℕ)) (p : Progress) (grant did : ℕ) → w .no ≡ 0 → did ≡ doing plan p grant
+pub stepped-is : (w : Verdict) (plan : Plan) (p : Progress) (grant did : ℕ) → w .no ≡ 0 → did ≡ doing plan p grant
     → record { no = 0; block = 0; did = did; next = record { done = p .done + did } } ≡ steppedBy w plan p grant
 stepped-is w plan p grant did z e =
     ap (λ (k : ℕ). record { no = 0; block = 0; did = k; next = record { done = p .done + k } }) e ∙ worked (w .no) _ _ z
 
 -- the plane after a call
-module _ (s : Still) (plan : List (List ℕ)) (t : Tables) (p : Progress) (grant : ℕ) (v : List ℤ) (d : List ℕ) where
+module _ (s : Still) (plan : Plan) (t : Tables) (p : Progress) (grant : ℕ) (v : List ℤ) (d : List ℕ) where
   pub replay-kept : (replayVerdict s plan t p (length d) v .no ≡ 0 → ⊥) → d ≡ replayAfter s plan t p grant v d
   unfolding replayAfter
   replay-kept h = unserved (replayVerdict s plan t p (length d) v .no) _ _ h
 
-  pub replay-done : (did : ℕ) (e : List ℕ) → replayVerdict s plan t p (length d) v .no ≡ 0 → did ≡ doing plan p grant → e ≡ units (replayUnit s (planOf plan) v) (p .done) did d → e ≡ replayAfter s plan t p grant v d
+  pub replay-done : (did : ℕ) (e : List ℕ) → replayVerdict s plan t p (length d) v .no ≡ 0 → did ≡ doing plan p grant → e ≡ units (replayUnit s (plan .block) v) (p .done) did d → e ≡ replayAfter s plan t p grant v d
   unfolding replayAfter
-  replay-done did e z q h = h ∙ ap (λ (k : ℕ). units (replayUnit s (planOf plan) v) (p .done) k d) q ∙ worked (replayVerdict s plan t p (length d) v .no) _ _ z
+  replay-done did e z q h = h ∙ ap (λ (k : ℕ). units (replayUnit s (plan .block) v) (p .done) k d) q ∙ worked (replayVerdict s plan t p (length d) v .no) _ _ z
 
   pub replay-verdict : (w : Verdict) (early : ℕ) → early ≡ replayNo s t (length d) v → w ≡ verdictOf s plan p early → w ≡ replayVerdict s plan t p (length d) v
   unfolding replayVerdict
@@ -442,8 +442,8 @@ pub opening-depth : (s : Still) (fit : Bool) → openingNo s fit ≡ 0 → Depth
 opening-depth s fit e = depth-of (s .bits) (passed (depthOk (s .bits)) _ 1 (omega arith) e .0)
 
 -- a call of walk that is served
-pub walk-sound : (s : Still) (plan : List (List ℕ)) (t : Tables) (p : Progress) (source : List ℕ) (w : World) → walkVerdict s plan t p source w .no ≡ 0
-    → Sound s plan (length (w .work)) (length (w .residuals)) t × ((length source ≡ length (w .work)) × (p .done ≤ length plan))
+pub walk-sound : (s : Still) (plan : Plan) (t : Tables) (p : Progress) (source : List ℕ) (w : World) → walkVerdict s plan t p source w .no ≡ 0
+    → Sound s plan (length (w .work)) (length (w .residuals)) t × ((length source ≡ length (w .work)) × (p .done ≤ plan .count))
 unfolding walkVerdict
 walk-sound s plan t p source w e =
     let z = verdict-zero s plan p (walkNo s t source (length (w .work)) (length (w .residuals))) e in
@@ -464,14 +464,14 @@ walk-sound s plan t p source w e =
     )
 
 -- the work plane and the residuals after a call
-module _ (s : Still) (plan : List (List ℕ)) (t : Tables) (p : Progress) (grant : ℕ) (source : List ℕ) (w : World) where
+module _ (s : Still) (plan : Plan) (t : Tables) (p : Progress) (grant : ℕ) (source : List ℕ) (w : World) where
   pub walk-kept : (walkVerdict s plan t p source w .no ≡ 0 → ⊥) → w ≡ walkAfter s plan t p grant source w
   unfolding walkAfter
   walk-kept h = unserved (walkVerdict s plan t p source w .no) _ _ h
 
-  pub walk-done : (did : ℕ) (u : World) → walkVerdict s plan t p source w .no ≡ 0 → did ≡ doing plan p grant → u ≡ units (walkUnit s (planOf plan) source) (p .done) did w → u ≡ walkAfter s plan t p grant source w
+  pub walk-done : (did : ℕ) (u : World) → walkVerdict s plan t p source w .no ≡ 0 → did ≡ doing plan p grant → u ≡ units (walkUnit s (plan .block) source) (p .done) did w → u ≡ walkAfter s plan t p grant source w
   unfolding walkAfter
-  walk-done did u z q h = h ∙ ap (λ (k : ℕ). units (walkUnit s (planOf plan) source) (p .done) k w) q ∙ worked (walkVerdict s plan t p source w .no) _ _ z
+  walk-done did u z q h = h ∙ ap (λ (k : ℕ). units (walkUnit s (plan .block) source) (p .done) k w) q ∙ worked (walkVerdict s plan t p source w .no) _ _ z
 
   pub walk-verdict : (v : Verdict) (early : ℕ) → early ≡ walkNo s t source (length (w .work)) (length (w .residuals)) → v ≡ verdictOf s plan p early → v ≡ walkVerdict s plan t p source w
   unfolding walkVerdict

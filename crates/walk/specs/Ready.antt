@@ -8,7 +8,7 @@ use lib.IntN.{ℤ, pos, natAbs}
 use Rattle.domain.specs.Facts.{Depth}
 use Rattle.order.specs.Good.{Good}
 use Rattle.plan.specs.declared.Block.{Block}
-use Rattle.plan.specs.Plan.{pictureOf, planOf, Placed}
+use Rattle.plan.specs.Plan.{pictureOf, Plan, Placed}
 use Rattle.plan.specs.Verdict.{Accepted}
 use Rattle.walk.specs.declared.Still.{Still}
 use Rattle.walk.specs.Block.{predictedAt}
@@ -53,9 +53,9 @@ abbrev pub Predicted : Still → Block → List ℕ → List ℕ → Type 0
 Predicted s b plane pred = (r c : ℕ) → r < b .side → c < b .side → getD pred (r * b .side + c) 0 ≡ predictedAt s b plane r c
 
 -- a call that is served
-pub record Sound (s : Still) (plan : List (List ℕ)) (plane residuals : ℕ) (t : Tables) : Type 0 where
+pub record Sound (s : Still) (plan : Plan) (plane residuals : ℕ) (t : Tables) : Type 0 where
   pub depth : Depth (s .bits)
-  pub accepted : Accepted (s .frame) (planOf plan) (length plan)
+  pub accepted : Accepted (s .frame) (plan .block) (plan .count)
   pub plane-len : plane ≡ s .frame .height * s .frame .width
   pub resid-len : residuals ≡ s .frame .height * s .frame .width
   pub tables : roomy t ≡ true

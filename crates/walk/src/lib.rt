@@ -197,7 +197,7 @@ fn rebuild_block(
 // Block i of a plan.
 fn block_at(plan: &[[u32; 4]], i: usize) -> Block
     requires { ⌜ i < length (now plan) ⌝ }
-    ensures { λ r. ⌜ r ≡ planOf (now (plan .entry)) i ⌝ }
+    ensures { λ r. ⌜ r ≡ planOf (now (plan .entry)) .block i ⌝ }
 {
     Block {
         row: plan[i][0],
@@ -209,8 +209,8 @@ fn block_at(plan: &[[u32; 4]], i: usize) -> Block
 
 // Where the residuals of block k begin.
 fn place_of(plan: &[[u32; 4]], k: usize) -> usize
-    requires { ⌜ (k ≤ length (now plan)) × (place (planOf (now plan)) k ≤ 16777216) ⌝ }
-    ensures { λ r. ⌜ r ≡ place (planOf (now (plan .entry))) k ⌝ }
+    requires { ⌜ (k ≤ length (now plan)) × (place (planOf (now plan) .block) k ≤ 16777216) ⌝ }
+    ensures { λ r. ⌜ r ≡ place (planOf (now (plan .entry)) .block) k ⌝ }
 {
     let mut at: usize = 0;
     let mut i: usize = 0;
@@ -234,8 +234,8 @@ fn replay_blocks(
     from: usize,
     did: usize,
 )
-    requires { ⌜ Sound s (now plan) (length (now plane)) (length (now residuals)) (record { refs = length (now refs); indices = length (now indices); fractions = length (now fractions) }) × (Small (now residuals) × (from + did ≤ length (now plan))) ⌝ }
-    ensures { λ _. ⌜ now (plane .exit) ≡ units (replayUnit s (planOf (now (plan .entry))) (now (residuals .entry))) from did (now (plane .entry)) ⌝ }
+    requires { ⌜ Sound s (planOf (now plan)) (length (now plane)) (length (now residuals)) (record { refs = length (now refs); indices = length (now indices); fractions = length (now fractions) }) × (Small (now residuals) × (from + did ≤ length (now plan))) ⌝ }
+    ensures { λ _. ⌜ now (plane .exit) ≡ units (replayUnit s (planOf (now (plan .entry)) .block) (now (residuals .entry))) from did (now (plane .entry)) ⌝ }
 {
     let upto = from + did;
     let mut at = place_of(plan, from);
@@ -337,7 +337,7 @@ fn replay_no(
 // The number of the checks before the plan's, then the plan's, then 11.
 fn verdict_of(s: Still, plan: &[[u32; 4]], p: Progress, early: u32) -> Verdict
     requires { ⌜ (early ≡ 0 → pictureOk (pictureOf (s .frame)) ≡ true) ⌝ }
-    ensures { λ v. ⌜ v ≡ verdictOf s (now (plan .entry)) p early ⌝ }
+    ensures { λ v. ⌜ v ≡ verdictOf s (planOf (now (plan .entry))) p early ⌝ }
 {
     if early != 0 {
         return Verdict {
@@ -498,8 +498,8 @@ fn walk_blocks(
     from: usize,
     did: usize,
 )
-    requires { ⌜ Sound s (now plan) (length (now work)) (length (now residuals)) (record { refs = length (now refs); indices = length (now indices); fractions = length (now fractions) }) × ((length (now source) ≡ length (now work)) × (from + did ≤ length (now plan))) ⌝ }
-    ensures { λ _. ⌜ record { work = now (work .exit); residuals = now (residuals .exit) } ≡ units (walkUnit s (planOf (now (plan .entry))) (now (source .entry))) from did (record { work = now (work .entry); residuals = now (residuals .entry) }) ⌝ }
+    requires { ⌜ Sound s (planOf (now plan)) (length (now work)) (length (now residuals)) (record { refs = length (now refs); indices = length (now indices); fractions = length (now fractions) }) × ((length (now source) ≡ length (now work)) × (from + did ≤ length (now plan))) ⌝ }
+    ensures { λ _. ⌜ record { work = now (work .exit); residuals = now (residuals .exit) } ≡ units (walkUnit s (planOf (now (plan .entry)) .block) (now (source .entry))) from did (record { work = now (work .entry); residuals = now (residuals .entry) }) ⌝ }
 {
     let upto = from + did;
     let mut at = place_of(plan, from);
@@ -581,7 +581,7 @@ impl Progress {
         fractions: &mut [u32],
         grant: u32,
     ) -> Stepped
-        ensures { λ r. ⌜ (r ≡ steppedBy (replayVerdict still (now (plan .entry)) (record { refs = length (now (refs .entry)); indices = length (now (indices .entry)); fractions = length (now (fractions .entry)) }) self (length (now (plane .entry))) (now (residuals .entry))) (now (plan .entry)) self grant) × ((now (plane .exit) ≡ replayAfter still (now (plan .entry)) (record { refs = length (now (refs .entry)); indices = length (now (indices .entry)); fractions = length (now (fractions .entry)) }) self grant (now (residuals .entry)) (now (plane .entry))) × ((r .no ≡ 0 → ⊥) → (now (refs .exit) ≡ now (refs .entry)) × ((now (indices .exit) ≡ now (indices .entry)) × (now (fractions .exit) ≡ now (fractions .entry))))) ⌝ }
+        ensures { λ r. ⌜ (r ≡ steppedBy (replayVerdict still (planOf (now (plan .entry))) (record { refs = length (now (refs .entry)); indices = length (now (indices .entry)); fractions = length (now (fractions .entry)) }) self (length (now (plane .entry))) (now (residuals .entry))) (planOf (now (plan .entry))) self grant) × ((now (plane .exit) ≡ replayAfter still (planOf (now (plan .entry))) (record { refs = length (now (refs .entry)); indices = length (now (indices .entry)); fractions = length (now (fractions .entry)) }) self grant (now (residuals .entry)) (now (plane .entry))) × ((r .no ≡ 0 → ⊥) → (now (refs .exit) ≡ now (refs .entry)) × ((now (indices .exit) ≡ now (indices .entry)) × (now (fractions .exit) ≡ now (fractions .entry))))) ⌝ }
     {
         let no = replay_no(
             still,
@@ -623,7 +623,7 @@ impl Progress {
         fractions: &mut [u32],
         grant: u32,
     ) -> Stepped
-        ensures { λ r. ⌜ (r ≡ steppedBy (walkVerdict still (now (plan .entry)) (record { refs = length (now (refs .entry)); indices = length (now (indices .entry)); fractions = length (now (fractions .entry)) }) self (now (source .entry)) (record { work = now (work .entry); residuals = now (residuals .entry) })) (now (plan .entry)) self grant) × ((record { work = now (work .exit); residuals = now (residuals .exit) } ≡ walkAfter still (now (plan .entry)) (record { refs = length (now (refs .entry)); indices = length (now (indices .entry)); fractions = length (now (fractions .entry)) }) self grant (now (source .entry)) (record { work = now (work .entry); residuals = now (residuals .entry) })) × ((r .no ≡ 0 → ⊥) → (now (refs .exit) ≡ now (refs .entry)) × ((now (indices .exit) ≡ now (indices .entry)) × (now (fractions .exit) ≡ now (fractions .entry))))) ⌝ }
+        ensures { λ r. ⌜ (r ≡ steppedBy (walkVerdict still (planOf (now (plan .entry))) (record { refs = length (now (refs .entry)); indices = length (now (indices .entry)); fractions = length (now (fractions .entry)) }) self (now (source .entry)) (record { work = now (work .entry); residuals = now (residuals .entry) })) (planOf (now (plan .entry))) self grant) × ((record { work = now (work .exit); residuals = now (residuals .exit) } ≡ walkAfter still (planOf (now (plan .entry))) (record { refs = length (now (refs .entry)); indices = length (now (indices .entry)); fractions = length (now (fractions .entry)) }) self grant (now (source .entry)) (record { work = now (work .entry); residuals = now (residuals .entry) })) × ((r .no ≡ 0 → ⊥) → (now (refs .exit) ≡ now (refs .entry)) × ((now (indices .exit) ≡ now (indices .entry)) × (now (fractions .exit) ≡ now (fractions .entry))))) ⌝ }
     {
         let no = walk_no(
             still,

@@ -11,7 +11,7 @@ use Rattle.plan.proofs.check_blocks.Statement.{statement}
 use Rattle.plan.proofs.check_blocks.Tie as tie
 
 abbrev Inv-loop : tie.InvT-loop
-Inv-loop f plan area count covered₀ i₀ covered i = Running f (planOf plan) (blocksVerdict f plan) (length plan) i covered
+Inv-loop f plan area count covered₀ i₀ covered i = Running f (planOf plan .block) (blocksVerdict f (planOf plan)) (length plan) i covered
 
 abbrev μ-loop : tie.MeasureT-loop
 μ-loop f plan area count covered₀ i₀ covered i = length plan - i

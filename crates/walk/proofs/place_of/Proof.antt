@@ -9,7 +9,7 @@ use Rattle.walk.proofs.place_of.Statement.{statement}
 use Rattle.walk.proofs.place_of.Tie as tie
 
 abbrev Inv-loop : tie.InvT-loop
-Inv-loop plan k at₀ i₀ at i = (i ≤ k) × (at ≡ place (planOf plan) i)
+Inv-loop plan k at₀ i₀ at i = (i ≤ k) × (at ≡ place (planOf plan .block) i)
 
 abbrev μ-loop : tie.MeasureT-loop
 μ-loop plan k at₀ i₀ at i = k - i

@@ -14,7 +14,7 @@ use Rattle.walk.proofs.replay_blocks.Tie as tie
 abbrev Inv-loop : tie.InvT-loop
 Inv-loop s plan residuals plane₀ refs₀ indices₀ fractions₀ from did upto at₀ k₀ plane refs indices fractions at k =
     (from ≤ k) × ((k ≤ from + did) × ((length plane ≡ length plane₀) × ((length refs ≡ length refs₀) × ((length indices ≡ length indices₀) × ((length fractions ≡ length fractions₀)
-    × ((at ≡ place (planOf plan) k) × (plane ≡ units (replayUnit s (planOf plan) residuals) from (k - from) plane₀)))))))
+    × ((at ≡ place (planOf plan .block) k) × (plane ≡ units (replayUnit s (planOf plan .block) residuals) from (k - from) plane₀)))))))
 
 abbrev μ-loop : tie.MeasureT-loop
 μ-loop s plan residuals plane₀ refs₀ indices₀ fractions₀ from did upto at₀ k₀ plane refs indices fractions at k = from + did - k
@@ -67,7 +67,7 @@ loop-again c =
     let a = c .before .before .before .before .before .before .before .before .before .before .before .before .before .before .before .before .before .before .before .before .before .before .args in
     let b = c .before .before .before .before .before .before .before .before .before .before .before .before .before .before .block-at .ensures in
     let e = i .1 .1 .1 .1 .1 .1 .0 in
-    (search needs, (search needs, (search needs, (search needs, (search needs, (search needs, (place-more _ (l .k) (l .at) _ e b, block-more (a .s) (planOf (a .plan .now)) (a .residuals .now) _ (l .k) (l .at) _ _ _ _ (i .0) e b (i .1 .1 .1 .1 .1 .1 .1) (c .before .before .before .before .before .before .before .before .before .rebuild-block .ensures))))))))
+    (search needs, (search needs, (search needs, (search needs, (search needs, (search needs, (place-more _ (l .k) (l .at) _ e b, block-more (a .s) (planOf (a .plan .now) .block) (a .residuals .now) _ (l .k) (l .at) _ _ _ _ (i .0) e b (i .1 .1 .1 .1 .1 .1 .1) (c .before .before .before .before .before .before .before .before .before .rebuild-block .ensures))))))))
 
 same-length : tie.Need-same-length Inv-loop μ-loop
 same-length c = search needs

@@ -14,7 +14,7 @@ use Rattle.walk.proofs.walk_blocks.Tie as tie
 abbrev Inv-loop : tie.InvT-loop
 Inv-loop s plan source work₀ residuals₀ refs₀ indices₀ fractions₀ from did upto at₀ k₀ work residuals refs indices fractions at k =
     (from ≤ k) × ((k ≤ from + did) × ((length work ≡ length work₀) × ((length residuals ≡ length residuals₀) × ((length refs ≡ length refs₀) × ((length indices ≡ length indices₀) × ((length fractions ≡ length fractions₀)
-    × ((at ≡ place (planOf plan) k) × (record { work = work; residuals = residuals } ≡ units (walkUnit s (planOf plan) source) from (k - from) (record { work = work₀; residuals = residuals₀ })))))))))
+    × ((at ≡ place (planOf plan .block) k) × (record { work = work; residuals = residuals } ≡ units (walkUnit s (planOf plan .block) source) from (k - from) (record { work = work₀; residuals = residuals₀ })))))))))
 
 abbrev μ-loop : tie.MeasureT-loop
 μ-loop s plan source work₀ residuals₀ refs₀ indices₀ fractions₀ from did upto at₀ k₀ work residuals refs indices fractions at k = from + did - k
@@ -70,7 +70,7 @@ loop-again c =
     let a = c .before .before .before .before .before .before .before .before .before .before .before .before .before .before .before .before .before .before .before .before .before .before .before .before .before .args in
     let b = c .before .before .before .before .before .before .before .before .before .before .before .before .before .before .before .before .block-at .ensures in
     let e = i .1 .1 .1 .1 .1 .1 .1 .0 in
-    (search needs, (search needs, (search needs, (search needs, (search needs, (search needs, (search needs, (place-more _ (l .k) (l .at) _ e b, walk-more (a .s) (planOf (a .plan .now)) (a .source .now) _ (l .k) (l .at) _ _ _ _ (i .0) e b (i .1 .1 .1 .1 .1 .1 .1 .1) (c .before .before .before .before .before .before .before .before .before .before .walk-block .ensures)))))))))
+    (search needs, (search needs, (search needs, (search needs, (search needs, (search needs, (search needs, (place-more _ (l .k) (l .at) _ e b, walk-more (a .s) (planOf (a .plan .now) .block) (a .source .now) _ (l .k) (l .at) _ _ _ _ (i .0) e b (i .1 .1 .1 .1 .1 .1 .1 .1) (c .before .before .before .before .before .before .before .before .before .before .walk-block .ensures)))))))))
 
 same-length : tie.Need-same-length Inv-loop μ-loop
 same-length c = search needs

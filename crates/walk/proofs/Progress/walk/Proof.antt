@@ -3,6 +3,7 @@ use mathlib.Core.Path.{refl, sym, ap, _∙_}
 use native.Mathlib.Omega.{arith}
 use lib.ListN.{length}
 use Rattle.plan.specs.declared.Verdict.{Verdict}
+use Rattle.plan.specs.Plan.{planOf}
 use Rattle.walk.specs.declared.Stepped.{Stepped}
 use Prim.Native.Nat.{ℕ}
 use lib.Dec.{leb}
@@ -27,17 +28,17 @@ refusal-requires c κs = search needs
 returns : tie.Need-returns
 returns c =
     let a = c .before .before .before .before .before .before .before .before .before .before .args in
-    let w = walk-verdict (a .still) (a .plan .now) (record { refs = length (a .refs .now); indices = length (a .indices .now); fractions = length (a .fractions .now) }) (a .self) (a .grant) (a .source .now) (record { work = a .work .now; residuals = a .residuals .now }) (c .before .before .before .verdict-of .result) (c .before .before .before .before .walk-no .result) (c .before .before .before .before .walk-no .ensures) (c .before .before .before .verdict-of .ensures) in
+    let w = walk-verdict (a .still) (planOf (a .plan .now)) (record { refs = length (a .refs .now); indices = length (a .indices .now); fractions = length (a .fractions .now) }) (a .self) (a .grant) (a .source .now) (record { work = a .work .now; residuals = a .residuals .now }) (c .before .before .before .verdict-of .result) (c .before .before .before .before .walk-no .result) (c .before .before .before .before .walk-no .ensures) (c .before .before .before .verdict-of .ensures) in
     let n = ap (λ (v : Verdict). v .no) w in
-    (c .refusal .ensures ∙ refused-is (c .before .before .before .verdict-of .result) _ (a .plan .now) (a .self) (a .grant) w (c .before .if1 .taken), (walk-kept (a .still) (a .plan .now) (record { refs = length (a .refs .now); indices = length (a .indices .now); fractions = length (a .fractions .now) }) (a .self) (a .grant) (a .source .now) (record { work = a .work .now; residuals = a .residuals .now }) (λ e. c .before .if1 .taken (n ∙ e)), λ z. (refl, (refl, refl))))
+    (c .refusal .ensures ∙ refused-is (c .before .before .before .verdict-of .result) _ (planOf (a .plan .now)) (a .self) (a .grant) w (c .before .if1 .taken), (walk-kept (a .still) (planOf (a .plan .now)) (record { refs = length (a .refs .now); indices = length (a .indices .now); fractions = length (a .fractions .now) }) (a .self) (a .grant) (a .source .now) (record { work = a .work .now; residuals = a .residuals .now }) (λ e. c .before .if1 .taken (n ∙ e)), λ z. (refl, (refl, refl))))
 
 doing-of-requires : tie.Need-doing-of-requires
 doing-of-requires c κs =
     let a = c .before .before .before .before .before .before .before .before .before .args in
-    let w = walk-verdict (a .still) (a .plan .now) (record { refs = length (a .refs .now); indices = length (a .indices .now); fractions = length (a .fractions .now) }) (a .self) (a .grant) (a .source .now) (record { work = a .work .now; residuals = a .residuals .now }) (c .before .before .verdict-of .result) (c .before .before .before .walk-no .result) (c .before .before .before .walk-no .ensures) (c .before .before .verdict-of .ensures) in
+    let w = walk-verdict (a .still) (planOf (a .plan .now)) (record { refs = length (a .refs .now); indices = length (a .indices .now); fractions = length (a .fractions .now) }) (a .self) (a .grant) (a .source .now) (record { work = a .work .now; residuals = a .residuals .now }) (c .before .before .verdict-of .result) (c .before .before .before .walk-no .result) (c .before .before .before .walk-no .ensures) (c .before .before .verdict-of .ensures) in
     let n = ap (λ (v : Verdict). v .no) w in
     let z = sym n ∙ c .if1 .left in
-    let q = walk-sound (a .still) (a .plan .now) (record { refs = length (a .refs .now); indices = length (a .indices .now); fractions = length (a .fractions .now) }) (a .self) (a .source .now) (record { work = a .work .now; residuals = a .residuals .now }) z in
+    let q = walk-sound (a .still) (planOf (a .plan .now)) (record { refs = length (a .refs .now); indices = length (a .indices .now); fractions = length (a .fractions .now) }) (a .self) (a .source .now) (record { work = a .work .now; residuals = a .residuals .now }) z in
     (count-small _ _ _ _ _ (q .0), q .1 .1)
 
 cast-walk-blocks : tie.Need-cast-walk-blocks
@@ -49,19 +50,19 @@ cast-walk-blocks-2 c = search needs
 walk-blocks-requires : tie.Need-walk-blocks-requires
 walk-blocks-requires c κs =
     let a = c .before .before .before .before .before .before .before .before .before .before .before .before .before .before .before .before .args in
-    let w = walk-verdict (a .still) (a .plan .now) (record { refs = length (a .refs .now); indices = length (a .indices .now); fractions = length (a .fractions .now) }) (a .self) (a .grant) (a .source .now) (record { work = a .work .now; residuals = a .residuals .now }) (c .before .before .before .before .before .before .before .before .before .verdict-of .result) (c .before .before .before .before .before .before .before .before .before .before .walk-no .result) (c .before .before .before .before .before .before .before .before .before .before .walk-no .ensures) (c .before .before .before .before .before .before .before .before .before .verdict-of .ensures) in
+    let w = walk-verdict (a .still) (planOf (a .plan .now)) (record { refs = length (a .refs .now); indices = length (a .indices .now); fractions = length (a .fractions .now) }) (a .self) (a .grant) (a .source .now) (record { work = a .work .now; residuals = a .residuals .now }) (c .before .before .before .before .before .before .before .before .before .verdict-of .result) (c .before .before .before .before .before .before .before .before .before .before .walk-no .result) (c .before .before .before .before .before .before .before .before .before .before .walk-no .ensures) (c .before .before .before .before .before .before .before .before .before .verdict-of .ensures) in
     let n = ap (λ (v : Verdict). v .no) w in
     let z = sym n ∙ c .before .before .before .before .before .before .before .if1 .left in
-    let q = walk-sound (a .still) (a .plan .now) (record { refs = length (a .refs .now); indices = length (a .indices .now); fractions = length (a .fractions .now) }) (a .self) (a .source .now) (record { work = a .work .now; residuals = a .residuals .now }) z in
+    let q = walk-sound (a .still) (planOf (a .plan .now)) (record { refs = length (a .refs .now); indices = length (a .indices .now); fractions = length (a .fractions .now) }) (a .self) (a .source .now) (record { work = a .work .now; residuals = a .residuals .now }) z in
     (q .0, (q .1 .0, omega (arith, c .before .before .before .before .before .before .doing-of .ensures, q .1 .1)))
 
 step-of-requires : tie.Need-step-of-requires
 step-of-requires c κs =
     let a = c .before .before .before .before .before .before .before .before .before .before .before .before .before .before .before .before .before .before .before .before .before .before .before .before .before .before .args in
-    let w = walk-verdict (a .still) (a .plan .now) (record { refs = length (a .refs .now); indices = length (a .indices .now); fractions = length (a .fractions .now) }) (a .self) (a .grant) (a .source .now) (record { work = a .work .now; residuals = a .residuals .now }) (c .before .before .before .before .before .before .before .before .before .before .before .before .before .before .before .before .before .before .before .verdict-of .result) (c .before .before .before .before .before .before .before .before .before .before .before .before .before .before .before .before .before .before .before .before .walk-no .result) (c .before .before .before .before .before .before .before .before .before .before .before .before .before .before .before .before .before .before .before .before .walk-no .ensures) (c .before .before .before .before .before .before .before .before .before .before .before .before .before .before .before .before .before .before .before .verdict-of .ensures) in
+    let w = walk-verdict (a .still) (planOf (a .plan .now)) (record { refs = length (a .refs .now); indices = length (a .indices .now); fractions = length (a .fractions .now) }) (a .self) (a .grant) (a .source .now) (record { work = a .work .now; residuals = a .residuals .now }) (c .before .before .before .before .before .before .before .before .before .before .before .before .before .before .before .before .before .before .before .verdict-of .result) (c .before .before .before .before .before .before .before .before .before .before .before .before .before .before .before .before .before .before .before .before .walk-no .result) (c .before .before .before .before .before .before .before .before .before .before .before .before .before .before .before .before .before .before .before .before .walk-no .ensures) (c .before .before .before .before .before .before .before .before .before .before .before .before .before .before .before .before .before .before .before .verdict-of .ensures) in
     let n = ap (λ (v : Verdict). v .no) w in
     let z = sym n ∙ c .before .before .before .before .before .before .before .before .before .before .before .before .before .before .before .before .before .if1 .left in
-    let q = walk-sound (a .still) (a .plan .now) (record { refs = length (a .refs .now); indices = length (a .indices .now); fractions = length (a .fractions .now) }) (a .self) (a .source .now) (record { work = a .work .now; residuals = a .residuals .now }) z in
+    let q = walk-sound (a .still) (planOf (a .plan .now)) (record { refs = length (a .refs .now); indices = length (a .indices .now); fractions = length (a .fractions .now) }) (a .self) (a .source .now) (record { work = a .work .now; residuals = a .residuals .now }) z in
     omega (arith, c .before .before .before .before .before .before .before .before .before .before .before .before .before .before .before .before .doing-of .ensures, q .1 .1, count-small _ _ _ _ _ (q .0))
 
 same-length : tie.Need-same-length
@@ -82,11 +83,11 @@ same-length-5 c = search needs
 returns-2 : tie.Need-returns-2
 returns-2 c =
     let a = c .before .before .before .before .before .before .before .before .before .before .before .before .before .before .before .before .before .before .before .before .before .before .before .before .before .before .before .args in
-    let w = walk-verdict (a .still) (a .plan .now) (record { refs = length (a .refs .now); indices = length (a .indices .now); fractions = length (a .fractions .now) }) (a .self) (a .grant) (a .source .now) (record { work = a .work .now; residuals = a .residuals .now }) (c .before .before .before .before .before .before .before .before .before .before .before .before .before .before .before .before .before .before .before .before .verdict-of .result) (c .before .before .before .before .before .before .before .before .before .before .before .before .before .before .before .before .before .before .before .before .before .walk-no .result) (c .before .before .before .before .before .before .before .before .before .before .before .before .before .before .before .before .before .before .before .before .before .walk-no .ensures) (c .before .before .before .before .before .before .before .before .before .before .before .before .before .before .before .before .before .before .before .before .verdict-of .ensures) in
+    let w = walk-verdict (a .still) (planOf (a .plan .now)) (record { refs = length (a .refs .now); indices = length (a .indices .now); fractions = length (a .fractions .now) }) (a .self) (a .grant) (a .source .now) (record { work = a .work .now; residuals = a .residuals .now }) (c .before .before .before .before .before .before .before .before .before .before .before .before .before .before .before .before .before .before .before .before .verdict-of .result) (c .before .before .before .before .before .before .before .before .before .before .before .before .before .before .before .before .before .before .before .before .before .walk-no .result) (c .before .before .before .before .before .before .before .before .before .before .before .before .before .before .before .before .before .before .before .before .before .walk-no .ensures) (c .before .before .before .before .before .before .before .before .before .before .before .before .before .before .before .before .before .before .before .before .verdict-of .ensures) in
     let n = ap (λ (v : Verdict). v .no) w in
     let z = sym n ∙ c .before .before .before .before .before .before .before .before .before .before .before .before .before .before .before .before .before .before .if1 .left in
-    let q = walk-sound (a .still) (a .plan .now) (record { refs = length (a .refs .now); indices = length (a .indices .now); fractions = length (a .fractions .now) }) (a .self) (a .source .now) (record { work = a .work .now; residuals = a .residuals .now }) z in
-    (c .step-of .ensures ∙ stepped-is (walkVerdict (a .still) (a .plan .now) (record { refs = length (a .refs .now); indices = length (a .indices .now); fractions = length (a .fractions .now) }) (a .self) (a .source .now) (record { work = a .work .now; residuals = a .residuals .now })) (a .plan .now) (a .self) (a .grant) _ z (c .before .before .before .before .before .before .before .before .before .before .before .before .before .before .before .before .before .doing-of .ensures), (walk-done (a .still) (a .plan .now) (record { refs = length (a .refs .now); indices = length (a .indices .now); fractions = length (a .fractions .now) }) (a .self) (a .grant) (a .source .now) (record { work = a .work .now; residuals = a .residuals .now }) _ _ z (c .before .before .before .before .before .before .before .before .before .before .before .before .before .before .before .before .before .doing-of .ensures) (c .before .before .before .before .before .before .before .before .before .before .walk-blocks .ensures), λ x. absurd (x (ap (λ (r : Stepped). r .no) (c .step-of .ensures)))))
+    let q = walk-sound (a .still) (planOf (a .plan .now)) (record { refs = length (a .refs .now); indices = length (a .indices .now); fractions = length (a .fractions .now) }) (a .self) (a .source .now) (record { work = a .work .now; residuals = a .residuals .now }) z in
+    (c .step-of .ensures ∙ stepped-is (walkVerdict (a .still) (planOf (a .plan .now)) (record { refs = length (a .refs .now); indices = length (a .indices .now); fractions = length (a .fractions .now) }) (a .self) (a .source .now) (record { work = a .work .now; residuals = a .residuals .now })) (planOf (a .plan .now)) (a .self) (a .grant) _ z (c .before .before .before .before .before .before .before .before .before .before .before .before .before .before .before .before .before .doing-of .ensures), (walk-done (a .still) (planOf (a .plan .now)) (record { refs = length (a .refs .now); indices = length (a .indices .now); fractions = length (a .fractions .now) }) (a .self) (a .grant) (a .source .now) (record { work = a .work .now; residuals = a .residuals .now }) _ _ z (c .before .before .before .before .before .before .before .before .before .before .before .before .before .before .before .before .before .doing-of .ensures) (c .before .before .before .before .before .before .before .before .before .before .walk-blocks .ensures), λ x. absurd (x (ap (λ (r : Stepped). r .no) (c .step-of .ensures)))))
 
 pub walk-spec : {M : Type 1} → statement M
 walk-spec = tie.close (tie.spec
