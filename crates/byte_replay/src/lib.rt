@@ -105,12 +105,6 @@ fn rebuild_rows(
     }
 }
 
-fn residual_ok(r: i32) -> bool
-    ensures { λ b. ⌜ b ≡ residualOk r ⌝ }
-{
-    helpers::abs(r) <= 65535
-}
-
 // Number 8: whether every residual is in range.
 fn residuals_ok(residuals: &[u8]) -> bool
     ensures { λ b. ⌜ b ≡ every residualOk (residualsOf (now (residuals .entry))) ⌝ }
@@ -119,7 +113,7 @@ fn residuals_ok(residuals: &[u8]) -> bool
     let mut ok = true;
     let mut i = 0;
     while i < count {
-        ok = ok & residual_ok(residual_at(residuals, i));
+        ok = ok & walk::residual_ok(residual_at(residuals, i));
         i += 1;
     }
     ok

@@ -47,7 +47,12 @@ use Rattle.refs.proofs.substitute_refs.Reads as refs-substitute-refs
 use Rattle.refs.proofs.get_reference_samples.Reads as refs-get-reference-samples
 use Rattle.refs.proofs.get_reference_samples_chroma_pair.Reads as refs-get-reference-samples-chroma-pair
 use Rattle.plan.proofs.check_plan.Reads as plan-check-plan
+use Rattle.plan.proofs.record_at.Reads as plan-record-at
+use Rattle.plan.proofs.check_plan_bytes.Reads as plan-check-plan-bytes
 use Rattle.walk.proofs.Progress.fresh.Reads as walk-fresh
+use Rattle.walk.proofs.geometry.Reads as walk-geometry
+use Rattle.walk.proofs.opening_no.Reads as walk-opening-no
+use Rattle.walk.proofs.residual_ok.Reads as walk-residual-ok
 use Rattle.probes.proofs.salvrunde_probe_depth.Reads as probes-salvrunde-probe-depth
 use Rattle.probes.proofs.salvrunde_probe_format.Reads as probes-salvrunde-probe-format
 use Rattle.probes.proofs.salvrunde_probe_on_luma.Reads as probes-salvrunde-probe-on-luma
@@ -216,9 +221,24 @@ refs-get-reference-samples-chroma-pair-once κs a x y s t p q = p ∙ sym q
 plan-check-plan-once : (κs : Lfts 1) → Once (plan-check-plan.Post κs)
 plan-check-plan-once κs a x y s t p q = p ∙ sym q
 
+plan-record-at-once : (κs : Lfts 1) → Once (plan-record-at.Post κs)
+plan-record-at-once κs a x y s t p q = p ∙ sym q
+
+plan-check-plan-bytes-once : (κs : Lfts 1) → Once (plan-check-plan-bytes.Post κs)
+plan-check-plan-bytes-once κs a x y s t p q = p ∙ sym q
+
 -- walk
 walk-fresh-once : Once (walk-fresh.Post tt)
 walk-fresh-once a x y s t p q = p ∙ sym q
+
+walk-geometry-once : Once (walk-geometry.Post tt)
+walk-geometry-once a x y s t p q = p ∙ sym q
+
+walk-opening-no-once : Once (walk-opening-no.Post tt)
+walk-opening-no-once a x y s t p q = p ∙ sym q
+
+walk-residual-ok-once : Once (walk-residual-ok.Post tt)
+walk-residual-ok-once a x y s t p q = p ∙ sym q
 
 -- probes
 probes-salvrunde-probe-depth-once : Once (probes-salvrunde-probe-depth.Post tt)

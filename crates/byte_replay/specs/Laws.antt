@@ -1,0 +1,111 @@
+-- What joins the functions of the replay on bytes: it is the replay of what the bytes spell. Rests on the walk's laws and on those of bytes.
+use mathlib.Core.Path.{_≡_, refl, sym, ap, ap₂, _∙_}
+use mathlib.Core.Bool.{Bool, true, _&&_}
+use mathlib.Core.List.{List}
+use Prim.Native.Nat.{ℕ, _+_, _*_, _/_, _%_, _≤_, _<_}
+use native.Mathlib.Omega.{arith}
+use lib.Dec.{leb, eqb}
+use lib.ListN.{length}
+use borrow.Author.Tests.{eqb-true, eq-eqb}
+use Rattle.laws.specs.Choose.{if-yes, passed, both-true, worked, unserved}
+use Rattle.laws.specs.Chain.{units}
+use Rattle.bytes.specs.Bytes.{samplesOf, bytesOf, residualsOf}
+use Rattle.bytes.specs.Laws.{AreBytes, length-samples, length-residuals, bytes-back}
+use Rattle.domain.specs.Domain.{depthOk}
+use Rattle.order.specs.Order.{pictureOk}
+use Rattle.plan.specs.declared.Frame.{Frame}
+use Rattle.plan.specs.declared.Verdict.{Verdict}
+use Rattle.plan.specs.Plan.{pictureOf}
+use Rattle.plan.specs.Check.{planVerdict}
+use Rattle.plan.specs.Records.{recordsOf, wholeRecords, bytesVerdict}
+use Rattle.walk.specs.declared.Still.{Still}
+use Rattle.walk.specs.declared.Progress.{Progress}
+use Rattle.walk.specs.declared.Stepped.{Stepped}
+use Rattle.walk.specs.Block.{replayUnit}
+use Rattle.walk.specs.Door.{every, Tables, roomy, residualOk, doing, verdictOf, replayVerdict}
+use Rattle.walk.specs.Ready.{Small, Sound}
+use Rattle.walk.specs.Laws.{callNo, replayFits, replay-sound, verdict-zero, refused-is, stepped-is}
+use Rattle.byte_replay.specs.Door.{Lent, bytesFit, byteVerdict, byteStep, planeAfter, answered, resultAfter}
+
+-- the tables that a call makes for itself
+abbrev pub own : Tables
+own = record { refs = 193; indices = 32; fractions = 32 }
+
+-- a plan's verdict, where its bytes are whole records
+pub whole-verdict : (f : Frame) (b : List ℕ) → wholeRecords b ≡ true → bytesVerdict f b ≡ planVerdict f (recordsOf b)
+unfolding bytesVerdict planVerdict
+whole-verdict f b e = rw e
+
+-- bytes that fit, part by part
+pub record Fitting (s : Still) (l : Lent) : Type 0 where
+  pub plane : l .plane ≡ 2 * (s .frame .height * s .frame .width)
+  pub residuals : length (l .residuals) ≡ 4 * (s .frame .height * s .frame .width)
+  pub records : wholeRecords (l .plan) ≡ true
+
+pub fitting : (s : Still) (l : Lent) → bytesFit s l ≡ true → Fitting s l
+fitting s l e =
+    let a = both-true _ (leb 8 (l .result)) e in
+    let b = both-true _ (wholeRecords (l .plan)) (a .0) in
+    let c = both-true _ _ (b .0) in
+    record { plane = eqb-true (l .plane) _ (c .0); residuals = eqb-true (length (l .residuals)) _ (c .1); records = b .1 }
+
+module _ (s : Still) (p : Progress) (l : Lent) where
+  -- the number of the checks before the plan's
+  abbrev pub byteNo : ℕ
+  byteNo = callNo s (bytesFit s l) 8 (every residualOk (residualsOf (l .residuals)))
+
+  -- where the bytes fit, the verdict is that on what they spell
+  pub verdict-alike : bytesFit s l ≡ true → byteVerdict s p l ≡ replayVerdict s (recordsOf (l .plan)) own p (l .plane / 2) (residualsOf (l .residuals))
+  unfolding byteVerdict replayVerdict
+  verdict-alike e =
+      let f = fitting s l e in
+      let area = s .frame .height * s .frame .width in
+      let a : eqb (l .plane / 2) area ≡ true = eq-eqb (l .plane / 2) area (omega (arith, f .plane)) in
+      let b : eqb (length (residualsOf (l .residuals))) area ≡ true = eq-eqb _ area (omega (arith, length-residuals (l .residuals), f .residuals)) in
+      let both : bytesFit s l ≡ replayFits s own (l .plane / 2) (length (residualsOf (l .residuals))) = e ∙ sym (rw (a, b)) in
+      ap (λ (t : Bool). verdictOf s (recordsOf (l .plan)) p (callNo s t 8 (every residualOk (residualsOf (l .residuals))))) both
+
+  -- a call that is served fits
+  pub served-fits : byteVerdict s p l .no ≡ 0 → bytesFit s l ≡ true
+  unfolding byteVerdict
+  served-fits z =
+      let q = verdict-zero s (recordsOf (l .plan)) p byteNo z .0 in
+      let a = passed (depthOk (s .bits)) _ 1 (omega arith) q in
+      let b = passed (pictureOk (pictureOf (s .frame))) _ 4 (omega arith) (a .1) in
+      passed (bytesFit s l) _ 5 (omega arith) (b .1) .0
+
+  pub served-sound : byteVerdict s p l .no ≡ 0
+      → Sound s (recordsOf (l .plan)) (l .plane / 2) (length (residualsOf (l .residuals))) own × (Small (residualsOf (l .residuals)) × (p .done ≤ length (l .plan) / 6))
+  served-sound z =
+      replay-sound s (recordsOf (l .plan)) own p (l .plane / 2) (residualsOf (l .residuals)) (ap (λ (v : Verdict). v .no) (sym (verdict-alike (served-fits z))) ∙ z)
+
+-- number 0 of 1, 4, 5, 8: the picture is good, and the plan is whole records
+pub early-good : (s : Still) (p : Progress) (l : Lent) → byteNo s p l ≡ 0 → (pictureOk (pictureOf (s .frame)) ≡ true) × (wholeRecords (l .plan) ≡ true)
+early-good s p l z =
+    let a = passed (depthOk (s .bits)) _ 1 (omega arith) z in
+    let b = passed (pictureOk (pictureOf (s .frame))) _ 4 (omega arith) (a .1) in
+    (b .0, fitting s l (passed (bytesFit s l) _ 5 (omega arith) (b .1) .0) .records)
+
+-- a refused call
+module _ (s : Still) (p : Progress) (l : Lent) (grant : ℕ) (v : Verdict) (e : v ≡ byteVerdict s p l) (h : v .no ≡ 0 → ⊥) where
+  pub plane-kept : (plane : List ℕ) → plane ≡ planeAfter s p l grant plane
+  unfolding planeAfter
+  plane-kept plane = unserved (byteVerdict s p l .no) _ plane (λ z. h (ap (λ (u : Verdict). u .no) e ∙ z))
+
+  pub result-refused : (result : List ℕ) → answered (v .block) (p .done) result ≡ resultAfter s p l grant result
+  unfolding resultAfter
+  result-refused result = ap (λ (t : Stepped). answered (t .block) (t .next .done) result) (refused-is v _ (recordsOf (l .plan)) p grant e h)
+
+-- a served call; e is what the plane holds after it, and its samples are known
+module _ (s : Still) (p : Progress) (l : Lent) (grant : ℕ) (z : byteVerdict s p l .no ≡ 0) where
+  pub plane-done : (plane e : List ℕ) → length e % 2 ≡ 0 → AreBytes e
+      → samplesOf e ≡ units (replayUnit s (recordsOf (l .plan) .block) (residualsOf (l .residuals))) (p .done) (doing (recordsOf (l .plan)) p grant) (samplesOf plane)
+      → e ≡ planeAfter s p l grant plane
+  unfolding planeAfter
+  plane-done plane e even small q = sym (bytes-back e even small) ∙ ap bytesOf q ∙ worked (byteVerdict s p l .no) _ plane z
+
+  pub result-served : (next : Progress) (result : List ℕ) → next ≡ record { done = p .done + doing (recordsOf (l .plan)) p grant } → answered 0 (next .done) result ≡ resultAfter s p l grant result
+  unfolding resultAfter
+  result-served next result q =
+      ap (λ (n : Progress). answered 0 (n .done) result) q
+      ∙ ap (λ (t : Stepped). answered (t .block) (t .next .done) result) (stepped-is (byteVerdict s p l) (recordsOf (l .plan)) p grant _ z refl)
