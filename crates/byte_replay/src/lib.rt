@@ -11,8 +11,15 @@ ghost use Rattle.laws.specs.Paint.{paint};
 ghost use Rattle.h265.specs.Notation.{clipTo};
 ghost use Rattle.domain.specs.Facts.{Depth};
 ghost use Rattle.bytes.specs.Bytes.{samplesOf, residualsOf};
+ghost use Rattle.plan.specs.Plan.{place};
+ghost use Rattle.plan.specs.Records.{recordsOf};
 ghost use Rattle.walk.specs.Door.{every, residualOk};
 ghost use Rattle.walk.specs.Ready.{Small, RowIn, RowsIn};
+ghost use Rattle.byte_replay.specs.Door.{wholeBy, byteVerdict, answered};
+ghost use Rattle.byte_replay.specs.Laws.{wordAt, byteNo};
+use plan::Verdict;
+use walk::Progress;
+use walk::Still;
 
 // Residual i.
 fn residual_at(b: &[u8], i: usize) -> i32
@@ -117,4 +124,97 @@ fn residuals_ok(residuals: &[u8]) -> bool
         i += 1;
     }
     ok
+}
+
+// Number 5: whether there are two bytes for each sample and four for each residual.
+fn are_whole(s: Still, plane: usize, residuals: usize) -> bool
+    ensures { λ r. ⌜ r ≡ (wholeBy s 2 plane && wholeBy s 4 residuals) ⌝ }
+{
+    let area = (s.frame.height as usize) * (s.frame.width as usize);
+    let samples = (plane % 2 == 0) & (plane / 2 == area);
+    samples & ((residuals % 4 == 0) & (residuals / 4 == area))
+}
+
+// The number of the checks before the plan's: 1, 4, 5, 8.
+fn early_no(s: Still, plan: &[u8], residuals: &[u8], plane: usize, result: usize) -> u32
+    ensures { λ r. ⌜ r ≡ byteNo s (record { plan = now (plan .entry); residuals = now (residuals .entry); plane = plane; result = result }) ⌝ }
+{
+    let planes = are_whole(s, plane, residuals.len());
+    let no = walk::opening_no(s, planes & (plan.len() % 6 == 0) & (result >= 8));
+    if no != 0 {
+        return no;
+    }
+    if residuals_ok(residuals) { 0 } else { 8 }
+}
+
+// The number of the checks before the plan's, then the plan's, then 11.
+fn verdict(
+    p: Progress,
+    s: Still,
+    plan: &[u8],
+    residuals: &[u8],
+    plane: usize,
+    result: usize,
+) -> Verdict
+    ensures { λ v. ⌜ v ≡ byteVerdict s p (record { plan = now (plan .entry); residuals = now (residuals .entry); plane = plane; result = result }) ⌝ }
+{
+    let early = early_no(s, plan, residuals, plane, result);
+    if early != 0 {
+        return Verdict {
+            no: early,
+            block: 0,
+        };
+    }
+    let v = plan::check_plan_bytes(s.frame, plan);
+    if v.no != 0 {
+        return v;
+    }
+    if (p.done as usize) <= plan.len() / 6 {
+        return Verdict { no: 0, block: 0 };
+    }
+    Verdict { no: 11, block: 0 }
+}
+
+// Where the residuals of block k begin.
+fn place_of(plan: &[u8], k: usize) -> usize
+    requires { ⌜ place (recordsOf (now plan) .block) k ≤ 16777216 ⌝ }
+    ensures { λ r. ⌜ r ≡ place (recordsOf (now (plan .entry)) .block) k ⌝ }
+{
+    let mut at: usize = 0;
+    let mut i: usize = 0;
+    while i < k {
+        let n = plan::record_at(plan, i).side as usize;
+        at += n * n;
+        i += 1;
+    }
+    at
+}
+
+// Stores a number of four bytes.
+fn put_word(b: &mut [u8], at: usize, v: u32)
+    requires { ⌜ at + 3 < length (now b) ⌝ }
+    ensures { λ _. ⌜ now (b .exit) ≡ wordAt (now (b .entry)) at v ⌝ }
+{
+    b[at] = bytes::byte_0(v);
+    b[at + 1] = bytes::byte_1(v);
+    b[at + 2] = bytes::byte_2(v);
+    b[at + 3] = bytes::byte_3(v);
+}
+
+// Writes the block number and the progress record into a result buffer that has room for them.
+fn answer(result: &mut [u8], block: u32, next: Progress)
+    ensures { λ _. ⌜ now (result .exit) ≡ answered block (next .done) (now (result .entry)) ⌝ }
+{
+    if result.len() >= 8 {
+        put_word(result, 0, block);
+        put_word(result, 4, next.done);
+    }
+}
+
+// The lesser of the grant and what remains.
+fn doing_of(count: usize, done: u32, grant: u32) -> u32
+    requires { ⌜ (count ≤ 16777216) × (done ≤ count) ⌝ }
+    ensures { λ r. ⌜ r ≡ min grant (count - done) ⌝ }
+{
+    helpers::min(grant, (count as u32) - done)
 }
