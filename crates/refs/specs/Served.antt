@@ -197,4 +197,4 @@ module _ {has : ℤ → ℤ → Bool} {r : Reach} (plane : List ℕ) (width row 
   made e es en ev =
       ev
       ∙ ap₂ (λ (t : Spot) (k : ℕ). planeRows plane t r n k) (es ∙ ap (λ (x : ℕ). spotOf x row col) e) en
-      ∙ rows-are has plane width row col n (neutralAt bits) r (y .reads .side) (y .known)
+      ∙ rows-are has plane width row col n (neutralAt bits) r (y .reads .few .side) (y .known)

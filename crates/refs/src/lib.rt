@@ -13,9 +13,9 @@ ghost use Rattle.order.specs.Reach.{lumaReach, chromaReach};
 ghost use Rattle.refs.specs.Substitution.{levelRows, substituted};
 ghost use Rattle.refs.specs.Door.{neutralAt, substituteNo, substituteDoor, lumaBlock, lumaNo, lumaRows, lumaDoor, formatOf, chromaBlock, chromaLength, chromaNo, chromaRows, chromaDoor};
 ghost use Rattle.refs.specs.Served.{gatherNo};
-ghost use Rattle.refs.specs.Line.{lineOf};
-ghost use Rattle.refs.specs.Counts.{startOf, cornerOf, restOf, edgeOf};
-ghost use Rattle.refs.specs.Spots.{spotOf, onEdge, cornerOn, aboveOn, leftOn, planeRows, Reads, Some};
+ghost use Rattle.refs.specs.Line.{lineOf, restBy};
+ghost use Rattle.refs.specs.Spots.{spotOf, onEdge, cornerOn, aboveOn, leftOn, planeRows, Few, Reads};
+ghost use Rattle.refs.specs.Seen.{seenEdge, seenCorner, seenRows, entry, padded, padRows, finished};
 use fmt::ChromaCol;
 use fmt::ChromaFormat;
 use fmt::ChromaRow;
@@ -289,10 +289,10 @@ fn spot_of(width: usize, row: usize, col: usize) -> Spot
     }
 }
 
-// The first `count` entries of an edge: `have` of them out of the plane, each `step` samples further, the others `rest`; 0 past them.
-fn edge(plane: &[u16], at: usize, step: usize, have: usize, count: usize, rest: u16) -> [u16; 65]
-    requires { ⌜ (have ≤ count) × (count ≤ 65) × ((i : ℕ) → i < have → at + i * step < length (now plane)) ⌝ }
-    ensures { λ r. ⌜ r ≡ edgeOf count have (onEdge (now (plane .entry)) at step) rest ⌝ }
+// The first `have` entries of an edge out of the plane, each `step` samples further; 0 past them.
+fn edge(plane: &[u16], at: usize, step: usize, have: usize) -> [u16; 65]
+    requires { ⌜ (have ≤ 65) × ((i : ℕ) → i < have → at + i * step < length (now plane)) ⌝ }
+    ensures { λ r. ⌜ r ≡ seenEdge have (onEdge (now (plane .entry)) at step) ⌝ }
 {
     let mut out = [0u16; 65];
     let mut i = 0;
@@ -300,67 +300,78 @@ fn edge(plane: &[u16], at: usize, step: usize, have: usize, count: usize, rest: 
         out[i] = plane[at + i * step];
         i += 1;
     }
-    while i < count {
-        out[i] = rest;
+    out
+}
+
+// A plane's samples that are there along both edges, above and left.
+fn two_rows(plane: &[u16], s: Spot, r: Reach, n: usize) -> [[u16; 65]; 2]
+    requires { ⌜ Reads r s (length (now plane)) n ⌝ }
+    ensures { λ v. ⌜ v ≡ seenRows r (aboveOn (now (plane .entry)) s) (leftOn (now (plane .entry)) s) ⌝ }
+{
+    let above = edge(plane, s.above, 1, r.above);
+    let left = edge(plane, s.left, s.width, r.left);
+    [above, left]
+}
+
+// The corner where it is there, else 0.
+fn corner_seen(plane: &[u16], s: Spot, r: Reach, n: usize) -> u16
+    requires { ⌜ Reads r s (length (now plane)) n ⌝ }
+    ensures { λ v. ⌜ v ≡ seenCorner r (cornerOn (now (plane .entry)) s) ⌝ }
+{
+    let at = s.corner;
+    if r.corner { plane[at] } else { 0 }
+}
+
+// The last entry that is there, or another sample where none is.
+fn last_of(row: &[u16; 65], have: usize, other: u16) -> u16
+    requires { ⌜ have ≤ 65 ⌝ }
+    ensures { λ v. ⌜ v ≡ restBy have (entry (now (row .entry))) other ⌝ }
+{
+    if have > 0 { row[have - 1] } else { other }
+}
+
+// A row whose entries from `have` on, up to `count`, are `rest`.
+fn pad(row: [u16; 65], have: usize, count: usize, rest: u16) -> [u16; 65]
+    requires { ⌜ (have ≤ count) × (count ≤ 65) ⌝ }
+    ensures { λ r. ⌜ r ≡ padded count have rest row ⌝ }
+{
+    let more = count - have;
+    let mut out = row;
+    let mut i = 0;
+    while i < more {
+        out[have + i] = rest;
         i += 1;
     }
     out
 }
 
-fn sample(plane: &[u16], at: usize) -> u16
-    requires { ⌜ at < length (now plane) ⌝ }
-    ensures { λ r. ⌜ r ≡ getD (now (plane .entry)) at 0 ⌝ }
+// The rows of what was read, where a neighbour is there: what stands before the first sample that is there is that sample, a missing
+// corner takes left[0], and what stands after the last one of the row above is that one, or the corner.
+fn pad_rows(two: [[u16; 65]; 2], seen: u16, r: Reach, n: usize) -> Rows
+    requires { ⌜ Few r n ⌝ }
+    ensures { λ v. ⌜ v ≡ padRows r seen (getD two 0 []) (getD two 1 []) n ⌝ }
 {
-    plane[at]
+    let above = two[0];
+    let left = two[1];
+    let start = last_of(&left, r.left, choose(r.corner, seen, above[0]));
+    let corner = choose(r.corner, seen, choose(r.left > 0, left[0], start));
+    let rest = last_of(&above, r.above, corner);
+    Rows {
+        corner,
+        above: pad(above, r.above, 2 * n + 1, rest),
+        left: pad(left, r.left, 2 * n + 1, start),
+    }
 }
 
-// What stands before the first sample that is there: that sample.
-fn start_of(plane: &[u16], s: Spot, r: Reach, n: usize) -> u16
-    requires { ⌜ Some r s (length (now plane)) n ⌝ }
-    ensures { λ v. ⌜ v ≡ startOf r (cornerOn (now (plane .entry)) s) (aboveOn (now (plane .entry)) s) (leftOn (now (plane .entry)) s) ⌝ }
+// The rows of what was read out of a plane.
+fn finish(two: [[u16; 65]; 2], seen: u16, r: Reach, n: usize, neutral: u16) -> Rows
+    requires { ⌜ Few r n ⌝ }
+    ensures { λ v. ⌜ v ≡ finished r seen two n neutral ⌝ }
 {
-    if r.left > 0 {
-        return sample(plane, s.left + (r.left - 1) * s.width);
+    if (r.left > 0) | r.corner | (r.above > 0) {
+        return pad_rows(two, seen, r, n);
     }
-    if r.corner {
-        return sample(plane, s.corner);
-    }
-    sample(plane, s.above)
-}
-
-// The corner, or left[0] where it is missing.
-fn corner_of(plane: &[u16], s: Spot, r: Reach, n: usize, start: u16) -> u16
-    requires { ⌜ Reads r s (length (now plane)) n ⌝ }
-    ensures { λ v. ⌜ v ≡ cornerOf r (cornerOn (now (plane .entry)) s) (leftOn (now (plane .entry)) s) start ⌝ }
-{
-    if r.corner {
-        return sample(plane, s.corner);
-    }
-    if r.left > 0 {
-        return sample(plane, s.left);
-    }
-    start
-}
-
-// What stands after the last sample of the row above: that sample, or the corner.
-fn rest_of(plane: &[u16], s: Spot, r: Reach, n: usize, corner: u16) -> u16
-    requires { ⌜ Reads r s (length (now plane)) n ⌝ }
-    ensures { λ v. ⌜ v ≡ restOf r (aboveOn (now (plane .entry)) s) corner ⌝ }
-{
-    if r.above > 0 {
-        return sample(plane, s.above + (r.above - 1));
-    }
-    corner
-}
-
-// A plane's two rows, above and left.
-fn two_rows(plane: &[u16], s: Spot, r: Reach, n: usize, rest: u16, start: u16) -> [[u16; 65]; 2]
-    requires { ⌜ Reads r s (length (now plane)) n ⌝ }
-    ensures { λ v. ⌜ v ≡ edgeOf (2 * n + 1) (r .above) (aboveOn (now (plane .entry)) s) rest ∷ edgeOf (2 * n + 1) (r .left) (leftOn (now (plane .entry)) s) start ∷ [] ⌝ }
-{
-    let above = edge(plane, s.above, 1, r.above, 2 * n + 1, rest);
-    let left = edge(plane, s.left, s.width, r.left, 2 * n + 1, start);
-    [above, left]
+    level_rows(neutral)
 }
 
 // The rows of a plane, from how far the neighbours reach.
@@ -368,18 +379,9 @@ fn plane_rows(plane: &[u16], s: Spot, r: Reach, n: usize, neutral: u16) -> Rows
     requires { ⌜ Reads r s (length (now plane)) n ⌝ }
     ensures { λ v. ⌜ v ≡ planeRows (now (plane .entry)) s r n neutral ⌝ }
 {
-    if !((r.left > 0) | r.corner | (r.above > 0)) {
-        return level_rows(neutral);
-    }
-    let start = start_of(plane, s, r, n);
-    let corner = corner_of(plane, s, r, n, start);
-    let rest = rest_of(plane, s, r, n, corner);
-    let two = two_rows(plane, s, r, n, rest, start);
-    Rows {
-        corner,
-        above: two[0],
-        left: two[1],
-    }
+    let two = two_rows(plane, s, r, n);
+    let seen = corner_seen(plane, s, r, n);
+    finish(two, seen, r, n, neutral)
 }
 
 // The number that refuses a gather, or 0: the depth's, then the reach's 2 or 4, then the planes', then the reach's 6.
