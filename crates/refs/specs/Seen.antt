@@ -12,8 +12,10 @@ use Rattle.laws.specs.Fill.{fill, run}
 use Rattle.laws.specs.FillLaws.{fill-at, fill-same, fill-run}
 use Rattle.order.specs.declared.Reach.{Reach}
 use Rattle.rows.specs.declared.Rows.{Rows}
+use Rattle.refs.specs.declared.Spot.{Spot}
 use Rattle.refs.specs.Substitution.{levelRows}
 use Rattle.refs.specs.Line.{anyBy, told}
+use Rattle.refs.specs.Spots.{cornerOn, aboveOn, leftOn, planeRows, Few}
 use Rattle.refs.specs.Counts.{startOf, cornerOf, restOf, edgeOf, reached, fromReach}
 
 -- the entries of an edge that are there, and the corner; 0 where none is
@@ -98,7 +100,7 @@ module _ (r : Reach) (c : ℕ) (above left : ℕ → ℕ) (n : ℕ) (small : n �
   rest k = by-test (ltb 0 (r .above)) (λ t. let p = ltb-true 0 (r .above) t in seen-at (r .above) above (r .above - 1) (omega arith) (omega arith)) (λ g. refl)
 
   -- the rows made of what was read are the rows of the samples
-  pub finish-all : (neutral : ℕ) → finished r (seenCorner r c) (seenRows r above left) n neutral ≡ fromReach r c above left n neutral
+  finish-all : (neutral : ℕ) → finished r (seenCorner r c) (seenRows r above left) n neutral ≡ fromReach r c above left n neutral
   unfolding finished fromReach
   finish-all neutral =
       by-test (anyBy (r .corner) (r .above) (r .left))
@@ -113,3 +115,11 @@ module _ (r : Reach) (c : ℕ) (above left : ℕ → ℕ) (n : ℕ) (small : n �
         left = (pad-edge (r .left) left _ (2 * n + 1) hl ∙ ap (edgeOf (2 * n + 1) (r .left) left) s) i;
       })
       (λ gone. refl)
+
+-- so are those of what was read out of a plane
+pub finish-plane : (plane : List ℕ) (s : Spot) (r : Reach) (n neutral : ℕ) → Few r n → {two : List (List ℕ)} {seen : ℕ} {v : Rows}
+    → two ≡ seenRows r (aboveOn plane s) (leftOn plane s) → seen ≡ seenCorner r (cornerOn plane s) → v ≡ finished r seen two n neutral
+    → v ≡ planeRows plane s r n neutral
+finish-plane plane s r n neutral f et es ev =
+    ev ∙ ap₂ (λ (w : List (List ℕ)) (k : ℕ). finished r k w n neutral) et es
+    ∙ finish-all r (cornerOn plane s) (aboveOn plane s) (leftOn plane s) n (f .side) (f .above-few) (f .left-few) neutral
