@@ -3,20 +3,23 @@
 ghost use mathlib.Core.Path.{_≡_};
 ghost use mathlib.Core.Bool.{true, _&&_};
 ghost use mathlib.Core.List.{[], _∷_};
-ghost use Prim.Native.Nat.{ℕ, min, _+_, _-_, _*_, _%_, _^_, _≤_, _<_};
+ghost use Prim.Native.Nat.{ℕ, min, _+_, _-_, _*_, _/_, _%_, _^_, _≤_, _<_};
 ghost use lib.ListN.{length, getD, set};
 ghost use lib.IntN.{pos, natAbs, _+ℤ_};
 ghost use Rattle.laws.specs.Fill.{run};
 ghost use Rattle.laws.specs.Paint.{paint};
+ghost use Rattle.laws.specs.Chain.{units};
 ghost use Rattle.h265.specs.Notation.{clipTo};
 ghost use Rattle.domain.specs.Facts.{Depth};
 ghost use Rattle.bytes.specs.Bytes.{samplesOf, residualsOf};
 ghost use Rattle.plan.specs.Plan.{place};
 ghost use Rattle.plan.specs.Records.{recordsOf};
-ghost use Rattle.walk.specs.Door.{every, residualOk};
-ghost use Rattle.walk.specs.Ready.{Small, RowIn, RowsIn};
-ghost use Rattle.byte_replay.specs.Door.{wholeBy, byteVerdict, answered};
-ghost use Rattle.byte_replay.specs.Laws.{wordAt, byteNo};
+ghost use Rattle.walk.specs.Block.{rebuilt, replayUnit};
+ghost use Rattle.walk.specs.Door.{every, residualOk, doing};
+ghost use Rattle.walk.specs.Ready.{Small, RowIn, RowsIn, Ready, Lies, Predicted, Sound};
+ghost use Rattle.byte_replay.specs.Door.{wholeBy, byteVerdict, planeAfter, answered, resultAfter};
+ghost use Rattle.byte_replay.specs.Laws.{own, wordAt, byteNo};
+use plan::Block;
 use plan::Verdict;
 use walk::Progress;
 use walk::Still;
@@ -217,4 +220,150 @@ fn doing_of(count: usize, done: u32, grant: u32) -> u32
     ensures { λ r. ⌜ r ≡ min grant (count - done) ⌝ }
 {
     helpers::min(grant, (count as u32) - done)
+}
+
+// A block's prediction from a plane, in rows.
+fn predict_block(
+    s: Still,
+    b: Block,
+    plane: &[u8],
+    refs: &mut [u16],
+    indices: &mut [u32],
+    fractions: &mut [u32],
+) -> [u16; 1024]
+    requires { ⌜ Ready s b (length (samplesOf (now plane))) (record { refs = length (now refs); indices = length (now indices); fractions = length (now fractions) }) × (length (now plane) % 2 ≡ 0) ⌝ }
+    ensures { λ p. ⌜ Predicted s b (samplesOf (now (plane .entry))) p ⌝ }
+{
+    let mut pred = [0u16; 1024];
+    let g = refs::get_reference_samples_bytes(plane, walk::geometry(s, b));
+    predict::predict_luma_tb_slices(
+        b.mode as u8,
+        g.rows,
+        b.side as usize,
+        s.bits,
+        &mut pred,
+        &mut *refs,
+        &mut *indices,
+        &mut *fractions,
+    );
+    pred
+}
+
+// A block of the replay.
+fn rebuild_block(
+    s: Still,
+    b: Block,
+    at: usize,
+    residuals: &[u8],
+    plane: &mut [u8],
+    refs: &mut [u16],
+    indices: &mut [u32],
+    fractions: &mut [u32],
+)
+    requires { ⌜ Ready s b (length (samplesOf (now plane))) (record { refs = length (now refs); indices = length (now indices); fractions = length (now fractions) }) × (Lies s b (length (residualsOf (now residuals))) at × (Small (residualsOf (now residuals)) × (length (now plane) % 2 ≡ 0))) ⌝ }
+    ensures { λ _. ⌜ samplesOf (now (plane .exit)) ≡ rebuilt s b at (residualsOf (now (residuals .entry))) (samplesOf (now (plane .entry))) ⌝ }
+{
+    let pred = predict_block(s, b, plane, &mut *refs, &mut *indices, &mut *fractions);
+    let n = b.side as usize;
+    let width = s.frame.width as usize;
+    let base = (b.row as usize) * width + (b.col as usize);
+    rebuild_rows(
+        &mut *plane,
+        &pred,
+        residuals,
+        n,
+        base,
+        width,
+        at,
+        largest_of(s.bits),
+    );
+}
+
+// `did` blocks of a plan from block `from` on.
+fn replay_blocks(
+    s: Still,
+    plan: &[u8],
+    residuals: &[u8],
+    plane: &mut [u8],
+    refs: &mut [u16],
+    indices: &mut [u32],
+    fractions: &mut [u32],
+    from: usize,
+    did: usize,
+)
+    requires { ⌜ Sound s (recordsOf (now plan)) (length (samplesOf (now plane))) (length (residualsOf (now residuals))) (record { refs = length (now refs); indices = length (now indices); fractions = length (now fractions) }) × (Small (residualsOf (now residuals)) × ((from + did ≤ length (now plan) / 6) × (length (now plane) % 2 ≡ 0))) ⌝ }
+    ensures { λ _. ⌜ samplesOf (now (plane .exit)) ≡ units (replayUnit s (recordsOf (now (plan .entry)) .block) (residualsOf (now (residuals .entry)))) from did (samplesOf (now (plane .entry))) ⌝ }
+{
+    let upto = from + did;
+    let mut at = place_of(plan, from);
+    let mut k = from;
+    while k < upto {
+        let b = plan::record_at(plan, k);
+        rebuild_block(
+            s,
+            b,
+            at,
+            residuals,
+            &mut *plane,
+            &mut *refs,
+            &mut *indices,
+            &mut *fractions,
+        );
+        let n = b.side as usize;
+        at += n * n;
+        k += 1;
+    }
+}
+
+// A call that is served: the next blocks, with scratch of its own.
+fn serve(
+    p: Progress,
+    s: Still,
+    plan: &[u8],
+    residuals: &[u8],
+    plane: &mut [u8],
+    grant: u32,
+) -> Progress
+    requires { ⌜ Sound s (recordsOf (now plan)) (length (samplesOf (now plane))) (length (residualsOf (now residuals))) own × (Small (residualsOf (now residuals)) × ((p .done ≤ length (now plan) / 6) × (length (now plane) % 2 ≡ 0))) ⌝ }
+    ensures { λ r. ⌜ (r ≡ record { done = p .done + doing (recordsOf (now (plan .entry))) p grant }) × (samplesOf (now (plane .exit)) ≡ units (replayUnit s (recordsOf (now (plan .entry)) .block) (residualsOf (now (residuals .entry)))) (p .done) (doing (recordsOf (now (plan .entry))) p grant) (samplesOf (now (plane .entry)))) ⌝ }
+{
+    let mut refs = [0u16; 193];
+    let mut indices = [0u32; 32];
+    let mut fractions = [0u32; 32];
+    let did = doing_of(plan.len() / 6, p.done, grant);
+    replay_blocks(
+        s,
+        plan,
+        residuals,
+        &mut *plane,
+        &mut refs,
+        &mut indices,
+        &mut fractions,
+        p.done as usize,
+        did as usize,
+    );
+    Progress { done: p.done + did }
+}
+
+// Decodes the next blocks of a plan in the plane's own bytes, as many as are granted. It gives its number, and writes the block that
+// it is about and the next progress record into the result buffer.
+pub fn replay(
+    progress: Progress,
+    still: Still,
+    plan: &[u8],
+    residuals: &[u8],
+    plane: &mut [u8],
+    result: &mut [u8],
+    grant: u32,
+) -> u32
+    ensures { λ r. ⌜ (r ≡ byteVerdict still progress (record { plan = now (plan .entry); residuals = now (residuals .entry); plane = length (now (plane .entry)); result = length (now (result .entry)) }) .no) × ((now (plane .exit) ≡ planeAfter still progress (record { plan = now (plan .entry); residuals = now (residuals .entry); plane = length (now (plane .entry)); result = length (now (result .entry)) }) grant (now (plane .entry))) × (now (result .exit) ≡ resultAfter still progress (record { plan = now (plan .entry); residuals = now (residuals .entry); plane = length (now (plane .entry)); result = length (now (result .entry)) }) grant (now (result .entry)))) ⌝ }
+{
+    let v = verdict(progress, still, plan, residuals, plane.len(), result.len());
+    if v.no != 0 {
+        answer(result, v.block, progress);
+        return v.no;
+    }
+    let next = serve(progress, still, plan, residuals, &mut *plane, grant);
+    answer(result, 0, next);
+    0
 }

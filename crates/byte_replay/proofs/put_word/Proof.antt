@@ -1,8 +1,6 @@
 -- `byte_replay::put_word` meets its contract: four bytes are stored. Assumes nothing.
-use Prim.Native.Nat.{_+_, _<_}
 use native.Mathlib.Omega.{arith}
-use lib.ListN.{length}
-use lib.Seq.{lt-length-set}
+use lib.ListN.{length-set}
 use borrow.Author.Needs.{needs}
 use Rattle.byte_replay.proofs.put_word.Statement.{statement}
 use Rattle.byte_replay.proofs.put_word.Tie as tie
@@ -20,7 +18,7 @@ add-b : tie.Need-add-b
 add-b c = search needs
 
 slice-write-b-2 : tie.Need-slice-write-b-2
-slice-write-b-2 c = let h : c .before .before .before .args .at + 1 < length (c .before .before .before .args .b .now) = omega (arith, c .before .before .before .pre) in lt-length-set _ _ _ h
+slice-write-b-2 c = let h = c .before .before .before .pre in rw length-set (omega (arith, h))
 
 byte-2-requires : tie.Need-byte-2-requires
 byte-2-requires c κs = search needs
@@ -29,7 +27,7 @@ add-b-2 : tie.Need-add-b-2
 add-b-2 c = search needs
 
 slice-write-b-3 : tie.Need-slice-write-b-3
-slice-write-b-3 c = let h : c .before .before .before .before .args .at + 2 < length (c .before .before .before .before .args .b .now) = omega (arith, c .before .before .before .before .pre) in lt-length-set _ _ _ (lt-length-set _ _ _ h)
+slice-write-b-3 c = let h = c .before .before .before .before .pre in rw (length-set, length-set) (omega (arith, h))
 
 byte-3-requires : tie.Need-byte-3-requires
 byte-3-requires c κs = search needs
