@@ -1,5 +1,5 @@
 -- What joins the functions of the replay on bytes: it is the replay of what the bytes spell. Rests on the walk's laws and on those of bytes.
-use mathlib.Core.Path.{_≡_, refl, sym, ap, ap₂, _∙_}
+use mathlib.Core.Path.{_≡_, refl, sym, ap, subst, _∙_}
 use mathlib.Core.Bool.{Bool, true, false, _&&_}
 use mathlib.Core.List.{List}
 use Prim.Native.Nat.{ℕ, _+_, _*_, _/_, _%_, _≤_, _<_}
@@ -101,6 +101,16 @@ module _ (s : Still) (p : Progress) (l : Lent) where
       → Sound s (recordsOf (l .plan)) (l .plane / 2) (length (residualsOf (l .residuals))) own × (Small (residualsOf (l .residuals)) × (p .done ≤ length (l .plan) / 6))
   served-sound z =
       replay-sound s (recordsOf (l .plan)) own p (l .plane / 2) (residualsOf (l .residuals)) (ap (λ (v : Verdict). v .no) (sym (verdict-alike (served-fits z))) ∙ z)
+
+-- a plane of so many bytes: what its samples ask for
+pub serves : (s : Still) (p : Progress) (plan residuals plane : List ℕ) (result : ℕ)
+    → byteVerdict s p (record { plan = plan; residuals = residuals; plane = length plane; result = result }) .no ≡ 0
+    → Sound s (recordsOf plan) (length (samplesOf plane)) (length (residualsOf residuals)) own × (Small (residualsOf residuals) × ((p .done ≤ length plan / 6) × (length plane % 2 ≡ 0)))
+serves s p plan residuals plane result z =
+    let l : Lent = record { plan = plan; residuals = residuals; plane = length plane; result = result } in
+    let q = served-sound s p l z in
+    let f = fitting s l (served-fits s p l z) in
+    (subst (λ (k : ℕ). Sound s (recordsOf plan) k (length (residualsOf residuals)) own) (sym (length-samples plane)) (q .0), (q .1 .0, (q .1 .1, omega (arith, f .plane))))
 
 -- number 0 of 1, 4, 5, 8: the picture is good, and the plan is whole records
 pub early-good : (s : Still) (l : Lent) → byteNo s l ≡ 0 → (pictureOk (pictureOf (s .frame)) ≡ true) × (wholeRecords (l .plan) ≡ true)

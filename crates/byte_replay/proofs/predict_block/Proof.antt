@@ -40,7 +40,7 @@ same-length-3 : tie.Need-same-length-3
 same-length-3 c = search needs
 
 returns : tie.Need-returns
-returns c = 
+returns c =
     let a = c .before .before .before .before .before .before .before .before .before .before .before .before .before .before .before .before .before .before .before .before in
     let b = a .args .plane .now in
     let p = c .before .before .before .before .before .before .before .predict-luma-tb-slices .ensures in

@@ -36,7 +36,7 @@ largest-of-requires : tie.Need-largest-of-requires
 largest-of-requires c κs = search needs
 
 rebuild-rows-requires : tie.Need-rebuild-rows-requires
-rebuild-rows-requires c κs = 
+rebuild-rows-requires c κs =
     let q = c .before .before .before .before .before .before .before .before .before .before .before .before .before .before .before .before .before .before .before .before .before .before .before .pre in
     let long : 1024 ≤ length (c .before .before .before .before .before .before .before .before .before .before .before .before .before .predict-block .result) = search needs in
     (rows-in _ _ _ _ _ _ (q .0) (q .1 .0) _ long, q .1 .1)
@@ -54,7 +54,7 @@ same-length-4 : tie.Need-same-length-4
 same-length-4 c = search needs
 
 returns : tie.Need-returns
-returns c = 
+returns c =
     let a = c .before .before .before .before .before .before .before .before .before .before .before .before .before .before .before .before .before .before .before .before .before .before .before .before .before .before .args in
     let p = c .before .before .before .before .before .before .before .before .before .before .before .before .before .before .before .before .predict-block in
     rebuilt-is (a .s) (a .b) _ _ (p .result) (samplesOf (a .plane .now)) _ (residualsOf (a .residuals .now)) (c .before .before .before .largest-of .ensures) (p .ensures) (c .before .before .rebuild-rows .ensures)

@@ -39,7 +39,7 @@ record-at-requires : tie.Need-record-at-requires Inv-loop μ-loop
 record-at-requires c κs = search needs
 
 rebuild-block-requires : tie.Need-rebuild-block-requires Inv-loop μ-loop
-rebuild-block-requires c κs = 
+rebuild-block-requires c κs =
     let l = c .before .before .before .before .before .before .loop in
     let i = l .inv in
     let a = c .before .before .before .before .before .before .before .before .before .before .before .before .before .before .args in
@@ -66,7 +66,7 @@ loop-less : tie.Need-loop-less Inv-loop μ-loop
 loop-less c = search needs
 
 loop-again : tie.Need-loop-again Inv-loop μ-loop
-loop-again c = 
+loop-again c =
     let l = c .before .before .before .before .before .before .before .before .before .before .before .before .before .before .before .before .loop in
     let i = l .inv in
     let a = c .before .before .before .before .before .before .before .before .before .before .before .before .before .before .before .before .before .before .before .before .before .before .before .before .args in

@@ -1,50 +1,48 @@
+-- `byte_replay::serve` meets its contract: the lesser of the grant and what remains is done. Rests on the loop over the blocks.
+use Prim.Native.Nat.{ℕ, _+_}
+use mathlib.Core.Path.{ap, _∙_}
+use native.Mathlib.Omega.{arith}
+use Rattle.laws.specs.Chain.{units}
+use Rattle.bytes.specs.Bytes.{samplesOf, residualsOf}
+use Rattle.plan.specs.Records.{recordsOf}
+use Rattle.walk.specs.Block.{replayUnit}
+use Rattle.walk.specs.Laws.{count-small}
 use borrow.Author.Needs.{needs}
 use Rattle.byte_replay.proofs.serve.Statement.{statement}
 use Rattle.byte_replay.proofs.serve.Tie as tie
-use Rattle.byte_replay.proofs.serve.Reads as reads
-use Rattle.byte_replay.proofs.serve.Lts as lts
-use Rattle.byte_replay.proofs.doing_of.Reads as doing-of-reads
-use Rattle.byte_replay.proofs.replay_blocks.Reads as replay-blocks-reads
 
--- src/lib.rt:333:9
 doing-of-requires : tie.Need-doing-of-requires
-doing-of-requires c κs = ?
+doing-of-requires c κs = let p = c .before .before .before .pre in (count-small _ _ _ _ _ (p .0), p .1 .1 .0)
 
--- src/lib.rt:339:9
 slice-aggregate-replay-blocks : tie.Need-slice-aggregate-replay-blocks
 slice-aggregate-replay-blocks c = search needs
 
--- src/lib.rt:340:9
 slice-aggregate-replay-blocks-2 : tie.Need-slice-aggregate-replay-blocks-2
 slice-aggregate-replay-blocks-2 c = search needs
 
--- src/lib.rt:341:9
 slice-aggregate-replay-blocks-3 : tie.Need-slice-aggregate-replay-blocks-3
 slice-aggregate-replay-blocks-3 c = search needs
 
--- src/lib.rt:342:9
 cast-replay-blocks : tie.Need-cast-replay-blocks
 cast-replay-blocks c = search needs
 
--- src/lib.rt:343:9
 cast-replay-blocks-2 : tie.Need-cast-replay-blocks-2
 cast-replay-blocks-2 c = search needs
 
--- src/lib.rt:334:5
 replay-blocks-requires : tie.Need-replay-blocks-requires
-replay-blocks-requires c κs = ?
+replay-blocks-requires c κs = let p = c .before .before .before .before .before .before .before .before .before .pre in (p .0, (p .1 .0, (omega (arith, c .before .before .before .before .before .doing-of .ensures, p .1 .1 .0), p .1 .1 .1)))
 
--- src/lib.rt:345:22
 add-t22 : tie.Need-add-t22
-add-t22 c = ?
+add-t22 c = let p = c .before .before .before .before .before .before .before .before .before .before .before .before .before .before .before .before .pre in record { fits = omega (arith, c .before .before .before .before .before .before .before .before .before .before .before .before .doing-of .ensures, p .1 .1 .0, count-small _ _ _ _ _ (p .0)) }
 
--- src/lib.rt:319:1
 same-length : tie.Need-same-length
 same-length c = search needs
 
--- src/lib.rt:319:1
 returns : tie.Need-returns
-returns c = ?
+returns c =
+    let a = c .before .before .before .before .before .before .before .before .before .before .before .before .before .before .before .before .args in
+    let d = c .before .before .before .before .before .before .before .before .before .before .before .before .doing-of .ensures in
+    (ap (λ (k : ℕ). record { done = a .p .done + k }) d, c .before .before .before .before .before .before .replay-blocks .ensures ∙ ap (λ (k : ℕ). units (replayUnit (a .s) (recordsOf (a .plan .now) .block) (residualsOf (a .residuals .now))) (a .p .done) k (samplesOf (a .plane .now))) d)
 
 pub serve-spec : {M : Type 1} → statement M
 serve-spec =
