@@ -1,7 +1,7 @@
-// Prints document 01's figures P1 to P10 as the doors give them; the file stdout has 01's numbers. The same calls are the table of specs/Figures.
-// Rests on the doors' contracts.
+// Prints document 01's figures P1 to P10 as the doors give them; the file stdout has 01's numbers. Each function that makes a call has for its contract what
+// the table of specs/Figures has for it. Rests on the doors' contracts.
 ghost use mathlib.Core.Path.{_≡_};
-ghost use Rattle.figures.specs.Figures.{planarBlock, dcBlock, angularBlock};
+ghost use Rattle.figures.specs.Figures.{counting, opening, planarBlock, dcBlock, angularBlock, orderAt, smoothsAt, bent, entry31, ordinary31, strongAt, restoredTo, smoothedTwo};
 use fmt::LumaCol;
 use fmt::LumaRow;
 use order::Picture;
@@ -46,7 +46,9 @@ fn angular_block(mode: u8, edge: bool, corner: u16, above: [u16; 65], left: [u16
     pred
 }
 
-fn counting_row() -> [u16; 65] {
+fn counting_row() -> [u16; 65]
+    ensures { λ r. ⌜ r ≡ counting ⌝ }
+{
     let mut row = [0u16; 65];
     for i in 0..65usize {
         row[i] = i as u16;
@@ -54,18 +56,24 @@ fn counting_row() -> [u16; 65] {
     row
 }
 
-fn opening_row(first: u16) -> [u16; 65] {
+fn opening_row(first: u16) -> [u16; 65]
+    ensures { λ r. ⌜ r ≡ opening first ⌝ }
+{
     let mut row = [0u16; 65];
     row[0] = first;
     row
 }
 
-fn order_at(row: u32, col: u32, picture: Picture) -> u16 {
-    (order::decode_order(LumaRow(row), LumaCol(col), picture).value % 65536) as u16
+fn order_at(picture: Picture, row: u32, col: u32) -> u32
+    ensures { λ r. ⌜ r ≡ orderAt picture row col ⌝ }
+{
+    order::decode_order(LumaRow(row), LumaCol(col), picture).value
 }
 
 // Whether a mode is smoothed; 2 would be a refused call.
-fn smooths(n: usize, mode: u8) -> u16 {
+fn smooths(n: usize, mode: u8) -> u16
+    ensures { λ r. ⌜ r ≡ smoothsAt n mode ⌝ }
+{
     let answer = smooth::should_filter_refs(mode, n);
     if answer.no != 0 {
         return 2;
@@ -74,31 +82,52 @@ fn smooths(n: usize, mode: u8) -> u16 {
 }
 
 // A row of 100 whose entry 63 is another; entry 31 of it smoothed, by either form and by the ordinary one.
-fn bent_row(end: u16) -> [u16; 65] {
+fn bent_row(end: u16) -> [u16; 65]
+    ensures { λ r. ⌜ r ≡ bent end ⌝ }
+{
     let mut row = [100u16; 65];
     row[63] = end;
     row
 }
 
-fn entry_31(end: u16) -> u16 {
+fn entry_31(end: u16) -> u16
+    ensures { λ r. ⌜ r ≡ entry31 end ⌝ }
+{
     let row = bent_row(end);
     let answer = smooth::filter_luma_refs(100, &row, &row, 32, 8);
     let above = answer.rows.above;
     above[31]
 }
 
-fn ordinary_31(end: u16) -> u16 {
+fn ordinary_31(end: u16) -> u16
+    ensures { λ r. ⌜ r ≡ ordinary31 end ⌝ }
+{
     let row = bent_row(end);
     let answer = smooth::filter_references(100, &row, &row, 32);
     let above = answer.above;
     above[31]
 }
 
-fn strong(end: u16) -> u16 {
+fn strong(end: u16) -> u16
+    ensures { λ r. ⌜ r ≡ strongAt end ⌝ }
+{
     (entry_31(end) != ordinary_31(end)) as u16
 }
 
-fn restored(sample: u16, residual: i32) -> u16 {
+// Entries 0 and 1 of a row 0 4 0 .., smoothed at a side n.
+fn smoothed_two(n: usize) -> [u16; 2]
+    ensures { λ r. ⌜ r ≡ smoothedTwo n ⌝ }
+{
+    let mut row = [0u16; 65];
+    row[1] = 4;
+    let answer = smooth::filter_references(0, &row, &row, n);
+    let above = answer.above;
+    [above[0], above[1]]
+}
+
+fn restored(sample: u16, residual: i32) -> u16
+    ensures { λ r. ⌜ r ≡ restoredTo sample residual ⌝ }
+{
     let pred = [sample; 16];
     let rest = [residual; 16];
     let mut out = [9u16; 16];
@@ -110,9 +139,13 @@ fn name(text: &[u8]) {
     io::write_all(1, text);
 }
 
-fn say(figure: u16) {
+fn say_wide(figure: u32) {
     io::write_all(1, b" ");
     io::print_decimal(1, figure as u64);
+}
+
+fn say(figure: u16) {
+    say_wide(figure as u32);
 }
 
 fn end() {
@@ -185,11 +218,11 @@ fn p6() {
         unit: 4,
     };
     name(b"P6");
-    say(order_at(0, 8, sixteen));
-    say(order_at(8, 0, sixteen));
-    say(order_at(0, 16, sixteen));
-    say(order_at(16, 0, sixteen));
-    say(order_at(4, 8, sixty_four));
+    say_wide(order_at(sixteen, 0, 8));
+    say_wide(order_at(sixteen, 8, 0));
+    say_wide(order_at(sixteen, 0, 16));
+    say_wide(order_at(sixteen, 16, 0));
+    say_wide(order_at(sixty_four, 4, 8));
     end();
 }
 
@@ -219,22 +252,17 @@ fn p9() {
     end();
 }
 
-// Entries 0 and 1 of P10's row, smoothed at a side n.
-fn say_smoothed(n: usize) {
-    let mut row = [0u16; 65];
-    row[1] = 4;
-    let answer = smooth::filter_references(0, &row, &row, n);
-    let above = answer.above;
-    say(above[0]);
-    say(above[1]);
+fn say_two(figures: [u16; 2]) {
+    say(figures[0]);
+    say(figures[1]);
 }
 
 fn p10() {
     name(b"P10");
-    say_smoothed(4);
-    say_smoothed(8);
-    say_smoothed(16);
-    say_smoothed(32);
+    say_two(smoothed_two(4));
+    say_two(smoothed_two(8));
+    say_two(smoothed_two(16));
+    say_two(smoothed_two(32));
     end();
 }
 

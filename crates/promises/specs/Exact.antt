@@ -28,7 +28,8 @@ abbrev pub Given : ℕ → List (Row ℕ) → Type 0
 Given k [] = k ≡ 0
 Given k (r ∷ rows) = cond (eqb k (r .answer)) (r .holds) ((¬ (r .holds)) × Given k rows)
 
--- each number is given exactly when its row holds and no row before it; 0 exactly when no row holds
+-- each number is given exactly when its row holds and no row before it; 0 exactly when no row holds. With x : Exact n ((2 when P) ∷ (5 when Q) ∷ []), for one,
+-- x .given 5 is (n ≡ 5) ↔ ((¬ P) × Q), x .given 0 is (n ≡ 0) ↔ ((¬ P) × ((¬ Q) × (0 ≡ 0))), and x .given 7 shuts 7 out.
 pub record Exact (no : ℕ) (rows : List (Row ℕ)) : Type 0 where
   pub given : (k : ℕ) → (no ≡ k) ↔ Given k rows
 
@@ -101,17 +102,22 @@ module _ {A : Type 0} (done : A) where
   pub first-exact : (a : A) (rows : List (Row A)) → First done a rows → ExactFirst done a rows
   first-exact a rows f = record { given = λ b. (λ e. subst (λ (x : A). First done x rows) e f, λ g. one a b rows f g) }
 
+  -- one row more: the answer goes by a test
+  pub first-test : (value : Bool → A) (rows : List (Row A)) {b : Bool} {P : Type 0} → Tells b P → (b ≡ true → First done (value true) rows)
+      → First done (value b) ((value false when P) ∷ rows)
+  first-test value rows {b} {P} t rest = go b t rest
+    where
+      go : (b : Bool) → Tells b P → (b ≡ true → First done (value true) rows) → First done (value b) ((value false when P) ∷ rows)
+      go true t rest = inr (t .passed refl, rest refl)
+      go false t rest = inl (t .failed refl, refl)
+
 -- the same of an answer that goes by the number of the first test that fails
 pub record FirstBy {A : Type 0} (done : A) (from : ℕ → A) (k : ℕ) (rows : List (Row A)) : Type 0 where
   pub first : First done (from k) rows
 
 pub first-row : {A : Type 0} {done : A} {from : ℕ → A} {b : Bool} {P : Type 0} {k m : ℕ} {rows : List (Row A)} → Tells b P → (b ≡ true → FirstBy done from m rows)
     → FirstBy done from (cond b m k) ((from k when P) ∷ rows)
-first-row {A} {done} {from} {b} {P} {k} {m} {rows} t rest = record { first = go b t rest }
-  where
-    go : (b : Bool) → Tells b P → (b ≡ true → FirstBy done from m rows) → First done (from (cond b m k)) ((from k when P) ∷ rows)
-    go true t rest = inr (t .passed refl, rest refl .first)
-    go false t rest = inl (t .failed refl, refl)
+first-row {A} {done} {from} {b} {P} {k} {m} {rows} t rest = record { first = first-test done (λ (b : Bool). from (cond b m k)) rows t (λ e. rest e .first) }
 
 -- Tests
 pub all-of : {a b : Bool} {P Q : Type 0} → Tells a P → Tells b Q → Tells (a && b) (P or Q)
@@ -120,6 +126,14 @@ all-of {a} {b} {P} {Q} s t = go a s
     go : (a : Bool) → Tells a P → Tells (a && b) (P or Q)
     go true s = record { passed = λ e. ⊎-elim (s .passed refl) (t .passed e); failed = λ e. inr (t .failed e) }
     go false s = record { passed = λ e. absurd (false≢true e); failed = λ e. inl (s .failed refl) }
+
+-- a test beside it that always holds
+pub and-more : {b : Bool} {P : Type 0} → Tells b P → Tells (b && true) P
+and-more {b} {P} t = go b t
+  where
+    go : (b : Bool) → Tells b P → Tells (b && true) P
+    go true t = t
+    go false t = t
 
 -- a ≤ b, a < b, a ≡ b
 pub at-most : (a b : ℕ) → Tells (leb a b) (b < a)

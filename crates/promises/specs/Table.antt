@@ -1,18 +1,20 @@
 -- Document 01, 'The numbers a call gives back', at each door: the rows that apply to it, in the order in which it checks, and that each number is
 -- given exactly when its row holds and no row before it, 0 exactly when no row holds. What a call lends is given by its length. Rests on Exact.
 --
---   BitDepth::from_bits                 depth-from            smooth::should_filter_refs           should-filter-refs
---   ChromaFormat::from_idc              format-from           smooth::filter_references            filter-references
---   order::decode_order                 decode-order          smooth::filter_luma_refs             filter-luma-refs
---   order::is_available                 is-available          flat::predict_planar_into            predict-flat
---   order::luma_reach                   luma-reach            flat::predict_dc_into                predict-flat
---   order::chroma_reach                 chroma-reach          angular::predict_angular_slices      predict-angular
---   refs::substitute_refs               substitute-refs       predict::predict_chroma_tb_slices    predict-chroma
---   refs::get_reference_samples         luma-gather           predict::predict_luma_tb_slices      predict-luma
---   refs::..samples_chroma_pair         chroma-gather         residual::compute_residual_i32_into  compute-residual
---                                                             residual::reconstruct_into           reconstruct
+--   BitDepth::from_bits                   depth-from              smooth::should_filter_refs             should-filter-refs
+--   ChromaFormat::from_idc                format-from             smooth::filter_references              filter-references
+--   order::decode_order                   decode-order            smooth::filter_luma_refs               filter-luma-refs
+--   order::is_available                   is-available            flat::predict_planar_into              predict-flat
+--   order::luma_reach                     luma-reach              flat::predict_dc_into                  predict-flat
+--   order::chroma_reach                   chroma-reach            angular::predict_angular_slices        predict-angular
+--   refs::substitute_refs                 substitute-refs         predict::predict_chroma_tb_slices      predict-chroma
+--   refs::get_reference_samples           luma-gather             predict::predict_luma_tb_slices        predict-luma
+--   refs::get_reference_samples_bytes     luma-gather-bytes       scratch::predict_angular_into, _fresh    predict-angular-scratch
+--   refs::.._chroma_pair                  chroma-gather           scratch::predict_chroma_tb_into, _fresh  predict-chroma-scratch
+--   refs::.._chroma_pair_bytes            chroma-gather-bytes     scratch::predict_luma_tb_into, _fresh    predict-luma-scratch
+--   residual::compute_residual_i32_into   compute-residual        residual::reconstruct_into             reconstruct
 --
--- plan::check_plan, Progress::walk and Progress::replay, whose numbers carry a block, are in TableWalk; what a refused call gives back is in Refused.
+-- plan::check_plan, on records and on bytes, Progress::walk and Progress::replay, whose numbers carry a block, are in TableWalk; what a refused call gives back is in Refused.
 use mathlib.Core.Path.{_≡_, refl, ap, subst}
 use mathlib.Core.Bool.{Bool, true, false, cond, _&&_, _||_, true≢false, false≢true}
 use mathlib.Core.List.{List, [], _∷_}
@@ -47,14 +49,15 @@ use Rattle.rows.specs.declared.Rows.{Rows}
 use Rattle.refs.specs.declared.Flags.{Flags}
 use Rattle.refs.specs.declared.LumaRefGeometry.{LumaRefGeometry}
 use Rattle.refs.specs.declared.ChromaRefGeometry.{ChromaRefGeometry}
-use Rattle.refs.specs.Door.{substituteNo, substituteDoor, lumaBlock, lumaNo, lumaDoor, formatOf, chromaPicture, chromaBlock, chromaLength, chromaNo, chromaDoor}
+use Rattle.refs.specs.Door.{substituteNo, substituteDoor, lumaBlock, lumaNumber, lumaLength, lumaNo, lumaDoor, lumaBytesNo, lumaBytesDoor, formatOf, chromaPicture, chromaBlock, chromaLength, chromaNumber, chromaNo, chromaDoor, chromaBytesNo, chromaBytesDoor}
 use Rattle.smooth.specs.Smoothing as smoothing
 use Rattle.smooth.specs.Smoothing.{ruleDoor, filterNo, filterDoor}
 use Rattle.flat.specs.Flat.{flatNo}
 use Rattle.angular.specs.Door.{Lent, enough, angularNo}
 use Rattle.predict.specs.Door.{predictNo}
+use Rattle.scratch.specs.Lent.{withScratch}
 use Rattle.residual.specs.Residual.{inRange, allInRange, residualNo, reconstructNo}
-use Rattle.promises.specs.Exact.{_when_, _or_, Exact, Tells, exact-none, exact-row, exact-answer, all-of, at-most, less, same, fact}
+use Rattle.promises.specs.Exact.{Row, _when_, _or_, Exact, Tells, exact-none, exact-row, exact-answer, all-of, and-more, at-most, less, same, fact}
 
 -- number 4: a side or the CTU outside the domain
 abbrev pub BadPicture : Picture → Type 0
@@ -192,17 +195,24 @@ pub substitute-refs : (rows : Rows) (flags : Flags) (n bits : ℕ) → Exact (su
 unfolding substituteDoor substituteNo
 substitute-refs rows flags n bits = exact-row (depth bits) refl (λ e. exact-row (size n) refl (λ e. exact-none))
 
-pub luma-gather : (plane : List ℕ) (g : LumaRefGeometry)
-    → Exact (lumaDoor plane g .no)
-    ((1 when ¬ Depth (g .bits)) ∷ (2 when ¬ Size (g .n)) ∷ (4 when BadPicture (g .picture))
-    ∷ (5 when ¬ (length plane ≡ g .picture .height * g .picture .width)) ∷ (6 when BadLuma (lumaBlock g)) ∷ [])
-unfolding lumaDoor lumaNo
-luma-gather plane g =
+-- the rows of a luma gather, where P says that the plane is not whole
+abbrev pub lumaTable : Type 0 → LumaRefGeometry → List (Row ℕ)
+lumaTable P g =
+    (1 when ¬ Depth (g .bits)) ∷ (2 when ¬ Size (g .n)) ∷ (4 when BadPicture (g .picture)) ∷ (5 when P) ∷ (6 when BadLuma (lumaBlock g)) ∷ []
+
+luma-number : {whole : Bool} {P : Type 0} → Tells whole P → (g : LumaRefGeometry) → Exact (lumaNumber whole g) (lumaTable P g)
+luma-number t g =
     exact-row (depth (g .bits)) refl
     (λ e. exact-row (size (g .n)) refl
-    (λ e. exact-row (picture (g .picture)) refl
-    (λ e. exact-row (same (length plane) (g .picture .height * g .picture .width)) refl
-    (λ e. exact-row (luma-place (lumaBlock g)) refl (λ e. exact-none)))))
+    (λ e. exact-row (picture (g .picture)) refl (λ e. exact-row t refl (λ e. exact-row (luma-place (lumaBlock g)) refl (λ e. exact-none)))))
+
+pub luma-gather : (plane : List ℕ) (g : LumaRefGeometry) → Exact (lumaDoor plane g .no) (lumaTable (¬ (length plane ≡ lumaLength g)) g)
+unfolding lumaDoor lumaNo
+luma-gather plane g = luma-number (same (length plane) (lumaLength g)) g
+
+pub luma-gather-bytes : (b : List ℕ) (g : LumaRefGeometry) → Exact (lumaBytesDoor b g .no) (lumaTable (¬ (length b ≡ 2 * lumaLength g)) g)
+unfolding lumaBytesDoor lumaBytesNo
+luma-gather-bytes b g = luma-number (same (length b) (2 * lumaLength g)) g
 
 -- no chroma block of a legal size is above a CTU of 64
 in-64 : (n : ℕ) (f : ChromaFormat) → Size n → Tells (leb n (64 / subWidth f)) (64 < n)
@@ -214,17 +224,29 @@ in-64 n f s = record { passed = λ e h. omega (arith, size-small n s); failed = 
     go Yuv422 h = omega (arith, size-small n s)
     go Yuv444 h = omega (arith, size-small n s)
 
-pub chroma-gather : (cb cr : List ℕ) (g : ChromaRefGeometry)
-    → Exact (chromaDoor cb cr g .no)
-    ((1 when ¬ Depth (g .bits)) ∷ (2 when ¬ Size (g .n)) ∷ (4 when BadPicture (chromaPicture g) or g .format < 1 or 3 < g .format)
-    ∷ (5 when (¬ (length cb ≡ chromaLength g)) or (¬ (length cr ≡ chromaLength g))) ∷ (6 when BadChroma (chromaBlock g) (64 < g .n)) ∷ [])
-unfolding chromaDoor chromaNo
-chroma-gather cb cr g =
+-- the rows of a chroma gather, where P says that a plane is not whole
+abbrev pub chromaTable : Type 0 → ChromaRefGeometry → List (Row ℕ)
+chromaTable P g =
+    (1 when ¬ Depth (g .bits)) ∷ (2 when ¬ Size (g .n)) ∷ (4 when BadPicture (chromaPicture g) or g .format < 1 or 3 < g .format) ∷ (5 when P)
+    ∷ (6 when BadChroma (chromaBlock g) (64 < g .n)) ∷ []
+
+chroma-number : {whole : Bool} {P : Type 0} → Tells whole P → (g : ChromaRefGeometry) → Exact (chromaNumber whole g) (chromaTable P g)
+chroma-number t g =
     exact-row (depth (g .bits)) refl
     (λ e. exact-row (size (g .n)) refl
     (λ s. exact-row (all-of (all-of (picture (chromaPicture g)) (at-most 1 (g .format))) (at-most (g .format) 3)) refl
-    (λ e. exact-row (all-of (same (length cb) (chromaLength g)) (same (length cr) (chromaLength g))) refl
+    (λ e. exact-row t refl
     (λ e. exact-row (chroma-place (chromaBlock g) (in-64 (g .n) (formatOf (g .format)) (size-of (g .n) s))) refl (λ e. exact-none)))))
+
+pub chroma-gather : (cb cr : List ℕ) (g : ChromaRefGeometry)
+    → Exact (chromaDoor cb cr g .no) (chromaTable ((¬ (length cb ≡ chromaLength g)) or (¬ (length cr ≡ chromaLength g))) g)
+unfolding chromaDoor chromaNo
+chroma-gather cb cr g = chroma-number (all-of (same (length cb) (chromaLength g)) (same (length cr) (chromaLength g))) g
+
+pub chroma-gather-bytes : (cb cr : List ℕ) (g : ChromaRefGeometry)
+    → Exact (chromaBytesDoor cb cr g .no) (chromaTable ((¬ (length cb ≡ 2 * chromaLength g)) or (¬ (length cr ≡ 2 * chromaLength g))) g)
+unfolding chromaBytesDoor chromaBytesNo
+chroma-gather-bytes cb cr g = chroma-number (all-of (same (length cb) (2 * chromaLength g)) (same (length cr) (2 * chromaLength g))) g
 
 -- smooth
 pub should-filter-refs : (mode n : ℕ) → Exact (ruleDoor mode n .no) ((2 when ¬ Size n) ∷ (3 when 34 < mode) ∷ [])
@@ -252,26 +274,48 @@ predict-flat n above left pred =
     exact-row (size n) refl (λ e. exact-row (all-of (all-of (at-most 65 (length above)) (at-most 65 (length left))) (at-most (n * n) (length pred))) refl (λ e. exact-none))
 
 module _ (bits n mode : ℕ) where
-  short : (l : Lent) → Tells (enough n l) (Short n l)
-  short l = scratch (all-of (all-of (at-most 65 (l .above)) (at-most 65 (l .left))) (at-most (n * n) (l .pred))) (l .refs) (l .indices) (l .fractions)
+  -- the rows of an angular call, and of one that takes every mode, where P says that something lent is short
+  abbrev pub angularTable : Type 0 → List (Row ℕ)
+  angularTable P = (1 when ¬ Depth bits) ∷ (2 when ¬ Size n) ∷ (3 when mode < 2 or 34 < mode) ∷ (5 when P) ∷ []
 
-  pub predict-angular : (l : Lent) → Exact (angularNo bits n mode l) ((1 when ¬ Depth bits) ∷ (2 when ¬ Size n) ∷ (3 when mode < 2 or 34 < mode) ∷ (5 when Short n l) ∷ [])
-  predict-angular l =
+  abbrev pub predictTable : Type 0 → List (Row ℕ)
+  predictTable P = (1 when ¬ Depth bits) ∷ (2 when ¬ Size n) ∷ (3 when 34 < mode) ∷ (5 when P) ∷ []
+
+  angular-number : {P : Type 0} (l : Lent) → Tells (enough n l) P → Exact (angularNo bits n mode l) (angularTable P)
+  angular-number l t =
       exact-row (depth bits) refl
-      (λ e. exact-row (size n) refl (λ e. exact-row (all-of (at-most 2 mode) (at-most mode 34)) refl (λ e. exact-row (short l) refl (λ e. exact-none))))
+      (λ e. exact-row (size n) refl (λ e. exact-row (all-of (at-most 2 mode) (at-most mode 34)) refl (λ e. exact-row t refl (λ e. exact-none))))
 
-  pub predict-chroma : (l : Lent) → Exact (predictNo bits n mode l) ((1 when ¬ Depth bits) ∷ (2 when ¬ Size n) ∷ (3 when 34 < mode) ∷ (5 when Short n l) ∷ [])
-  predict-chroma l =
-      exact-row (depth bits) refl (λ e. exact-row (size n) refl (λ e. exact-row (at-most mode 34) refl (λ e. exact-row (short l) refl (λ e. exact-none))))
+  predict-number : {P : Type 0} (l : Lent) → Tells (enough n l) P → Exact (predictNo bits n mode l) (predictTable P)
+  predict-number l t = exact-row (depth bits) refl (λ e. exact-row (size n) refl (λ e. exact-row (at-most mode 34) refl (λ e. exact-row t refl (λ e. exact-none))))
 
-  -- its rows come by value, 65 entries each
+  rows-short : (above left pred : ℕ) → Tells (leb 65 above && leb 65 left && leb (n * n) pred) (above < 65 or left < 65 or pred < n * n)
+  rows-short above left pred = all-of (all-of (at-most 65 above) (at-most 65 left)) (at-most (n * n) pred)
+
+  short : (l : Lent) → Tells (enough n l) (Short n l)
+  short l = scratch (rows-short (l .above) (l .left) (l .pred)) (l .refs) (l .indices) (l .fractions)
+
+  -- the tables as lent slices; the rows of a luma block come by value, 65 entries each
+  pub predict-angular : (l : Lent) → Exact (angularNo bits n mode l) (angularTable (Short n l))
+  predict-angular l = angular-number l (short l)
+
+  pub predict-chroma : (l : Lent) → Exact (predictNo bits n mode l) (predictTable (Short n l))
+  predict-chroma l = predict-number l (short l)
+
   pub predict-luma : (pred refs indices fractions : ℕ)
       → Exact (predictNo bits n mode (record { above = 65; left = 65; pred = pred; refs = refs; indices = indices; fractions = fractions }))
-      ((1 when ¬ Depth bits) ∷ (2 when ¬ Size n) ∷ (3 when 34 < mode) ∷ (5 when pred < n * n or refs < 193 or indices < 32 or fractions < 32) ∷ [])
-  predict-luma pred refs indices fractions =
-      exact-row (depth bits) refl
-      (λ e. exact-row (size n) refl
-      (λ e. exact-row (at-most mode 34) refl (λ e. exact-row (scratch (at-most (n * n) pred) refs indices fractions) refl (λ e. exact-none))))
+      (predictTable (pred < n * n or refs < 193 or indices < 32 or fractions < 32))
+  predict-luma pred refs indices fractions = predict-number (record { above = 65; left = 65; pred = pred; refs = refs; indices = indices; fractions = fractions }) (scratch (at-most (n * n) pred) refs indices fractions)
+
+  -- the tables in a struct, or made by the call: they are never short
+  pub predict-angular-scratch : (above left pred : ℕ) → Exact (angularNo bits n mode (withScratch above left pred)) (angularTable (above < 65 or left < 65 or pred < n * n))
+  predict-angular-scratch above left pred = angular-number (withScratch above left pred) (and-more (and-more (and-more (rows-short above left pred))))
+
+  pub predict-chroma-scratch : (above left pred : ℕ) → Exact (predictNo bits n mode (withScratch above left pred)) (predictTable (above < 65 or left < 65 or pred < n * n))
+  predict-chroma-scratch above left pred = predict-number (withScratch above left pred) (and-more (and-more (and-more (rows-short above left pred))))
+
+  pub predict-luma-scratch : (pred : ℕ) → Exact (predictNo bits n mode (withScratch 65 65 pred)) (predictTable (pred < n * n))
+  predict-luma-scratch pred = predict-number (withScratch 65 65 pred) (and-more (and-more (and-more (at-most (n * n) pred))))
 
 -- residual
 buffers : (n a b c : ℕ) → Tells (leb (n * n) a && leb (n * n) b && leb (n * n) c) (a < n * n or b < n * n or c < n * n)

@@ -1,11 +1,11 @@
--- Document 01, 'The numbers a call gives back', where a number carries a block: the plan check (`check-plan`), walk (`walk`) and replay (`replay`). The rows are in
+-- Document 01, 'The numbers a call gives back', where a number carries a block: the plan check (`check-plan`, on bytes `check-plan-bytes`), walk (`walk`) and replay (`replay`). The rows are in
 -- the order of the checks, the blocks' in list order, and the answer is given exactly when it is that of the first row that holds. Rests on
 -- Exact and on what the plan's verdict tells.
 use mathlib.Core.Path.{_≡_, refl, sym, ap, subst}
 use mathlib.Core.Bool.{Bool, true, false, cond, true≢false}
 use mathlib.Core.List.{List, [], _∷_}
 use mathlib.Core.Logic.{_⊎_, inl, inr, ⊎-elim}
-use Prim.Native.Nat.{ℕ, zero, suc, _+_, _*_, _<_, _≤_}
+use Prim.Native.Nat.{ℕ, zero, suc, _+_, _*_, _%_, _<_, _≤_}
 use native.Mathlib.Nat.{not-suc-le-zero, eq-or-lt-of-le, le-of-suc-le-suc}
 use native.Mathlib.Omega.{arith}
 use lib.Dec.{leb, eqb}
@@ -20,6 +20,7 @@ use Rattle.plan.specs.declared.Block.{Block}
 use Rattle.plan.specs.declared.Verdict.{Verdict}
 use Rattle.plan.specs.Plan.{pictureOf, Plan, In, Covered, Placed, Next}
 use Rattle.plan.specs.Check.{placedOk, blocksVerdict, planVerdict}
+use Rattle.plan.specs.Records.{recordsOf, wholeRecords, bytesVerdict}
 use Rattle.plan.specs.Tests.{picture-good, placed-of}
 use Rattle.plan.specs.Verdict.{Fine, Broken, bad-size, bad-mode, bad-place, bad-order, Told, is-good, bad-picture, bad-block, bad-cover, told, verdict-good, good-verdict}
 use Rattle.walk.specs.declared.Still.{Still}
@@ -27,7 +28,7 @@ use Rattle.walk.specs.declared.Progress.{Progress}
 use Rattle.walk.specs.declared.Stepped.{Stepped}
 use Rattle.walk.specs.Block.{largestOf, World}
 use Rattle.walk.specs.Door.{every, whole, Tables, roomy, doing, verdictOf, steppedBy, replayVerdict, walkVerdict}
-use Rattle.promises.specs.Exact.{Row, _when_, _or_, First, ExactFirst, FirstBy, Tells, first-exact, first-row, all-of, at-most, same}
+use Rattle.promises.specs.Exact.{Row, _when_, _or_, First, ExactFirst, FirstBy, Tells, first-exact, first-test, first-row, all-of, at-most, same}
 use Rattle.promises.specs.Table.{BadPicture, BadPlace, depth, picture, placed}
 
 -- number n, about block k of the list
@@ -165,19 +166,34 @@ module _ (f : Frame) (l : Plan) where
   unfolding planVerdict
   zero-done ok e = rw ok at (good-verdict f l (verdict-good f l (rw ok e)))
 
-  -- plan::check_plan
-  pub check-plan : ExactFirst done (planVerdict f l) ((about 4 0 when BadPicture (pictureOf f)) ∷ planRows f l [])
-  unfolding planVerdict
-  check-plan = first-exact done (planVerdict f l) _ (go (pictureOk (pictureOf f)) refl (picture (pictureOf f)))
+  -- the blocks, and nothing after them
+  blocks-alone : pictureOk (pictureOf f) ≡ true → First done v (planRows f l [])
+  blocks-alone ok = subst (λ (w : Verdict). First done w (planRows f l [])) (go (eqb (v .no) 0) refl) (blocks-first ok done [] refl)
     where
-      same-verdict : pictureOk (pictureOf f) ≡ true → (b : Bool) → eqb (v .no) 0 ≡ b → cond b done v ≡ v
-      same-verdict ok true e = sym (zero-done ok (eqb-true (v .no) 0 e))
-      same-verdict ok false e = refl
+      go : (b : Bool) → eqb (v .no) 0 ≡ b → cond b done v ≡ v
+      go true e = sym (zero-done ok (eqb-true (v .no) 0 e))
+      go false e = refl
 
-      go : (b : Bool) → pictureOk (pictureOf f) ≡ b → Tells b (BadPicture (pictureOf f)) → First done (cond b v (about 4 0)) ((about 4 0 when BadPicture (pictureOf f)) ∷ planRows f l [])
-      go true ok t =
-          inr (t .passed refl, subst (λ (w : Verdict). First done w (planRows f l [])) (same-verdict ok (eqb (v .no) 0) refl) (blocks-first ok done [] refl))
-      go false ok t = inl (t .failed refl, refl)
+-- plan::check_plan, and the same on bytes, which are to be whole records
+pub check-plan : (f : Frame) (l : Plan) → ExactFirst done (planVerdict f l) ((about 4 0 when BadPicture (pictureOf f)) ∷ planRows f l [])
+unfolding planVerdict
+check-plan f l =
+    first-exact done (planVerdict f l) _
+    (first-test done (λ (b : Bool). cond b (blocksVerdict f l) (about 4 0)) (planRows f l []) (picture (pictureOf f)) (blocks-alone f l))
+
+pub check-plan-bytes : (f : Frame) (b : List ℕ)
+    → ExactFirst done (bytesVerdict f b) ((about 4 0 when BadPicture (pictureOf f)) ∷ (about 5 0 when ¬ (length b % 6 ≡ 0)) ∷ planRows f (recordsOf b) [])
+unfolding bytesVerdict
+check-plan-bytes f b =
+    first-exact done (bytesVerdict f b) _
+    (first-test done (λ (t : Bool). cond t (cond (wholeRecords b) v (about 5 0)) (about 4 0)) ((about 5 0 when ¬ (length b % 6 ≡ 0)) ∷ rows) (picture (pictureOf f))
+    (λ ok. first-test done (λ (t : Bool). cond t v (about 5 0)) rows (same (length b % 6) 0) (λ e. blocks-alone f (recordsOf b) ok)))
+  where
+    v : Verdict
+    v = blocksVerdict f (recordsOf b)
+
+    rows : List (Row Verdict)
+    rows = planRows f (recordsOf b) []
 
 -- a test of every entry
 every-one : {A : Type 0} (d : A) {test : A → Bool} {P : A → Type 0} → ((x : A) → Tells (test x) (P x)) → (l : List A) → Tells (every test l) (Some d P l)
