@@ -17,6 +17,12 @@ use denote.Triple.Clauses.{Ended, AtExit, Clauses}
 use denote.Triple.Entry.{Args, Res}
 use Rattle.laws.specs.Choose.{served}
 use Rattle.walk.specs.Block.{World}
+use Rattle.bytes.proofs.sample.Reads as bytes-sample
+use Rattle.bytes.proofs.residual.Reads as bytes-residual
+use Rattle.bytes.proofs.byte_0.Reads as bytes-byte-0
+use Rattle.bytes.proofs.byte_1.Reads as bytes-byte-1
+use Rattle.bytes.proofs.byte_2.Reads as bytes-byte-2
+use Rattle.bytes.proofs.byte_3.Reads as bytes-byte-3
 use Rattle.domain.proofs.depth_ok.Reads as domain-depth-ok
 use Rattle.domain.proofs.size_ok.Reads as domain-size-ok
 use Rattle.domain.proofs.mode_ok.Reads as domain-mode-ok
@@ -50,7 +56,12 @@ use Rattle.refs.proofs.substitute_refs.Reads as refs-substitute-refs
 use Rattle.refs.proofs.get_reference_samples.Reads as refs-get-reference-samples
 use Rattle.refs.proofs.get_reference_samples_chroma_pair.Reads as refs-get-reference-samples-chroma-pair
 use Rattle.plan.proofs.check_plan.Reads as plan-check-plan
+use Rattle.plan.proofs.record_at.Reads as plan-record-at
+use Rattle.plan.proofs.check_plan_bytes.Reads as plan-check-plan-bytes
 use Rattle.walk.proofs.Progress.fresh.Reads as walk-fresh
+use Rattle.walk.proofs.geometry.Reads as walk-geometry
+use Rattle.walk.proofs.opening_no.Reads as walk-opening-no
+use Rattle.walk.proofs.residual_ok.Reads as walk-residual-ok
 use Rattle.probes.proofs.salvrunde_probe_depth.Reads as probes-salvrunde-probe-depth
 use Rattle.probes.proofs.salvrunde_probe_format.Reads as probes-salvrunde-probe-format
 use Rattle.probes.proofs.salvrunde_probe_on_luma.Reads as probes-salvrunde-probe-on-luma
@@ -88,6 +99,8 @@ use Rattle.probes.proofs.salvrunde_probe_predict_chroma_tb_scratch.Reads as pro
 use Rattle.probes.proofs.salvrunde_probe_predict_luma_tb_scratch.Reads as probes-salvrunde-probe-predict-luma-tb-scratch
 use Rattle.probes.proofs.salvrunde_probe_compute_residual_i32_into.Reads as probes-salvrunde-probe-compute-residual-i32-into
 use Rattle.probes.proofs.salvrunde_probe_reconstruct_into.Reads as probes-salvrunde-probe-reconstruct-into
+use Rattle.probes.proofs.salvrunde_probe_walk.Reads as probes-salvrunde-probe-walk
+use Rattle.probes.proofs.salvrunde_probe_replay.Reads as probes-salvrunde-probe-replay
 use Rattle.walk.proofs.Progress.replay.Reads as walk-replay
 use Rattle.walk.proofs.Progress.walk.Reads as walk-walk
 
@@ -102,6 +115,25 @@ OnceLeft {A} {X} {S} lent post = (a : A) (x y : X) (s t : S) → post a x s → 
 -- contents that go by the answer's number
 by-number : {L : Type 0} (work kept : L) {n x y : ℕ} {l m : L} → x ≡ n → y ≡ n → l ≡ served x work kept → m ≡ served y work kept → (x ≡ y) × (l ≡ m)
 by-number work kept p q u v = (p ∙ sym q, u ∙ ap (λ (k : ℕ). served k work kept) (p ∙ sym q) ∙ sym v)
+
+-- bytes
+bytes-sample-once : Once (bytes-sample.Post tt)
+bytes-sample-once a x y s t p q = p ∙ sym q
+
+bytes-residual-once : Once (bytes-residual.Post tt)
+bytes-residual-once a x y s t p q = p ∙ sym q
+
+bytes-byte-0-once : Once (bytes-byte-0.Post tt)
+bytes-byte-0-once a x y s t p q = p ∙ sym q
+
+bytes-byte-1-once : Once (bytes-byte-1.Post tt)
+bytes-byte-1-once a x y s t p q = p ∙ sym q
+
+bytes-byte-2-once : Once (bytes-byte-2.Post tt)
+bytes-byte-2-once a x y s t p q = p ∙ sym q
+
+bytes-byte-3-once : Once (bytes-byte-3.Post tt)
+bytes-byte-3-once a x y s t p q = p ∙ sym q
 
 -- domain
 domain-depth-ok-once : Once (domain-depth-ok.Post tt)
@@ -210,9 +242,24 @@ refs-get-reference-samples-chroma-pair-once κs a x y s t p q = p ∙ sym q
 plan-check-plan-once : (κs : Lfts 1) → Once (plan-check-plan.Post κs)
 plan-check-plan-once κs a x y s t p q = p ∙ sym q
 
+plan-record-at-once : (κs : Lfts 1) → Once (plan-record-at.Post κs)
+plan-record-at-once κs a x y s t p q = p ∙ sym q
+
+plan-check-plan-bytes-once : (κs : Lfts 1) → Once (plan-check-plan-bytes.Post κs)
+plan-check-plan-bytes-once κs a x y s t p q = p ∙ sym q
+
 -- walk
 walk-fresh-once : Once (walk-fresh.Post tt)
 walk-fresh-once a x y s t p q = p ∙ sym q
+
+walk-geometry-once : Once (walk-geometry.Post tt)
+walk-geometry-once a x y s t p q = p ∙ sym q
+
+walk-opening-no-once : Once (walk-opening-no.Post tt)
+walk-opening-no-once a x y s t p q = p ∙ sym q
+
+walk-residual-ok-once : Once (walk-residual-ok.Post tt)
+walk-residual-ok-once a x y s t p q = p ∙ sym q
 
 -- probes
 probes-salvrunde-probe-depth-once : Once (probes-salvrunde-probe-depth.Post tt)
@@ -322,6 +369,12 @@ probes-salvrunde-probe-compute-residual-i32-into-once κs a x y s t p q = (p .0 
 
 probes-salvrunde-probe-reconstruct-into-once : (κs : Lfts 3) → OnceLeft (λ s. now (s .1 .1 .1 .1 .0)) (probes-salvrunde-probe-reconstruct-into.Post κs)
 probes-salvrunde-probe-reconstruct-into-once κs a x y s t p q = (p .0 ∙ sym (q .0), p .1 ∙ sym (q .1))
+
+probes-salvrunde-probe-walk-once : (κs : Lfts 7) → OnceLeft {L = World} (λ s. record { work = now (s .1 .1 .1 .1 .1 .1 .1 .0); residuals = now (s .1 .1 .1 .1 .1 .1 .1 .1 .0) }) (probes-salvrunde-probe-walk.Post κs)
+probes-salvrunde-probe-walk-once κs a x y s t p q = (p .0 ∙ sym (q .0), p .1 .0 ∙ sym (q .1 .0))
+
+probes-salvrunde-probe-replay-once : (κs : Lfts 6) → OnceLeft (λ s. now (s .1 .1 .1 .1 .1 .1 .1 .0)) (probes-salvrunde-probe-replay.Post κs)
+probes-salvrunde-probe-replay-once κs a x y s t p q = (p .0 ∙ sym (q .0), p .1 .0 ∙ sym (q .1 .0))
 
 -- walk
 walk-replay-once : (κs : Lfts 6) → OnceLeft (λ s. now (s .1 .1 .1 .1 .0)) (walk-replay.Post κs)

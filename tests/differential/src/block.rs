@@ -1,6 +1,7 @@
 //! A chroma block against the Rust's predict_chroma_tb_into, and a luma block against its parts: should_filter_refs,
-//! filter_luma_refs and the three predictors with edges filtered, put together here as H.265 8.4.4.2.1 does.
+//! filter_luma_refs and the three predictors with edges filtered, put together as H.265 8.4.4.2.1 does (assembled.rs).
 //! Outside document 01's domain the Rust is not asked: what is wanted there is the table's number and nothing written.
+use crate::assembled;
 use crate::host::Arg::{Lent, Number, Read};
 use crate::oracle::intra::{self, AngularScratch};
 use crate::random::Random;
@@ -34,30 +35,12 @@ impl Block {
     fn answer(&self, tables: bool, scratch: &mut AngularScratch) -> (u32, Vec<u16>) {
         let (no, mut pred) = (self.number(tables), self.pred.clone());
         if no == 0 && self.luma {
-            self.luma_into(&mut pred, scratch);
+            assembled::predict(self.mode, self.bits, (self.corner, &self.above, &self.left), self.n, &mut pred, scratch);
         } else if no == 0 {
             let (above, left, top) = (&self.above, &self.left, largest(self.bits) as i32);
             intra::predict_chroma_tb_into(self.mode, self.corner, above, left, self.n, top, &mut pred, scratch);
         }
         (no, pred)
-    }
-
-    fn luma_into(&self, pred: &mut [u16], scratch: &mut AngularScratch) {
-        let (n, mode) = (self.n, self.mode);
-        let (corner, above, left) = if intra::should_filter_refs(mode, n) {
-            let (c, a, l) = intra::filter_luma_refs(self.corner, &self.above, &self.left, n, self.bits);
-            (c, a.to_vec(), l.to_vec())
-        } else {
-            (self.corner, self.above.clone(), self.left.clone())
-        };
-        match mode {
-            0 => intra::predict_planar_into(&above, &left, n, pred),
-            1 => intra::predict_dc_into(&above, &left, n, true, pred),
-            _ => {
-                let top = largest(self.bits) as i32;
-                intra::predict_angular_into(corner, &above, &left, n, mode, true, top, pred, scratch);
-            }
-        }
     }
 
     fn any(luma: bool, n: usize, mode: u8, bits: u32, kinds: [u64; 2], random: &mut Random) -> Block {
