@@ -10,8 +10,10 @@
 --   refs::substitute_refs               substitute-refs       predict::predict_chroma_tb_slices    predict-chroma
 --   refs::get_reference_samples         luma-gather           predict::predict_luma_tb_slices      predict-luma
 --   refs::..samples_chroma_pair         chroma-gather         residual::compute_residual_i32_into  compute-residual
---                                                             residual::reconstruct_into           reconstruct
+--   scratch::predict_angular_into       struct-angular        residual::reconstruct_into           reconstruct
+--   scratch::predict_chroma_tb_into     struct-chroma         scratch::predict_luma_tb_into        struct-luma
 --
+-- The scratch's forms `.._fresh` have the numbers of those `.._into`.
 -- plan::check_plan, Progress::walk and Progress::replay, whose numbers carry a block, are in TableWalk; what a refused call gives back is in Refused.
 use mathlib.Core.Path.{_≡_, refl, ap, subst}
 use mathlib.Core.Bool.{Bool, true, false, cond, _&&_, _||_, true≢false, false≢true}
@@ -53,6 +55,7 @@ use Rattle.smooth.specs.Smoothing.{ruleDoor, filterNo, filterDoor}
 use Rattle.flat.specs.Flat.{flatNo}
 use Rattle.angular.specs.Door.{Lent, enough, angularNo}
 use Rattle.predict.specs.Door.{predictNo}
+use Rattle.scratch.specs.Lent.{withScratch}
 use Rattle.residual.specs.Residual.{inRange, allInRange, residualNo, reconstructNo}
 use Rattle.promises.specs.Exact.{_when_, _or_, Exact, Tells, exact-none, exact-row, exact-answer, all-of, at-most, less, same, fact}
 
@@ -251,6 +254,14 @@ unfolding flatNo
 predict-flat n above left pred =
     exact-row (size n) refl (λ e. exact-row (all-of (all-of (at-most 65 (length above)) (at-most 65 (length left))) (at-most (n * n) (length pred))) refl (λ e. exact-none))
 
+-- a test beside one that holds
+and-true : {b : Bool} {P : Type 0} → Tells b P → Tells (b && true) P
+and-true {b} {P} t = go b t
+  where
+    go : (b : Bool) → Tells b P → Tells (b && true) P
+    go true t = t
+    go false t = t
+
 module _ (bits n mode : ℕ) where
   short : (l : Lent) → Tells (enough n l) (Short n l)
   short l = scratch (all-of (all-of (at-most 65 (l .above)) (at-most 65 (l .left))) (at-most (n * n) (l .pred))) (l .refs) (l .indices) (l .fractions)
@@ -272,6 +283,26 @@ module _ (bits n mode : ℕ) where
       exact-row (depth bits) refl
       (λ e. exact-row (size n) refl
       (λ e. exact-row (at-most mode 34) refl (λ e. exact-row (scratch (at-most (n * n) pred) refs indices fractions) refl (λ e. exact-none))))
+
+  -- the scratch as a struct: its tables are long enough by their type
+  enough-lent : (above left pred : ℕ) → Tells (enough n (withScratch above left pred)) (above < 65 or left < 65 or pred < n * n)
+  enough-lent above left pred = and-true (and-true (and-true (all-of (all-of (at-most 65 above) (at-most 65 left)) (at-most (n * n) pred))))
+
+  pub struct-angular : (above left pred : ℕ)
+      → Exact (angularNo bits n mode (withScratch above left pred)) ((1 when ¬ Depth bits) ∷ (2 when ¬ Size n) ∷ (3 when mode < 2 or 34 < mode) ∷ (5 when above < 65 or left < 65 or pred < n * n) ∷ [])
+  struct-angular above left pred =
+      exact-row (depth bits) refl
+      (λ e. exact-row (size n) refl (λ e. exact-row (all-of (at-most 2 mode) (at-most mode 34)) refl (λ e. exact-row (enough-lent above left pred) refl (λ e. exact-none))))
+
+  pub struct-chroma : (above left pred : ℕ)
+      → Exact (predictNo bits n mode (withScratch above left pred)) ((1 when ¬ Depth bits) ∷ (2 when ¬ Size n) ∷ (3 when 34 < mode) ∷ (5 when above < 65 or left < 65 or pred < n * n) ∷ [])
+  struct-chroma above left pred =
+      exact-row (depth bits) refl (λ e. exact-row (size n) refl (λ e. exact-row (at-most mode 34) refl (λ e. exact-row (enough-lent above left pred) refl (λ e. exact-none))))
+
+  pub struct-luma : (pred : ℕ) → Exact (predictNo bits n mode (withScratch 65 65 pred)) ((1 when ¬ Depth bits) ∷ (2 when ¬ Size n) ∷ (3 when 34 < mode) ∷ (5 when pred < n * n) ∷ [])
+  struct-luma pred =
+      exact-row (depth bits) refl
+      (λ e. exact-row (size n) refl (λ e. exact-row (at-most mode 34) refl (λ e. exact-row (and-true (and-true (and-true (at-most (n * n) pred)))) refl (λ e. exact-none))))
 
 -- residual
 buffers : (n a b c : ℕ) → Tells (leb (n * n) a && leb (n * n) b && leb (n * n) c) (a < n * n or b < n * n or c < n * n)
