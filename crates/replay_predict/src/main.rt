@@ -1,5 +1,5 @@
-// Replays the Rust's answers on the doors of smoothing, prediction and residuals: the list is standard input, the file stdin,
-// and what is printed is tested against the file stdout. Rests on the doors' contracts for its safety.
+// Replays the Rust's answers on the doors of smoothing, prediction, residuals and whole blocks: the list is standard input, the
+// file stdin, and what is printed is tested against the file stdout. Rests on the doors' contracts for its safety.
 //
 // The list is made by `tests/differential/run list`. A line is 43 words of eight hex digits: the kind of the call, its side,
 // mode, edge and depth, the seed and the largest of its samples, the entries of the row on the left, the place of the window,
@@ -12,6 +12,7 @@
 ghost use Prim.Native.Nat.{_+_, _≤_, _<_};
 ghost use lib.ListN.{length};
 ghost use mathlib.Core.Path.{_≡_};
+use rows::Rows;
 
 fn digit(b: u8) -> u32
     ensures { λ r. ⌜ r < 16 ⌝ }
@@ -267,7 +268,55 @@ fn rebuilt_same(line: &[u8], call: Call) -> bool
     (first == call.value) & (no == call.no) & same(line, &out, call.place)
 }
 
-// Whether a door gives what the line has. Kinds 1 to 8; others never do.
+fn chroma_block_same(line: &[u8], call: Call, above: &[u16], left: &[u16]) -> bool
+    requires { ⌜ 387 ≤ length (now line) ⌝ }
+{
+    let mut pred = [4660u16; 1024];
+    let mut refs = [4660u16; 193];
+    let mut indices = [4660u32; 32];
+    let mut fractions = [4660u32; 32];
+    let no = predict::predict_chroma_tb_slices(
+        call.mode,
+        sample(call.seed, call.top),
+        above,
+        left,
+        call.n,
+        call.bits,
+        &mut pred,
+        &mut refs,
+        &mut indices,
+        &mut fractions,
+    );
+    (no == call.no) & same(line, &pred, call.place)
+}
+
+// A luma block's rows are whole by their type.
+fn luma_block_same(line: &[u8], call: Call) -> bool
+    requires { ⌜ 387 ≤ length (now line) ⌝ }
+{
+    let rows = Rows {
+        corner: sample(call.seed, call.top),
+        above: row_of(call.seed, call.top),
+        left: row_of(other(call.seed), call.top),
+    };
+    let mut pred = [4660u16; 1024];
+    let mut refs = [4660u16; 193];
+    let mut indices = [4660u32; 32];
+    let mut fractions = [4660u32; 32];
+    let no = predict::predict_luma_tb_slices(
+        call.mode,
+        rows,
+        call.n,
+        call.bits,
+        &mut pred,
+        &mut refs,
+        &mut indices,
+        &mut fractions,
+    );
+    (no == call.no) & same(line, &pred, call.place)
+}
+
+// Whether a door gives what the line has. Kinds 1 to 10; others never do.
 fn agrees(line: &[u8], kind: u32) -> bool
     requires { ⌜ 387 ≤ length (now line) ⌝ }
 {
@@ -284,6 +333,8 @@ fn agrees(line: &[u8], kind: u32) -> bool
         6 => angular_same(line, call, &above, left),
         7 => residual_same(line, call),
         8 => rebuilt_same(line, call),
+        9 => chroma_block_same(line, call, &above, left),
+        10 => luma_block_same(line, call),
         _ => false,
     }
 }
