@@ -29,6 +29,7 @@ use Rattle.domain.proofs.mode_ok.Reads as domain-mode-ok
 use Rattle.domain.proofs.side_ok.Reads as domain-side-ok
 use Rattle.domain.proofs.ctu_ok.Reads as domain-ctu-ok
 use Rattle.domain.proofs.unit_ok.Reads as domain-unit-ok
+use Rattle.listing.proofs.word.Reads as listing-word
 use Rattle.fmt.proofs.BitDepth.from_bits.Reads as fmt-from-bits
 use Rattle.fmt.proofs.BitDepth.bits.Reads as fmt-bits
 use Rattle.fmt.proofs.BitDepth.max_val.Reads as fmt-max-val
@@ -153,6 +154,10 @@ domain-ctu-ok-once a x y s t p q = p ∙ sym q
 
 domain-unit-ok-once : Once (domain-unit-ok.Post tt)
 domain-unit-ok-once a x y s t p q = p ∙ sym q
+
+-- listing
+listing-word-once : (κs : Lfts 1) → Once (listing-word.Post κs)
+listing-word-once κs a x y s t p q = p ∙ sym q
 
 -- fmt
 fmt-from-bits-once : Once (fmt-from-bits.Post tt)
