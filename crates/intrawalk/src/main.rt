@@ -1,0 +1,3 @@
+// intrawalk: reads an input, prints what report makes of it.
+fn main() {
+}
