@@ -1,3 +1,2 @@
 // intrawalk: reads an input, prints what report makes of it.
-fn main() {
-}
+fn main() {}

@@ -55,7 +55,7 @@ laid-more at s t d h =
     let n = at + length s in
     let a : take n (take at d ++ s ++ drop n d) ≡ take at d ++ s = take-at (take at d ++ s) (drop n d) n front in
     let b : drop (n + length t) (take at d ++ s ++ drop n d) ≡ drop (n + length t) d =
-        ap (λ (k : ℕ). drop (k + length t) (take at d ++ s ++ drop n d)) (sym front) ∙ drop-append-add (take at d ++ s) (drop n d) (length t) ∙ drop-drop (length t) n d in
+    ap (λ (k : ℕ). drop (k + length t) (take at d ++ s ++ drop n d)) (sym front) ∙ drop-append-add (take at d ++ s) (drop n d) (length t) ∙ drop-drop (length t) n d in
     let c : n + length t ≡ at + length (s ++ t) = omega (arith, length-append s t) in
     ap₂ (λ (x y : List ℕ). x ++ t ++ y) a b ∙ ap (λ (k : ℕ). take at d ++ s ++ t ++ drop k d) c ∙ ap (λ (x : List ℕ). x ++ drop (at + length (s ++ t)) d) (append-assoc (take at d) s t)
 
@@ -184,7 +184,7 @@ module _ (plan : Plan) (v : List ℤ) (ok : Listed plan (length v)) (k at : ℕ)
       → Laid p (line b sum) x y r 105 → 105 * k ≤ length d → Laid 0 (lines (plan .block) v (k + 1)) d y r (105 * (k + 1))
   next-line {p} {r} {sum} {d} {x} {y} before s this h =
       let t : line b sum ≡ line (plan .block k) (absolutes v (place (plan .block) k) (plan .block k .side * plan .block k .side)) =
-          ap (line b) (s ∙ ap (λ (i : ℕ). absolutes v i (b .side * b .side)) e) ∙ ap (λ (u : Block). line u (absolutes v (place (plan .block) k) (u .side * u .side))) q in
+      ap (line b) (s ∙ ap (λ (i : ℕ). absolutes v i (b .side * b .side)) e) ∙ ap (λ (u : Block). line u (absolutes v (place (plan .block) k) (u .side * u .side))) q in
       said _ _ (then before this (omega arith)) (ap (λ (u : List ℕ). lines (plan .block) v k ++ u) t ∙ lines-more (plan .block) v k) (omega arith)
 
 -- planes that agree so far

@@ -4,5 +4,6 @@ pub mod File
 pub mod Text
 -- Told: what the program prints.
 pub mod Told
--- Laws: what joins the functions.
+-- Laws: what joins the functions that read and lay. Whole: what joins them with walk and replay.
 pub mod Laws
+pub mod Whole

@@ -12,7 +12,7 @@ use Rattle.walk.specs.declared.Still.{Still}
 use Rattle.walk.specs.declared.Progress.{Progress}
 use Rattle.walk.specs.Block.{World}
 use Rattle.walk.specs.Door.{Tables, walkVerdict, walkAfter, replayAfter}
-use Rattle.report.specs.declared.Report.{Report}
+use Rattle.report.specs.declared.Printout.{Printout}
 use Rattle.report.specs.File.{trailerOf, fileOk, stillOf, sourceOf, recordsOf}
 use Rattle.report.specs.Text.{number, laid}
 
@@ -91,5 +91,5 @@ unfoldable pub printed : List ℕ → List ℕ
 printed b = cond (fileOk b) (told (jobOf b)) (refusal 12 0)
 
 -- the text in its buffer, and its length
-abbrev pub reportOf : List ℕ → Report
+abbrev pub reportOf : List ℕ → Printout
 reportOf b = record { text = laid 0 (printed b) (replicate 65536 0); length = length (printed b) }

@@ -5,15 +5,16 @@ ghost use mathlib.Core.List.{[], _∷_, _++_};
 ghost use Prim.Native.Nat.{ℕ, _+_, _-_, _*_, _≤_, _<_};
 ghost use lib.ListN.{getD, replicate};
 ghost use lib.ListN.{length as count};
-ghost use lib.IntN.{natAbs};
+ghost use lib.IntN.{pos, natAbs};
 ghost use Rattle.laws.specs.Fill.{fill};
 ghost use Rattle.laws.specs.Bytes.{leAt};
 ghost use Rattle.report.specs.File.{trailerOf, area, regionsOk, fileOk, stillOf, recordAt};
 ghost use Rattle.report.specs.Text.{number, laid};
 ghost use Rattle.plan.specs.Plan.{planOf};
 ghost use Rattle.walk.specs.Door.{replayAfter};
-ghost use Rattle.report.specs.Told.{tables, fresh, agree, line, lines, absolutes, refusal, ending, reportOf};
+ghost use Rattle.report.specs.Told.{tables, fresh, agree, line, lines, absolutes, refusal, ending, told, jobOf, printed, reportOf};
 ghost use Rattle.report.specs.Laws.{Laid, Listed, Walked};
+ghost use Rattle.report.specs.Whole.{Blank, Held};
 use plan::Block;
 use plan::Frame;
 use walk::Progress;
@@ -21,7 +22,7 @@ use walk::Stepped;
 use walk::Still;
 
 // The text and how many bytes it has.
-pub struct Report {
+pub struct Printout {
     pub text: [u8; 65536],
     pub length: usize,
 }
@@ -93,7 +94,9 @@ fn regions_ok(t: Trailer, start: usize) -> bool
 {
     let samples = area_of(t);
     let blocks = t.blocks as usize;
-    (samples <= 8192) & (blocks <= 512) & ((t.samples as usize) + 2 * samples <= start)
+    (samples <= 8192)
+        & (blocks <= 512)
+        & ((t.samples as usize) + 2 * samples <= start)
         & ((t.plan as usize) + 6 * blocks <= start)
 }
 
@@ -108,6 +111,25 @@ fn file_ok(b: &[u8]) -> bool
         return false;
     }
     regions_ok(trailer_of(b), b.len() - 16)
+}
+
+// Room for a plane, for a picture's residuals and for the text, each of zeros.
+fn blank_plane() -> [u16; 8192]
+    ensures { λ r. ⌜ r ≡ replicate 8192 0 ⌝ }
+{
+    [0; 8192]
+}
+
+fn blank_residuals() -> [i32; 8192]
+    ensures { λ r. ⌜ r ≡ replicate 8192 (pos 0) ⌝ }
+{
+    [0; 8192]
+}
+
+fn blank_text() -> [u8; 65536]
+    ensures { λ r. ⌜ (r ≡ replicate 65536 0) × (count r ≡ 65536) ⌝ }
+{
+    [0; 65536]
 }
 
 // So many samples from `at` on.
@@ -320,4 +342,85 @@ fn replay_all(still: Still, plan: &[[u32; 4]], residuals: &[i32], plane: &mut [u
         &mut fractions,
         plan.len() as u32,
     );
+}
+
+// The text of a still with its plan and its source; the other slices are lent for the work.
+fn tell(
+    out: &mut [u8],
+    still: Still,
+    plan: &[[u32; 4]],
+    source: &[u16],
+    work: &mut [u16],
+    residuals: &mut [i32],
+    plane: &mut [u16],
+) -> usize
+    requires { ⌜ Blank still (count (now plan)) (record { work = now work; residuals = now residuals }) (now plane) (count (now out)) ⌝ }
+    ensures { λ r. ⌜ Laid 0 (told (record { still = still; plan = planOf (now (plan .entry)); source = now (source .entry) })) (now (out .entry)) (now (out .exit)) r 65536 ⌝ }
+{
+    let walked = walk_all(still, plan, source, &mut *work, &mut *residuals);
+    if walked.no != 0 {
+        return lay_refusal(&mut *out, walked.no, walked.block);
+    }
+    replay_all(still, plan, residuals, &mut *plane);
+    let same = agrees(plane, source);
+    let lines = lay_lines(&mut *out, plan, residuals);
+    lay_ending(&mut *out, lines, plan.len(), same)
+}
+
+fn still_of(t: Trailer) -> Still
+    ensures { λ r. ⌜ r ≡ stillOf t ⌝ }
+{
+    let frame = Frame {
+        width: t.width as u32,
+        height: t.height as u32,
+        ctu: t.ctu as u32,
+    };
+    Still {
+        bits: t.bits as u32,
+        frame,
+    }
+}
+
+// The text of a file that number 12 is not given for.
+fn tell_file(out: &mut [u8], b: &[u8], t: Trailer) -> usize
+    requires { ⌜ Held (now b) t × (65536 ≤ count (now out)) ⌝ }
+    ensures { λ r. ⌜ Laid 0 (told (jobOf (now (b .entry)))) (now (out .entry)) (now (out .exit)) r 65536 ⌝ }
+{
+    let samples = area_of(t);
+    let blocks = t.blocks as usize;
+    let source = read_samples(b, t.samples as usize, samples);
+    let plan = read_plan(b, t.plan as usize, blocks);
+    let mut work = blank_plane();
+    let mut residuals = blank_residuals();
+    let mut plane = blank_plane();
+    tell(
+        &mut *out,
+        still_of(t),
+        &plan[..blocks],
+        &source[..samples],
+        &mut work[..samples],
+        &mut residuals[..samples],
+        &mut plane[..samples],
+    )
+}
+
+// A text of its own for a file, or its refusal.
+fn lay_report(out: &mut [u8], input: &[u8]) -> usize
+    requires { ⌜ 65536 ≤ count (now out) ⌝ }
+    ensures { λ r. ⌜ Laid 0 (printed (now (input .entry))) (now (out .entry)) (now (out .exit)) r 65536 ⌝ }
+{
+    if !file_ok(input) {
+        return lay_refusal(&mut *out, 12, 0);
+    }
+    let t = trailer_of(input);
+    tell_file(&mut *out, input, t)
+}
+
+// What intrawalk prints of its whole input.
+pub fn report(input: &[u8]) -> Printout
+    ensures { λ r. ⌜ r ≡ reportOf (now (input .entry)) ⌝ }
+{
+    let mut text = blank_text();
+    let length = lay_report(&mut text, input);
+    Printout { text, length }
 }
