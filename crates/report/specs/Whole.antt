@@ -6,7 +6,7 @@ use Prim.Native.Nat.{ℕ, zero, suc, _+_, _-_, _*_, _≤_, _<_}
 use native.Mathlib.Omega.{arith}
 use lib.Dec.{leb, eqb}
 use lib.IntN.{ℤ, pos}
-use lib.ListN.{length, take, replicate, length-replicate}
+use lib.ListN.{length, take, drop, replicate, length-append, length-replicate}
 use lib.Seq.{length-take-le}
 use borrow.Author.Tests.{leb-true, eqb-true, eqb-false, eq-eqb, ne-eqb}
 use Rattle.laws.specs.Fill.{fill}
@@ -25,6 +25,7 @@ use Rattle.walk.specs.Door.{steppedBy, walkVerdict, walkAfter, replayAfter}
 use Rattle.walk.specs.Ready.{Sound}
 use Rattle.walk.specs.Laws.{walk-sound}
 use Rattle.report.specs.declared.Trailer.{Trailer}
+use Rattle.report.specs.declared.Printout.{Printout}
 use Rattle.report.specs.File.{trailerOf, area, regionsOk, fileOk, stillOf, sourceOf, recordAt, recordsOf}
 use Rattle.report.specs.Told.{Job, jobOf, tables, fresh, zeros, blank, verdict, residuals, replayed, agree, lines, refusal, ending, told, printed, reportOf}
 use Rattle.report.specs.Text.{laid}
@@ -171,3 +172,11 @@ report-is b s d e upto room h q p =
     let x : e ≡ laid 0 (printed b) (replicate 65536 0) = h .over ∙ ap₂ (λ (u v : List ℕ). laid 0 u v) q p in
     let y : upto ≡ length (printed b) = omega (arith, h .ends, ap length q) in
     λ i. record { text = x i; length = y i }
+
+-- the text is within its buffer
+laid-long : (s d : List ℕ) → length s ≤ length (laid 0 s d)
+unfolding laid
+laid-long s d = omega (arith, length-append (take 0 d ++ s) (drop (0 + length s) d), length-append (take 0 d) s)
+
+pub text-fits : (b : List ℕ) {p : Printout} → p ≡ reportOf b → p .length ≤ length (p .text)
+text-fits b e = subst (λ (q : Printout). q .length ≤ length (q .text)) (sym e) (laid-long (printed b) _)
