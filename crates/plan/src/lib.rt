@@ -1,5 +1,5 @@
 // Plans: which blocks, in which order, cover a still (document 01, 'Plan, walk, replay').
-// Rests on the decode order's definitions and on the domain's tests.
+// Rests on the decode order's definitions, on the domain's tests and on what bytes spell.
 ghost use mathlib.Core.Path.{_≡_};
 ghost use Prim.Native.Nat.{ℕ, min, _+_, _-_, _*_, _/_, _%_, _^_, _≤_, _<_};
 ghost use mathlib.Core.Bool.{_&&_};
@@ -10,6 +10,7 @@ ghost use Rattle.domain.specs.Facts.{Size, Ctu};
 ghost use Rattle.order.specs.Order.{pictureOk};
 ghost use Rattle.order.specs.Good.{Good};
 ghost use Rattle.plan.specs.Plan.{pictureOf, planOf, In};
+ghost use Rattle.plan.specs.Records.{recordAt, recordsOf, bytesVerdict};
 ghost use Rattle.plan.specs.Check.{aheadBy, ahead, placedOk, blockNo, blocksVerdict, planVerdict};
 
 // A still's luma sides and its CTU; its least unit is 4.
@@ -194,4 +195,62 @@ pub fn check_plan(frame: Frame, plan: &[[u32; 4]]) -> Verdict
         return Verdict { no: 4, block: 0 };
     }
     check_blocks(frame, plan)
+}
+
+// Block i of a plan of bytes; zeros where there is none.
+pub fn record_at(plan: &[u8], i: usize) -> Block
+    ensures { λ r. ⌜ r ≡ recordAt (now (plan .entry)) i ⌝ }
+{
+    if i >= plan.len() / 6 {
+        return Block {
+            row: 0,
+            col: 0,
+            side: 0,
+            mode: 0,
+        };
+    }
+    let at = 6 * i;
+    Block {
+        row: bytes::sample(plan[at], plan[at + 1]) as u32,
+        col: bytes::sample(plan[at + 2], plan[at + 3]) as u32,
+        side: plan[at + 4] as u32,
+        mode: plan[at + 5] as u32,
+    }
+}
+
+// The verdict on a good picture's records.
+fn check_records(f: Frame, plan: &[u8]) -> Verdict
+    requires { ⌜ Good (pictureOf f) ⌝ }
+    ensures { λ r. ⌜ r ≡ blocksVerdict f (recordsOf (now (plan .entry))) ⌝ }
+{
+    let area = (f.height as usize) * (f.width as usize);
+    let count = plan.len() / 6;
+    let mut covered: usize = 0;
+    let mut i: usize = 0;
+    while i < count {
+        let b = record_at(plan, i);
+        let no = block_no(f, b, covered);
+        if no != 0 {
+            let block = i as u32;
+            return Verdict { no, block };
+        }
+        let n = b.side as usize;
+        covered += n * n;
+        i += 1;
+    }
+    let no = if covered == area { 0 } else { 10 };
+    Verdict { no, block: 0 }
+}
+
+// The plan check on bytes: also that they are whole records.
+pub fn check_plan_bytes(frame: Frame, plan: &[u8]) -> Verdict
+    ensures { λ r. ⌜ r ≡ bytesVerdict frame (now (plan .entry)) ⌝ }
+{
+    if !picture_ok(frame) {
+        return Verdict { no: 4, block: 0 };
+    }
+    if plan.len() % 6 != 0 {
+        return Verdict { no: 5, block: 0 };
+    }
+    check_records(frame, plan)
 }

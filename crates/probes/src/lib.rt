@@ -20,7 +20,11 @@ ghost use Rattle.h265.specs.Prediction.{predSamples};
 ghost use Rattle.rows.specs.Neighbours.{neighboursOf};
 ghost use Rattle.predict.specs.Door.{predictNo};
 ghost use Rattle.predict.specs.Contents.{chromaAt};
+ghost use Rattle.scratch.specs.Lent.{withScratch};
 ghost use Rattle.probes.specs.Probes.{pictureOf, substituteAnswer, gatherAnswer, pairAnswer, planAnswer};
+ghost use Rattle.plan.specs.Plan.{planOf};
+ghost use Rattle.walk.specs.Door.{steppedBy, walkVerdict, walkAfter, replayVerdict, replayAfter};
+ghost use Rattle.probes.specs.Probes.{stillOf, stepOf};
 use fmt::BitDepth;
 use fmt::ChromaCol;
 use fmt::ChromaFormat;
@@ -36,6 +40,8 @@ use refs::ChromaRefGeometry;
 use refs::Flags;
 use refs::LumaRefGeometry;
 use rows::Rows;
+use walk::Progress;
+use walk::Still;
 
 // A depth's figures, all 0 where the call is refused.
 #[repr(C)]
@@ -556,6 +562,67 @@ pub extern "C" fn salvrunde_probe_predict_luma_tb_slices(
     )
 }
 
+// The same three through the struct of the scratch's tables, which each makes for itself.
+#[no_mangle]
+pub extern "C" fn salvrunde_probe_predict_angular_scratch(
+    corner: u16,
+    above: &[u16],
+    left: &[u16],
+    n: usize,
+    mode: u8,
+    filter_boundary: bool,
+    bits: u32,
+    pred: &mut [u16],
+) -> u32
+    ensures { λ r. ⌜ (r ≡ angularNo bits n mode (withScratch (length (now (above .entry))) (length (now (left .entry))) (length (now (pred .entry))))) × (now (pred .exit) ≡ served r (block (λ (y x : ℕ). angular bits «filter_boundary» n mode (fromRows corner (now (above .entry)) (now (left .entry))) x y) n (now (pred .entry))) (now (pred .entry))) ⌝ }
+{
+    scratch::predict_angular_fresh(
+        corner,
+        above,
+        left,
+        n,
+        mode,
+        filter_boundary,
+        bits,
+        &mut *pred,
+    )
+}
+
+#[no_mangle]
+pub extern "C" fn salvrunde_probe_predict_chroma_tb_scratch(
+    mode: u8,
+    corner: u16,
+    above: &[u16],
+    left: &[u16],
+    n: usize,
+    bits: u32,
+    pred: &mut [u16],
+) -> u32
+    ensures { λ r. ⌜ (r ≡ predictNo bits n mode (withScratch (length (now (above .entry))) (length (now (left .entry))) (length (now (pred .entry))))) × (now (pred .exit) ≡ served r (block (λ (y x : ℕ). predSamples (chromaAt bits) (first true) n mode (fromRows corner (now (above .entry)) (now (left .entry))) x y) n (now (pred .entry))) (now (pred .entry))) ⌝ }
+{
+    scratch::predict_chroma_tb_fresh(mode, corner, above, left, n, bits, &mut *pred)
+}
+
+#[no_mangle]
+pub extern "C" fn salvrunde_probe_predict_luma_tb_scratch(
+    mode: u8,
+    corner: u16,
+    above: &[u16; 65],
+    left: &[u16; 65],
+    n: usize,
+    bits: u32,
+    pred: &mut [u16],
+) -> u32
+    ensures { λ r. ⌜ (r ≡ predictNo bits n mode (withScratch 65 65 (length (now (pred .entry))))) × (now (pred .exit) ≡ served r (block (λ (y x : ℕ). predSamples (lumaAt bits) (first true) n mode (neighboursOf (record { corner = corner; above = now (above .entry); left = now (left .entry) })) x y) n (now (pred .entry))) (now (pred .entry))) ⌝ }
+{
+    let rows = Rows {
+        corner,
+        above: *above,
+        left: *left,
+    };
+    scratch::predict_luma_tb_fresh(mode, rows, n, bits, &mut *pred)
+}
+
 // A plan's number, and the list number of the block that it is about.
 #[repr(C)]
 pub struct PlanAnswer {
@@ -576,5 +643,90 @@ pub extern "C" fn salvrunde_probe_check_plan(
     PlanAnswer {
         no: a.no,
         block: a.block,
+    }
+}
+
+// What a call of walk or replay gives: its number and the block that it is about, how many blocks it did, and how many are done.
+#[repr(C)]
+pub struct StepAnswer {
+    pub no: u32,
+    pub block: u32,
+    pub did: u32,
+    pub done: u32,
+}
+
+#[no_mangle]
+pub extern "C" fn salvrunde_probe_walk(
+    done: u32,
+    bits: u32,
+    width: u32,
+    height: u32,
+    ctu: u32,
+    plan: &[[u32; 4]],
+    source: &[u16],
+    work: &mut [u16],
+    residuals: &mut [i32],
+    refs: &mut [u16],
+    indices: &mut [u32],
+    fractions: &mut [u32],
+    grant: u32,
+) -> StepAnswer
+    ensures { λ r. ⌜ (r ≡ stepOf (steppedBy (walkVerdict (stillOf bits width height ctu) (planOf (now (plan .entry))) (record { refs = length (now (refs .entry)); indices = length (now (indices .entry)); fractions = length (now (fractions .entry)) }) (record { done = done }) (now (source .entry)) (record { work = now (work .entry); residuals = now (residuals .entry) })) (planOf (now (plan .entry))) (record { done = done }) grant)) × ((record { work = now (work .exit); residuals = now (residuals .exit) } ≡ walkAfter (stillOf bits width height ctu) (planOf (now (plan .entry))) (record { refs = length (now (refs .entry)); indices = length (now (indices .entry)); fractions = length (now (fractions .entry)) }) (record { done = done }) grant (now (source .entry)) (record { work = now (work .entry); residuals = now (residuals .entry) })) × ((r .no ≡ 0 → ⊥) → (now (refs .exit) ≡ now (refs .entry)) × ((now (indices .exit) ≡ now (indices .entry)) × (now (fractions .exit) ≡ now (fractions .entry))))) ⌝ }
+{
+    let frame = Frame { width, height, ctu };
+    let p = Progress { done };
+    let a = p.walk(
+        Still { bits, frame },
+        plan,
+        source,
+        &mut *work,
+        &mut *residuals,
+        &mut *refs,
+        &mut *indices,
+        &mut *fractions,
+        grant,
+    );
+    StepAnswer {
+        no: a.no,
+        block: a.block,
+        did: a.did,
+        done: a.next.done,
+    }
+}
+
+#[no_mangle]
+pub extern "C" fn salvrunde_probe_replay(
+    done: u32,
+    bits: u32,
+    width: u32,
+    height: u32,
+    ctu: u32,
+    plan: &[[u32; 4]],
+    residuals: &[i32],
+    plane: &mut [u16],
+    refs: &mut [u16],
+    indices: &mut [u32],
+    fractions: &mut [u32],
+    grant: u32,
+) -> StepAnswer
+    ensures { λ r. ⌜ (r ≡ stepOf (steppedBy (replayVerdict (stillOf bits width height ctu) (planOf (now (plan .entry))) (record { refs = length (now (refs .entry)); indices = length (now (indices .entry)); fractions = length (now (fractions .entry)) }) (record { done = done }) (length (now (plane .entry))) (now (residuals .entry))) (planOf (now (plan .entry))) (record { done = done }) grant)) × ((now (plane .exit) ≡ replayAfter (stillOf bits width height ctu) (planOf (now (plan .entry))) (record { refs = length (now (refs .entry)); indices = length (now (indices .entry)); fractions = length (now (fractions .entry)) }) (record { done = done }) grant (now (residuals .entry)) (now (plane .entry))) × ((r .no ≡ 0 → ⊥) → (now (refs .exit) ≡ now (refs .entry)) × ((now (indices .exit) ≡ now (indices .entry)) × (now (fractions .exit) ≡ now (fractions .entry))))) ⌝ }
+{
+    let frame = Frame { width, height, ctu };
+    let p = Progress { done };
+    let a = p.replay(
+        Still { bits, frame },
+        plan,
+        residuals,
+        &mut *plane,
+        &mut *refs,
+        &mut *indices,
+        &mut *fractions,
+        grant,
+    );
+    StepAnswer {
+        no: a.no,
+        block: a.block,
+        did: a.did,
+        done: a.next.done,
     }
 }

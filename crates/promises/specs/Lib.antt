@@ -12,3 +12,12 @@ pub mod Range
 pub mod Spots
 -- OneAnswer: at most one answer meets the contract of each public function.
 pub mod OneAnswer
+-- Exact: rows of document 01's table, and what it means that a number is given exactly when its row says.
+pub mod Exact
+-- Table: document 01's table of numbers at each door. TableWalk: the same for the plan check, walk and replay.
+pub mod Table
+pub mod TableWalk
+-- Refused: what a refused call gives back, and that it leaves what is lent untouched.
+pub mod Refused
+-- Program: intrawalk prints a refusal, or all blocks and `same`.
+pub mod Program

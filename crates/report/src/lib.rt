@@ -38,18 +38,12 @@ struct Trailer {
     ctu: u8,
 }
 
-fn wide(x: u8) -> u16
-    ensures { λ r. ⌜ (r ≡ x) × (r < 256) ⌝ }
-{
-    x as u16
-}
-
 // Two bytes, the lowest first.
 fn two_at(b: &[u8], i: usize) -> u16
     requires { ⌜ i + 2 ≤ count (now b) ⌝ }
     ensures { λ r. ⌜ r ≡ leAt 2 (now (b .entry)) i ⌝ }
 {
-    wide(b[i]) + 256 * wide(b[i + 1])
+    bytes::sample(b[i], b[i + 1])
 }
 
 // Four bytes, the lowest first.
@@ -146,6 +140,12 @@ fn read_samples(b: &[u8], at: usize, many: usize) -> [u16; 8192]
     source
 }
 
+fn wide(x: u8) -> u32
+    ensures { λ r. ⌜ r ≡ x ⌝ }
+{
+    x as u32
+}
+
 // A block record.
 fn record_at(b: &[u8], at: usize) -> [u32; 4]
     requires { ⌜ at + 6 ≤ count (now b) ⌝ }
@@ -153,8 +153,8 @@ fn record_at(b: &[u8], at: usize) -> [u32; 4]
 {
     let row = two_at(b, at) as u32;
     let col = two_at(b, at + 2) as u32;
-    let side = wide(b[at + 4]) as u32;
-    let mode = wide(b[at + 5]) as u32;
+    let side = wide(b[at + 4]);
+    let mode = wide(b[at + 5]);
     [row, col, side, mode]
 }
 

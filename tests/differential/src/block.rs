@@ -1,6 +1,7 @@
 //! A chroma block against the Rust's predict_chroma_tb_into, and a luma block against its parts: should_filter_refs,
-//! filter_luma_refs and the three predictors with edges filtered, put together here as H.265 8.4.4.2.1 does.
+//! filter_luma_refs and the three predictors with edges filtered, put together as H.265 8.4.4.2.1 does (assembled.rs).
 //! Outside document 01's domain the Rust is not asked: what is wanted there is the table's number and nothing written.
+use crate::assembled;
 use crate::host::Arg::{Lent, Number, Read};
 use crate::oracle::intra::{self, AngularScratch};
 use crate::random::Random;
@@ -25,41 +26,21 @@ struct Block {
 }
 
 impl Block {
-    fn number(&self) -> u32 {
-        let lent = table::rows(self.above.len(), self.left.len())
-            && table::block(self.n, self.pred.len())
-            && table::scratch(self.refs, self.indices, self.fractions);
+    fn number(&self, tables: bool) -> u32 {
+        let lent = table::rows(self.above.len(), self.left.len()) && table::block(self.n, self.pred.len()) && tables;
         table::first(&[(1, table::depth(self.bits)), (2, table::size(self.n)), (3, table::mode(self.mode)), (5, lent)])
     }
 
-    /// The number, and the block's buffer afterwards.
-    fn answer(&self, scratch: &mut AngularScratch) -> (u32, Vec<u16>) {
-        let (no, mut pred) = (self.number(), self.pred.clone());
+    /// The number, and the block's buffer afterwards, with tables that are long enough or not.
+    fn answer(&self, tables: bool, scratch: &mut AngularScratch) -> (u32, Vec<u16>) {
+        let (no, mut pred) = (self.number(tables), self.pred.clone());
         if no == 0 && self.luma {
-            self.luma_into(&mut pred, scratch);
+            assembled::predict(self.mode, self.bits, (self.corner, &self.above, &self.left), self.n, &mut pred, scratch);
         } else if no == 0 {
             let (above, left, top) = (&self.above, &self.left, largest(self.bits) as i32);
             intra::predict_chroma_tb_into(self.mode, self.corner, above, left, self.n, top, &mut pred, scratch);
         }
         (no, pred)
-    }
-
-    fn luma_into(&self, pred: &mut [u16], scratch: &mut AngularScratch) {
-        let (n, mode) = (self.n, self.mode);
-        let (corner, above, left) = if intra::should_filter_refs(mode, n) {
-            let (c, a, l) = intra::filter_luma_refs(self.corner, &self.above, &self.left, n, self.bits);
-            (c, a.to_vec(), l.to_vec())
-        } else {
-            (self.corner, self.above.clone(), self.left.clone())
-        };
-        match mode {
-            0 => intra::predict_planar_into(&above, &left, n, pred),
-            1 => intra::predict_dc_into(&above, &left, n, true, pred),
-            _ => {
-                let top = largest(self.bits) as i32;
-                intra::predict_angular_into(corner, &above, &left, n, mode, true, top, pred, scratch);
-            }
-        }
     }
 
     fn any(luma: bool, n: usize, mode: u8, bits: u32, kinds: [u64; 2], random: &mut Random) -> Block {
@@ -85,7 +66,7 @@ impl Block {
 }
 
 fn ask(t: &mut Tally, call: &Block, scratch: &mut AngularScratch, random: &mut Random) {
-    let (no, after) = call.answer(scratch);
+    let (no, after) = call.answer(table::scratch(call.refs, call.indices, call.fractions), scratch);
     let (up, side, pred) = (bytes(&call.above), bytes(&call.left), bytes(&call.pred));
     let refs = bytes(&dirt(call.refs, random));
     let [indices, fractions] = [call.indices, call.fractions].map(|k| bytes_32(&dirt_32(k, random)));
@@ -99,11 +80,12 @@ fn ask(t: &mut Tally, call: &Block, scratch: &mut AngularScratch, random: &mut R
     if !call.luma {
         args.push(Number(call.left.len() as u64));
     }
+    args.extend([Number(call.n as u64), Number(call.bits as u64), Lent(&pred), Number(call.pred.len() as u64)]);
+    // through the struct, whose tables are long enough by their type
+    let (whole, left) = call.answer(true, scratch);
+    let name = if call.luma { "salvrunde_probe_predict_luma_tb_scratch" } else { "salvrunde_probe_predict_chroma_tb_scratch" };
+    t.call(name, &args, Want::fields(&[whole]).then(bytes(&left)));
     args.extend([
-        Number(call.n as u64),
-        Number(call.bits as u64),
-        Lent(&pred),
-        Number(call.pred.len() as u64),
         lend(&refs),
         Number(call.refs as u64),
         lend(&indices),

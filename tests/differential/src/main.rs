@@ -7,10 +7,12 @@
 //!
 //! A subject is a module with one function that makes calls through a `Tally`. To add one: write src/NAME.rs, add its line
 //! to SUBJECTS, and add the entries that it calls to entries.txt.
+mod assembled;
 mod block;
 mod demo;
 mod differences;
 mod fmt;
+mod frame;
 mod host;
 mod list;
 mod list_predict;
@@ -24,8 +26,10 @@ mod residual;
 mod samples;
 mod smooth;
 mod standard;
+mod step;
 mod table;
 mod tally;
+mod walk;
 
 /// The Rust of docs/src, unchanged; see build.rs.
 mod oracle {
@@ -58,6 +62,9 @@ const SUBJECTS: &[(&str, Subject)] = &[
     ("chroma block", block::chroma),
     ("luma block", block::luma),
     ("plan check", plan::check),
+    ("walk", walk::walk),
+    ("replay", walk::replay),
+    ("walk and replay refused", walk::refused),
     ("differences in references", standard::differences),
 ];
 

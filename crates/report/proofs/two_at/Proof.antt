@@ -1,42 +1,31 @@
 -- `report::two_at` meets its contract.
+use mathlib.Core.Path.{refl, _∙_}
 use Rattle.report.specs.Laws.{le-two}
 use borrow.Author.Needs.{needs}
 use Rattle.report.proofs.two_at.Statement.{statement}
 use Rattle.report.proofs.two_at.Tie as tie
 
-shared-slice-read-wide : tie.Need-shared-slice-read-wide
-shared-slice-read-wide c = search needs
+shared-slice-read-sample : tie.Need-shared-slice-read-sample
+shared-slice-read-sample c = search needs
 
-wide-requires : tie.Need-wide-requires
-wide-requires c κs = search needs
+add-sample : tie.Need-add-sample
+add-sample c = search needs
 
-add-wide : tie.Need-add-wide
-add-wide c = search needs
+shared-slice-read-sample-2 : tie.Need-shared-slice-read-sample-2
+shared-slice-read-sample-2 c = search needs
 
-shared-slice-read-wide-2 : tie.Need-shared-slice-read-wide-2
-shared-slice-read-wide-2 c = search needs
-
-wide-requires-2 : tie.Need-wide-requires-2
-wide-requires-2 c κs = search needs
-
-mul-result : tie.Need-mul-result
-mul-result c = search needs
-
-add-result : tie.Need-add-result
-add-result c = search needs
+sample-requires : tie.Need-sample-requires
+sample-requires c κs = search needs
 
 returns : tie.Need-returns
-returns c = le-two _ _ (c .before .before .wide .ensures .0) (c .wide2 .ensures .0)
+returns c = c .sample .ensures ∙ le-two _ _ refl refl
 
 pub two-at-spec : {M : Type 1} → statement M
 two-at-spec =
     tie.close
     (tie.spec
-    shared-slice-read-wide
-    wide-requires
-    add-wide
-    shared-slice-read-wide-2
-    wide-requires-2
-    mul-result
-    add-result
+    shared-slice-read-sample
+    add-sample
+    shared-slice-read-sample-2
+    sample-requires
     returns)

@@ -1,0 +1,4 @@
+-- Door: what a call refuses, gives and leaves behind.
+pub mod Door
+-- Laws: it is the replay of what the bytes spell.
+pub mod Laws
