@@ -21,3 +21,5 @@ pub mod Table
 pub mod TableWalk
 -- Refused: what a refused call gives back, and that it leaves what is lent untouched.
 pub mod Refused
+-- Program: intrawalk prints a refusal, or all blocks and `same`.
+pub mod Program
