@@ -60,3 +60,15 @@ answered block next d = cond (leb 8 (length d)) (pairInto block next d) d
 -- the result buffer after a call: block number and progress record
 unfoldable pub resultAfter : Still → Progress → Lent → ℕ → List ℕ → List ℕ
 resultAfter s p l grant result = let t = byteStep s p l grant in answered (t .block) (t .next .done) result
+
+-- a call's number, and what it leaves in the plane and in the result buffer
+pub record After : Type 0 where
+  pub number : ℕ
+  pub plane : List ℕ
+  pub result : List ℕ
+
+-- A call on bytes: plan and residuals, a grant, and the plane and the result buffer as they were.
+unfoldable pub replayed : Still → Progress → List ℕ → List ℕ → ℕ → List ℕ → List ℕ → After
+replayed s p plan residuals grant plane result =
+    let l : Lent = record { plan = plan; residuals = residuals; plane = length plane; result = length result } in
+    record { number = byteVerdict s p l .no; plane = planeAfter s p l grant plane; result = resultAfter s p l grant result }

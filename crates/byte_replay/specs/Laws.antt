@@ -25,7 +25,7 @@ use Rattle.walk.specs.Block.{replayUnit}
 use Rattle.walk.specs.Door.{every, Tables, roomy, residualOk, doing, verdictOf, replayVerdict}
 use Rattle.walk.specs.Ready.{Small, Sound}
 use Rattle.walk.specs.Laws.{callNo, replayFits, replay-sound, verdict-zero, refused-is, stepped-is}
-use Rattle.byte_replay.specs.Door.{Lent, bytesFit, byteVerdict, byteStep, planeAfter, answered, resultAfter}
+use Rattle.byte_replay.specs.Door.{Lent, bytesFit, byteVerdict, byteStep, planeAfter, answered, resultAfter, After, replayed}
 
 -- the tables that a call makes for itself
 abbrev pub own : Tables
@@ -154,3 +154,11 @@ module _ (s : Still) (p : Progress) (l : Lent) (grant : ℕ) (z : byteVerdict s 
   result-served next result q =
       ap (λ (n : Progress). answered 0 (n .done) result) q
       ∙ ap (λ (t : Stepped). answered (t .block) (t .next .done) result) (stepped-is (byteVerdict s p l) (recordsOf (l .plan)) p grant _ z refl)
+
+-- number, plane and result buffer of a call together
+pub all-three : (s : Still) (p : Progress) (plan residuals : List ℕ) (grant : ℕ) (plane result : List ℕ) {k : ℕ} {d e : List ℕ}
+    → let l : Lent = record { plan = plan; residuals = residuals; plane = length plane; result = length result } in
+    k ≡ byteVerdict s p l .no → d ≡ planeAfter s p l grant plane → e ≡ resultAfter s p l grant result
+    → record { number = k; plane = d; result = e } ≡ replayed s p plan residuals grant plane result
+unfolding replayed
+all-three s p plan residuals grant plane result a b c = λ i. record { number = a i; plane = b i; result = c i }

@@ -17,7 +17,7 @@ ghost use Rattle.plan.specs.Records.{recordsOf};
 ghost use Rattle.walk.specs.Block.{rebuilt, replayUnit};
 ghost use Rattle.walk.specs.Door.{every, residualOk, doing};
 ghost use Rattle.walk.specs.Ready.{Small, RowIn, RowsIn, Ready, Lies, Predicted, Sound};
-ghost use Rattle.byte_replay.specs.Door.{wholeBy, byteVerdict, planeAfter, answered, resultAfter};
+ghost use Rattle.byte_replay.specs.Door.{wholeBy, byteVerdict, answered, replayed};
 ghost use Rattle.byte_replay.specs.Laws.{own, wordAt, byteNo};
 use plan::Block;
 use plan::Verdict;
@@ -356,7 +356,7 @@ pub fn replay(
     result: &mut [u8],
     grant: u32,
 ) -> u32
-    ensures { λ r. ⌜ (r ≡ byteVerdict still progress (record { plan = now (plan .entry); residuals = now (residuals .entry); plane = length (now (plane .entry)); result = length (now (result .entry)) }) .no) × ((now (plane .exit) ≡ planeAfter still progress (record { plan = now (plan .entry); residuals = now (residuals .entry); plane = length (now (plane .entry)); result = length (now (result .entry)) }) grant (now (plane .entry))) × (now (result .exit) ≡ resultAfter still progress (record { plan = now (plan .entry); residuals = now (residuals .entry); plane = length (now (plane .entry)); result = length (now (result .entry)) }) grant (now (result .entry)))) ⌝ }
+    ensures { λ r. ⌜ record { number = r; plane = now (plane .exit); result = now (result .exit) } ≡ replayed still progress (now (plan .entry)) (now (residuals .entry)) grant (now (plane .entry)) (now (result .entry)) ⌝ }
 {
     let v = verdict(progress, still, plan, residuals, plane.len(), result.len());
     if v.no != 0 {

@@ -17,6 +17,8 @@ use denote.Triple.Clauses.{Ended, AtExit, Clauses}
 use denote.Triple.Entry.{Args, Res}
 use Rattle.laws.specs.Choose.{served}
 use Rattle.walk.specs.Block.{World}
+use Rattle.byte_replay.specs.Door.{After}
+use Rattle.camera.specs.Entries.{Written, wrote}
 use Rattle.bytes.proofs.sample.Reads as bytes-sample
 use Rattle.bytes.proofs.residual.Reads as bytes-residual
 use Rattle.bytes.proofs.byte_0.Reads as bytes-byte-0
@@ -55,6 +57,8 @@ use Rattle.smooth.proofs.filter_luma_refs.Reads as smooth-filter-luma-refs
 use Rattle.refs.proofs.substitute_refs.Reads as refs-substitute-refs
 use Rattle.refs.proofs.get_reference_samples.Reads as refs-get-reference-samples
 use Rattle.refs.proofs.get_reference_samples_chroma_pair.Reads as refs-get-reference-samples-chroma-pair
+use Rattle.refs.proofs.get_reference_samples_bytes.Reads as refs-get-reference-samples-bytes
+use Rattle.refs.proofs.get_reference_samples_chroma_pair_bytes.Reads as refs-get-reference-samples-chroma-pair-bytes
 use Rattle.plan.proofs.check_plan.Reads as plan-check-plan
 use Rattle.plan.proofs.record_at.Reads as plan-record-at
 use Rattle.plan.proofs.check_plan_bytes.Reads as plan-check-plan-bytes
@@ -101,6 +105,14 @@ use Rattle.probes.proofs.salvrunde_probe_compute_residual_i32_into.Reads as pro
 use Rattle.probes.proofs.salvrunde_probe_reconstruct_into.Reads as probes-salvrunde-probe-reconstruct-into
 use Rattle.probes.proofs.salvrunde_probe_walk.Reads as probes-salvrunde-probe-walk
 use Rattle.probes.proofs.salvrunde_probe_replay.Reads as probes-salvrunde-probe-replay
+use Rattle.camera.proofs.salvrunde_luma_refs.Reads as camera-salvrunde-luma-refs
+use Rattle.camera.proofs.salvrunde_chroma_refs.Reads as camera-salvrunde-chroma-refs
+use Rattle.camera.proofs.salvrunde_planar.Reads as camera-salvrunde-planar
+use Rattle.camera.proofs.salvrunde_dc.Reads as camera-salvrunde-dc
+use Rattle.camera.proofs.salvrunde_angular.Reads as camera-salvrunde-angular
+use Rattle.camera.proofs.salvrunde_chroma_block.Reads as camera-salvrunde-chroma-block
+use Rattle.camera.proofs.salvrunde_replay.Reads as camera-salvrunde-replay
+use Rattle.byte_replay.proofs.replay.Reads as byte-replay-replay
 use Rattle.walk.proofs.Progress.replay.Reads as walk-replay
 use Rattle.walk.proofs.Progress.walk.Reads as walk-walk
 
@@ -237,6 +249,12 @@ refs-get-reference-samples-once κs a x y s t p q = p ∙ sym q
 
 refs-get-reference-samples-chroma-pair-once : (κs : Lfts 2) → Once (refs-get-reference-samples-chroma-pair.Post κs)
 refs-get-reference-samples-chroma-pair-once κs a x y s t p q = p ∙ sym q
+
+refs-get-reference-samples-bytes-once : (κs : Lfts 1) → Once (refs-get-reference-samples-bytes.Post κs)
+refs-get-reference-samples-bytes-once κs a x y s t p q = p ∙ sym q
+
+refs-get-reference-samples-chroma-pair-bytes-once : (κs : Lfts 2) → Once (refs-get-reference-samples-chroma-pair-bytes.Post κs)
+refs-get-reference-samples-chroma-pair-bytes-once κs a x y s t p q = p ∙ sym q
 
 -- plan
 plan-check-plan-once : (κs : Lfts 1) → Once (plan-check-plan.Post κs)
@@ -375,6 +393,39 @@ probes-salvrunde-probe-walk-once κs a x y s t p q = (p .0 ∙ sym (q .0), p .1 
 
 probes-salvrunde-probe-replay-once : (κs : Lfts 6) → OnceLeft (λ s. now (s .1 .1 .1 .1 .1 .1 .1 .0)) (probes-salvrunde-probe-replay.Post κs)
 probes-salvrunde-probe-replay-once κs a x y s t p q = (p .0 ∙ sym (q .0), p .1 .0 ∙ sym (q .1 .0))
+
+-- byte_replay
+by-after : {x y : ℕ} {d e f g : List ℕ} {a : After} → _≡_ {A = After} (record { number = x; plane = d; result = f }) a → _≡_ {A = After} (record { number = y; plane = e; result = g }) a
+    → (x ≡ y) × (_≡_ {A = List ℕ × List ℕ} (d, f) (e, g))
+by-after p q = (ap (λ (v : After). v .number) (p ∙ sym q), ap (λ (v : After). (v .plane, v .result)) (p ∙ sym q))
+
+byte-replay-replay-once : (κs : Lfts 4) → OnceLeft {L = List ℕ × List ℕ} (λ s. (now (s .1 .1 .1 .1 .0), now (s .1 .1 .1 .1 .1 .0))) (byte-replay-replay.Post κs)
+byte-replay-replay-once κs a x y s t p q = by-after p q
+
+-- camera
+by-written : {x y : ℕ} {l m : List ℕ} {w : Written} → wrote x l ≡ w → wrote y m ≡ w → (x ≡ y) × (l ≡ m)
+by-written p q = (ap (λ (v : Written). v .number) (p ∙ sym q), ap (λ (v : Written). v .bytes) (p ∙ sym q))
+
+camera-salvrunde-luma-refs-once : (κs : Lfts 2) → OnceLeft (λ s. now (s .1 .1 .1 .1 .1 .1 .1 .1 .1 .0)) (camera-salvrunde-luma-refs.Post κs)
+camera-salvrunde-luma-refs-once κs a x y s t p q = by-written p q
+
+camera-salvrunde-chroma-refs-once : (κs : Lfts 3) → OnceLeft (λ s. now (s .1 .1 .1 .1 .1 .1 .1 .1 .1 .1 .1 .1 .0)) (camera-salvrunde-chroma-refs.Post κs)
+camera-salvrunde-chroma-refs-once κs a x y s t p q = by-written p q
+
+camera-salvrunde-planar-once : (κs : Lfts 3) → OnceLeft (λ s. now (s .1 .1 .1 .0)) (camera-salvrunde-planar.Post κs)
+camera-salvrunde-planar-once κs a x y s t p q = by-written p q
+
+camera-salvrunde-dc-once : (κs : Lfts 3) → OnceLeft (λ s. now (s .1 .1 .1 .1 .0)) (camera-salvrunde-dc.Post κs)
+camera-salvrunde-dc-once κs a x y s t p q = by-written p q
+
+camera-salvrunde-angular-once : (κs : Lfts 3) → OnceLeft (λ s. now (s .1 .1 .1 .1 .1 .1 .1 .0)) (camera-salvrunde-angular.Post κs)
+camera-salvrunde-angular-once κs a x y s t p q = by-written p q
+
+camera-salvrunde-chroma-block-once : (κs : Lfts 3) → OnceLeft (λ s. now (s .1 .1 .1 .1 .1 .1 .0)) (camera-salvrunde-chroma-block.Post κs)
+camera-salvrunde-chroma-block-once κs a x y s t p q = by-written p q
+
+camera-salvrunde-replay-once : (κs : Lfts 4) → OnceLeft {L = List ℕ × List ℕ} (λ s. (now (s .1 .1 .1 .1 .1 .1 .1 .1 .0), now (s .1 .1 .1 .1 .1 .1 .1 .1 .1 .0))) (camera-salvrunde-replay.Post κs)
+camera-salvrunde-replay-once κs a x y s t p q = by-after p q
 
 -- walk
 walk-replay-once : (κs : Lfts 6) → OnceLeft (λ s. now (s .1 .1 .1 .1 .0)) (walk-replay.Post κs)
