@@ -3,6 +3,8 @@
 pub mod Calls
 pub mod Demand3
 pub mod Proof3
+-- OnBytes: the same for replays on bytes.
+pub mod OnBytes
 pub mod Example
 -- Chains: a chain of calls is one call. Accept: what it means that a call is not refused.
 pub mod Chains
@@ -20,3 +22,5 @@ pub mod TableWalk
 pub mod TableBytes
 -- Refused: what a refused call gives back, and that it leaves what is lent untouched.
 pub mod Refused
+-- Program: intrawalk prints a refusal, or all blocks and `same`.
+pub mod Program

@@ -31,6 +31,7 @@ use Rattle.domain.proofs.mode_ok.Reads as domain-mode-ok
 use Rattle.domain.proofs.side_ok.Reads as domain-side-ok
 use Rattle.domain.proofs.ctu_ok.Reads as domain-ctu-ok
 use Rattle.domain.proofs.unit_ok.Reads as domain-unit-ok
+use Rattle.listing.proofs.word.Reads as listing-word
 use Rattle.fmt.proofs.BitDepth.from_bits.Reads as fmt-from-bits
 use Rattle.fmt.proofs.BitDepth.bits.Reads as fmt-bits
 use Rattle.fmt.proofs.BitDepth.max_val.Reads as fmt-max-val
@@ -115,6 +116,7 @@ use Rattle.camera.proofs.salvrunde_replay.Reads as camera-salvrunde-replay
 use Rattle.byte_replay.proofs.replay.Reads as byte-replay-replay
 use Rattle.walk.proofs.Progress.replay.Reads as walk-replay
 use Rattle.walk.proofs.Progress.walk.Reads as walk-walk
+use Rattle.report.proofs.report.Reads as report-report
 
 -- at most one answer meets a contract
 abbrev Once : {A X S : Type 0} → (A → X → S → Type 0) → Type 0
@@ -165,6 +167,10 @@ domain-ctu-ok-once a x y s t p q = p ∙ sym q
 
 domain-unit-ok-once : Once (domain-unit-ok.Post tt)
 domain-unit-ok-once a x y s t p q = p ∙ sym q
+
+-- listing
+listing-word-once : (κs : Lfts 1) → Once (listing-word.Post κs)
+listing-word-once κs a x y s t p q = p ∙ sym q
 
 -- fmt
 fmt-from-bits-once : Once (fmt-from-bits.Post tt)
@@ -452,3 +458,7 @@ module _ {M : Type 1} (𝓤 : URA M) (H : Heap 𝓤) (A : Atoms 𝓤) (mem : Mem
 
   scratch-predict-luma-tb-into-once : (κs : Lfts 2) → OnceHeld scratch-predict-luma-tb-into.ended κs (λ s. now (s .1 .1 .1 .1 .0)) (scratch-predict-luma-tb-into.clauses 𝓤 H A mem run)
   scratch-predict-luma-tb-into-once κs a g x y s t = held-both _ _ _ (λ p q. by-number _ _ (p .0) (q .0) (p .1 .0) (q .1 .0))
+
+-- report
+report-report-once : (κs : Lfts 1) → Once (report-report.Post κs)
+report-report-once κs a x y s t p q = p ∙ sym q

@@ -1,20 +1,20 @@
 -- The samples that are there, as they are read out of a plane, and the rows made of these values alone, whatever held them. Assumes nothing.
 use mathlib.Core.Path.{_≡_, refl, sym, ap, ap₂, _∙_}
 use mathlib.Core.Bool.{Bool, true, false, cond, _||_, false≢true}
-use mathlib.Core.List.{List, [], _∷_}
-use mathlib.Core.Logic.{⊎-elim}
+use mathlib.Core.List.{List}
 use Prim.Native.Nat.{ℕ, _+_, _-_, _*_, _≤_, _<_}
 use native.Mathlib.Omega.{arith}
 use lib.Dec.{ltb}
 use lib.ListN.{getD, replicate, length-replicate}
-use borrow.Author.Tests.{lt-ltb, le-ltb, ltb-true, ltb-false}
+use borrow.Author.Tests.{lt-ltb, le-ltb, ltb-true}
+use Rattle.laws.specs.Choose.{if-yes, if-no}
 use Rattle.laws.specs.Fill.{fill, run}
 use Rattle.laws.specs.FillLaws.{fill-at, fill-same, fill-run}
 use Rattle.order.specs.declared.Reach.{Reach}
 use Rattle.rows.specs.declared.Rows.{Rows}
 use Rattle.refs.specs.declared.Spot.{Spot}
 use Rattle.refs.specs.Substitution.{levelRows}
-use Rattle.refs.specs.Line.{anyBy, told}
+use Rattle.refs.specs.Line.{anyBy}
 use Rattle.refs.specs.Spots.{cornerOn, aboveOn, leftOn, planeRows, Few}
 use Rattle.refs.specs.Counts.{startOf, cornerOf, restOf, edgeOf, reached, fromReach}
 
@@ -25,10 +25,6 @@ seenEdge have at = fill at have (replicate 65 0)
 abbrev pub seenCorner : Reach → ℕ → ℕ
 seenCorner r c = cond (r .corner) c 0
 
--- both edges, the row above first
-abbrev pub seenRows : Reach → (ℕ → ℕ) → (ℕ → ℕ) → List (List ℕ)
-seenRows r above left = seenEdge (r .above) above ∷ seenEdge (r .left) left ∷ []
-
 abbrev pub entry : List ℕ → ℕ → ℕ
 entry row i = getD row i 0
 
@@ -37,7 +33,7 @@ abbrev pub padded : ℕ → ℕ → ℕ → List ℕ → List ℕ
 padded count have rest row = run (λ i. rest) have (count - have) row
 
 -- the rows of what was read: the corner c, the row above, the left column
-abbrev pub padRows : Reach → ℕ → List ℕ → List ℕ → ℕ → Rows
+unfoldable pub padRows : Reach → ℕ → List ℕ → List ℕ → ℕ → Rows
 padRows r c above left n =
     let start = startOf r c (entry above) (entry left) in
     let corner = cornerOf r c (entry left) start in
@@ -46,9 +42,6 @@ padRows r c above left n =
       above = padded (2 * n + 1) (r .above) (restOf r (entry above) corner) above;
       left = padded (2 * n + 1) (r .left) start left;
     }
-
-unfoldable pub finished : Reach → ℕ → List (List ℕ) → ℕ → ℕ → Rows
-finished r c two n neutral = cond (anyBy (r .corner) (r .above) (r .left)) (padRows r c (getD two 0 []) (getD two 1 []) n) (levelRows neutral)
 
 -- two answers by one test
 by-test : {A : Type 0} (b : Bool) {x y z w : A} → (b ≡ true → x ≡ z) → (b ≡ false → y ≡ w) → cond b x y ≡ cond b z w
@@ -100,11 +93,10 @@ module _ (r : Reach) (c : ℕ) (above left : ℕ → ℕ) (n : ℕ) (small : n �
   rest k = by-test (ltb 0 (r .above)) (λ t. let p = ltb-true 0 (r .above) t in seen-at (r .above) above (r .above - 1) (omega arith) (omega arith)) (λ g. refl)
 
   -- the rows made of what was read are the rows of the samples
-  finish-all : (neutral : ℕ) → finished r (seenCorner r c) (seenRows r above left) n neutral ≡ fromReach r c above left n neutral
-  unfolding finished fromReach
-  finish-all neutral =
-      by-test (anyBy (r .corner) (r .above) (r .left))
-      (λ any.
+  padded-are : anyBy (r .corner) (r .above) (r .left) ≡ true
+      → padRows r (seenCorner r c) (seenEdge (r .above) above) (seenEdge (r .left) left) n ≡ reached r c above left n
+  unfolding padRows
+  padded-are any =
       let s = start any in
       let k = corner (startOf r (seenCorner r c) a l) ∙ ap (cornerOf r c left) s in
       let z = rest (cornerOf r (seenCorner r c) l (startOf r (seenCorner r c) a l)) ∙ ap (restOf r above) k in
@@ -113,13 +105,23 @@ module _ (r : Reach) (c : ℕ) (above left : ℕ → ℕ) (n : ℕ) (small : n �
         corner = k i;
         above = (pad-edge (r .above) above _ (2 * n + 1) ha ∙ ap (edgeOf (2 * n + 1) (r .above) above) z) i;
         left = (pad-edge (r .left) left _ (2 * n + 1) hl ∙ ap (edgeOf (2 * n + 1) (r .left) left) s) i;
-      })
-      (λ gone. refl)
+      }
 
 -- so are those of what was read out of a plane
-pub finish-plane : (plane : List ℕ) (s : Spot) (r : Reach) (n neutral : ℕ) → Few r n → {two : List (List ℕ)} {seen : ℕ} {v : Rows}
-    → two ≡ seenRows r (aboveOn plane s) (leftOn plane s) → seen ≡ seenCorner r (cornerOn plane s) → v ≡ finished r seen two n neutral
-    → v ≡ planeRows plane s r n neutral
-finish-plane plane s r n neutral f et es ev =
-    ev ∙ ap₂ (λ (w : List (List ℕ)) (k : ℕ). finished r k w n neutral) et es
-    ∙ finish-all r (cornerOn plane s) (aboveOn plane s) (leftOn plane s) n (f .side) (f .above-few) (f .left-few) neutral
+module _ (plane : List ℕ) (s : Spot) (r : Reach) (n neutral : ℕ) where
+  pub finish-none : anyBy (r .corner) (r .above) (r .left) ≡ false → levelRows neutral ≡ planeRows plane s r n neutral
+  unfolding fromReach
+  finish-none gone = if-no (anyBy (r .corner) (r .above) (r .left)) _ (levelRows neutral) (levelRows neutral) gone refl
+
+  pub finish-some : anyBy (r .corner) (r .above) (r .left) ≡ true → Few r n → {a l : List ℕ} {c : ℕ} {v : Rows}
+      → a ≡ seenEdge (r .above) (aboveOn plane s) → l ≡ seenEdge (r .left) (leftOn plane s) → c ≡ seenCorner r (cornerOn plane s) → v ≡ padRows r c a l n
+      → v ≡ planeRows plane s r n neutral
+  unfolding fromReach
+  finish-some any f {a} {l} {c} {v} ea el ec ev =
+      if-yes (anyBy (r .corner) (r .above) (r .left)) (reached r (cornerOn plane s) (aboveOn plane s) (leftOn plane s) n) (levelRows neutral) v any
+      (ev ∙ ap₂ (λ (x y : List ℕ). padRows r c x y n) ea el ∙ ap (λ (k : ℕ). padRows r k (seenEdge (r .above) (aboveOn plane s)) (seenEdge (r .left) (leftOn plane s)) n) ec
+      ∙ padded-are r (cornerOn plane s) (aboveOn plane s) (leftOn plane s) n (f .side) (f .above-few) (f .left-few) any)
+
+-- rows from their parts
+pub from-parts : {c : ℕ} {a l : List ℕ} (r : Rows) → c ≡ r .corner → a ≡ r .above → l ≡ r .left → _≡_ {A = Rows} (record { corner = c; above = a; left = l }) r
+from-parts r ec ea el = λ i. record { corner = ec i; above = ea i; left = el i }

@@ -17,7 +17,7 @@ ghost use Rattle.refs.specs.Door.{neutralAt, substituteNo, substituteDoo
 ghost use Rattle.refs.specs.Served.{gatherNo};
 ghost use Rattle.refs.specs.Line.{lineOf, restBy};
 ghost use Rattle.refs.specs.Spots.{spotOf, onEdge, cornerOn, aboveOn, leftOn, planeRows, Few, Reads};
-ghost use Rattle.refs.specs.Seen.{seenEdge, seenCorner, seenRows, entry, padded, padRows, finished};
+ghost use Rattle.refs.specs.Seen.{seenCorner, entry, padded, padRows};
 use fmt::ChromaCol;
 use fmt::ChromaFormat;
 use fmt::ChromaRow;
@@ -291,28 +291,16 @@ fn spot_of(width: usize, row: usize, col: usize) -> Spot
     }
 }
 
-// The first `have` entries of an edge out of the plane, each `step` samples further; 0 past them.
-fn edge(plane: &[u16], at: usize, step: usize, have: usize) -> [u16; 65]
-    requires { ⌜ (have ≤ 65) × ((i : ℕ) → i < have → at + i * step < length (now plane)) ⌝ }
-    ensures { λ r. ⌜ r ≡ seenEdge have (onEdge (now (plane .entry)) at step) ⌝ }
+// Reads the first `have` entries of an edge out of the plane, each `step` samples further.
+fn edge(plane: &[u16], at: usize, step: usize, have: usize, out: &mut [u16])
+    requires { ⌜ (have ≤ length (now out)) × ((i : ℕ) → i < have → at + i * step < length (now plane)) ⌝ }
+    ensures { λ _. ⌜ now (out .exit) ≡ fill (onEdge (now (plane .entry)) at step) have (now (out .entry)) ⌝ }
 {
-    let mut out = [0u16; 65];
     let mut i = 0;
     while i < have {
         out[i] = plane[at + i * step];
         i += 1;
     }
-    out
-}
-
-// A plane's samples that are there along both edges, above and left.
-fn two_rows(plane: &[u16], s: Spot, r: Reach, n: usize) -> [[u16; 65]; 2]
-    requires { ⌜ Reads r s (length (now plane)) n ⌝ }
-    ensures { λ v. ⌜ v ≡ seenRows r (aboveOn (now (plane .entry)) s) (leftOn (now (plane .entry)) s) ⌝ }
-{
-    let above = edge(plane, s.above, 1, r.above);
-    let left = edge(plane, s.left, s.width, r.left);
-    [above, left]
 }
 
 // The corner where it is there, else 0.
@@ -333,27 +321,16 @@ fn sample_in(plane: &[u8], at: usize) -> u16
     bytes::sample(plane[low], plane[low + 1])
 }
 
-// An edge, both edges and the corner, out of a plane of bytes.
-fn edge_in(plane: &[u8], at: usize, step: usize, have: usize) -> [u16; 65]
-    requires { ⌜ (have ≤ 65) × ((i : ℕ) → i < have → at + i * step < length (samplesOf (now plane))) ⌝ }
-    ensures { λ r. ⌜ r ≡ seenEdge have (onEdge (samplesOf (now (plane .entry))) at step) ⌝ }
+// An edge and the corner out of a plane of bytes.
+fn edge_in(plane: &[u8], at: usize, step: usize, have: usize, out: &mut [u16])
+    requires { ⌜ (have ≤ length (now out)) × ((i : ℕ) → i < have → at + i * step < length (samplesOf (now plane))) ⌝ }
+    ensures { λ _. ⌜ now (out .exit) ≡ fill (onEdge (samplesOf (now (plane .entry))) at step) have (now (out .entry)) ⌝ }
 {
-    let mut out = [0u16; 65];
     let mut i = 0;
     while i < have {
         out[i] = sample_in(plane, at + i * step);
         i += 1;
     }
-    out
-}
-
-fn two_rows_in(plane: &[u8], s: Spot, r: Reach, n: usize) -> [[u16; 65]; 2]
-    requires { ⌜ Reads r s (length (samplesOf (now plane))) n ⌝ }
-    ensures { λ v. ⌜ v ≡ seenRows r (aboveOn (samplesOf (now (plane .entry))) s) (leftOn (samplesOf (now (plane .entry))) s) ⌝ }
-{
-    let above = edge_in(plane, s.above, 1, r.above);
-    let left = edge_in(plane, s.left, s.width, r.left);
-    [above, left]
 }
 
 fn corner_seen_in(plane: &[u8], s: Spot, r: Reach, n: usize) -> u16
@@ -367,55 +344,49 @@ fn corner_seen_in(plane: &[u8], s: Spot, r: Reach, n: usize) -> u16
 }
 
 // The last entry that is there, or another sample where none is.
-fn last_of(row: &[u16; 65], have: usize, other: u16) -> u16
-    requires { ⌜ have ≤ 65 ⌝ }
+fn last_of(row: &[u16], have: usize, other: u16) -> u16
+    requires { ⌜ have ≤ length (now row) ⌝ }
     ensures { λ v. ⌜ v ≡ restBy have (entry (now (row .entry))) other ⌝ }
 {
     if have > 0 { row[have - 1] } else { other }
 }
 
-// A row whose entries from `have` on, up to `count`, are `rest`.
-fn pad(row: [u16; 65], have: usize, count: usize, rest: u16) -> [u16; 65]
-    requires { ⌜ (have ≤ count) × (count ≤ 65) ⌝ }
-    ensures { λ r. ⌜ r ≡ padded count have rest row ⌝ }
+// Puts `rest` into a row's entries from `have` on, up to `count`.
+fn pad(row: &mut [u16], have: usize, count: usize, rest: u16)
+    requires { ⌜ (have ≤ count) × (count ≤ length (now row)) ⌝ }
+    ensures { λ _. ⌜ now (row .exit) ≡ padded count have rest (now (row .entry)) ⌝ }
 {
     let more = count - have;
-    let mut out = row;
     let mut i = 0;
     while i < more {
-        out[have + i] = rest;
+        row[have + i] = rest;
         i += 1;
     }
-    out
 }
 
-// The rows of what was read, where a neighbour is there: what stands before the first sample that is there is that sample, a missing
-// corner takes left[0], and what stands after the last one of the row above is that one, or the corner.
-fn pad_rows(two: [[u16; 65]; 2], seen: u16, r: Reach, n: usize) -> Rows
-    requires { ⌜ Few r n ⌝ }
-    ensures { λ v. ⌜ v ≡ padRows r seen (getD two 0 []) (getD two 1 []) n ⌝ }
+// Completes the rows of what was read, where a neighbour is there, and gives the corner: what stands before the first sample that is
+// there is that sample, a missing corner takes left[0], and what stands after the last one of the row above is that one, or the corner.
+fn finish(above: &mut [u16], left: &mut [u16], seen: u16, r: Reach, n: usize) -> u16
+    requires { ⌜ Few r n × ((length (now above) ≡ 65) × (length (now left) ≡ 65)) ⌝ }
+    ensures { λ c. ⌜ (c ≡ padRows r seen (now (above .entry)) (now (left .entry)) n .corner) × ((now (above .exit) ≡ padRows r seen (now (above .entry)) (now (left .entry)) n .above) × (now (left .exit) ≡ padRows r seen (now (above .entry)) (now (left .entry)) n .left)) ⌝ }
 {
-    let above = two[0];
-    let left = two[1];
-    let start = last_of(&left, r.left, choose(r.corner, seen, above[0]));
+    let start = last_of(&*left, r.left, choose(r.corner, seen, above[0]));
     let corner = choose(r.corner, seen, choose(r.left > 0, left[0], start));
-    let rest = last_of(&above, r.above, corner);
+    let rest = last_of(&*above, r.above, corner);
+    pad(&mut *above, r.above, 2 * n + 1, rest);
+    pad(&mut *left, r.left, 2 * n + 1, start);
+    corner
+}
+
+// A plane's two rows, above and left, with their corner.
+fn with_corner(corner: u16, two: [[u16; 65]; 2]) -> Rows
+    ensures { λ v. ⌜ v ≡ record { corner = corner; above = getD two 0 []; left = getD two 1 [] } ⌝ }
+{
     Rows {
         corner,
-        above: pad(above, r.above, 2 * n + 1, rest),
-        left: pad(left, r.left, 2 * n + 1, start),
+        above: two[0],
+        left: two[1],
     }
-}
-
-// The rows of what was read out of a plane.
-fn finish(two: [[u16; 65]; 2], seen: u16, r: Reach, n: usize, neutral: u16) -> Rows
-    requires { ⌜ Few r n ⌝ }
-    ensures { λ v. ⌜ v ≡ finished r seen two n neutral ⌝ }
-{
-    if (r.left > 0) | r.corner | (r.above > 0) {
-        return pad_rows(two, seen, r, n);
-    }
-    level_rows(neutral)
 }
 
 // The rows of a plane, from how far the neighbours reach.
@@ -423,9 +394,16 @@ fn plane_rows(plane: &[u16], s: Spot, r: Reach, n: usize, neutral: u16) -> Rows
     requires { ⌜ Reads r s (length (now plane)) n ⌝ }
     ensures { λ v. ⌜ v ≡ planeRows (now (plane .entry)) s r n neutral ⌝ }
 {
-    let two = two_rows(plane, s, r, n);
+    if !((r.left > 0) | r.corner | (r.above > 0)) {
+        return level_rows(neutral);
+    }
+    let mut above = [0u16; 65];
+    let mut left = [0u16; 65];
+    edge(plane, s.above, 1, r.above, &mut above);
+    edge(plane, s.left, s.width, r.left, &mut left);
     let seen = corner_seen(plane, s, r, n);
-    finish(two, seen, r, n, neutral)
+    let corner = finish(&mut above, &mut left, seen, r, n);
+    with_corner(corner, [above, left])
 }
 
 // The same out of a plane of bytes.
@@ -433,9 +411,16 @@ fn plane_rows_in(plane: &[u8], s: Spot, r: Reach, n: usize, neutral: u16) -> Row
     requires { ⌜ Reads r s (length (samplesOf (now plane))) n ⌝ }
     ensures { λ v. ⌜ v ≡ planeRows (samplesOf (now (plane .entry))) s r n neutral ⌝ }
 {
-    let two = two_rows_in(plane, s, r, n);
+    if !((r.left > 0) | r.corner | (r.above > 0)) {
+        return level_rows(neutral);
+    }
+    let mut above = [0u16; 65];
+    let mut left = [0u16; 65];
+    edge_in(plane, s.above, 1, r.above, &mut above);
+    edge_in(plane, s.left, s.width, r.left, &mut left);
     let seen = corner_seen_in(plane, s, r, n);
-    finish(two, seen, r, n, neutral)
+    let corner = finish(&mut above, &mut left, seen, r, n);
+    with_corner(corner, [above, left])
 }
 
 // Whether bytes are as many as a plane of so many samples has. No product can pass the type's end.

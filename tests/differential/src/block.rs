@@ -11,18 +11,18 @@ use crate::tally::{Tally, Want};
 
 /// What either door is given. Luma's rows have 65 entries by their type.
 #[derive(Clone)]
-struct Block {
-    luma: bool,
-    mode: u8,
-    bits: u32,
-    corner: u16,
-    above: Vec<u16>,
-    left: Vec<u16>,
-    n: usize,
-    pred: Vec<u16>,
-    refs: usize,
-    indices: usize,
-    fractions: usize,
+pub struct Block {
+    pub luma: bool,
+    pub mode: u8,
+    pub bits: u32,
+    pub corner: u16,
+    pub above: Vec<u16>,
+    pub left: Vec<u16>,
+    pub n: usize,
+    pub pred: Vec<u16>,
+    pub refs: usize,
+    pub indices: usize,
+    pub fractions: usize,
 }
 
 impl Block {
@@ -32,7 +32,7 @@ impl Block {
     }
 
     /// The number, and the block's buffer afterwards, with tables that are long enough or not.
-    fn answer(&self, tables: bool, scratch: &mut AngularScratch) -> (u32, Vec<u16>) {
+    pub fn answer(&self, tables: bool, scratch: &mut AngularScratch) -> (u32, Vec<u16>) {
         let (no, mut pred) = (self.number(tables), self.pred.clone());
         if no == 0 && self.luma {
             assembled::predict(self.mode, self.bits, (self.corner, &self.above, &self.left), self.n, &mut pred, scratch);

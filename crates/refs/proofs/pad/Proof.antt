@@ -2,43 +2,48 @@
 use mathlib.Core.Path.{_≡_, refl}
 use Prim.Native.Nat.{ℕ, _+_, _-_, _≤_}
 use native.Mathlib.Omega.{arith}
+use borrow.Author.Needs.{needs}
+use lib.ListN.{length}
 use Rattle.laws.specs.Fill.{run}
 use Rattle.laws.specs.FillLaws.{run-none, run-more, run-done}
 use Rattle.refs.proofs.pad.Statement.{statement}
 use Rattle.refs.proofs.pad.Tie as tie
 
 abbrev Inv-loop : tie.InvT-loop
-Inv-loop have count rest more out₀ i₀ out i = (i ≤ more) × (out ≡ run (λ (j : ℕ). rest) have i out₀)
+Inv-loop row₀ have count rest more i₀ row i = (i ≤ more) × ((length row ≡ length row₀) × (row ≡ run (λ (j : ℕ). rest) have i row₀))
 
 abbrev μ-loop : tie.MeasureT-loop
-μ-loop have count rest more out₀ i₀ out i = more - i
+μ-loop row₀ have count rest more i₀ row i = more - i
 
 sub-more : tie.Need-sub-more Inv-loop μ-loop
-sub-more c = omega arith
+sub-more c = search needs
 
 loop-holds : tie.Need-loop-holds Inv-loop μ-loop
-loop-holds c = (omega arith, run-none _ _ _)
+loop-holds c = (omega arith, (search needs, run-none _ _ _))
 
-add-out : tie.Need-add-out Inv-loop μ-loop
-add-out c = omega arith
+add-row : tie.Need-add-row Inv-loop μ-loop
+add-row c = search needs
 
-mul-out : tie.Need-mul-out Inv-loop μ-loop
-mul-out c = omega arith
+mul-row : tie.Need-mul-row Inv-loop μ-loop
+mul-row c = search needs
 
-array-write-out : tie.Need-array-write-out Inv-loop μ-loop
-array-write-out c = omega arith
+slice-write-row : tie.Need-slice-write-row Inv-loop μ-loop
+slice-write-row c = search needs
 
 add-i : tie.Need-add-i Inv-loop μ-loop
-add-i c = omega arith
+add-i c = search needs
 
 loop-less : tie.Need-loop-less Inv-loop μ-loop
-loop-less c = omega arith
+loop-less c = search needs
 
 loop-again : tie.Need-loop-again Inv-loop μ-loop
-loop-again c = (omega arith, run-more _ _ _ (c .before .loop .inv .1) refl)
+loop-again c = (omega arith, (search needs, run-more _ _ _ (c .before .loop .inv .1 .1) refl))
+
+same-length : tie.Need-same-length Inv-loop μ-loop
+same-length c = search needs
 
 returns : tie.Need-returns Inv-loop μ-loop
-returns c = run-done _ _ _ (c .before .loop .inv .0) (omega arith) (c .before .loop .inv .1)
+returns c = run-done _ _ _ (c .before .loop .inv .0) (omega arith) (c .before .loop .inv .1 .1)
 
 pub pad-spec : {M : Type 1} → statement M
 pad-spec =
@@ -48,10 +53,11 @@ pad-spec =
     μ-loop
     sub-more
     loop-holds
-    add-out
-    mul-out
-    array-write-out
+    add-row
+    mul-row
+    slice-write-row
     add-i
     loop-less
     loop-again
+    same-length
     returns)
