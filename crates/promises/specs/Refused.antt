@@ -28,10 +28,14 @@ use Rattle.smooth.specs.Smoothing.{ruleDoor, filterDoor}
 use Rattle.residual.specs.Residual.{residualNo, reconstructNo, residualsAfter, reconstructed}
 use Rattle.plan.specs.declared.Verdict.{Verdict}
 use Rattle.plan.specs.Plan.{Plan}
+use Rattle.plan.specs.Records.{recordsOf}
 use Rattle.walk.specs.declared.Still.{Still}
 use Rattle.walk.specs.declared.Progress.{Progress}
+use Rattle.walk.specs.declared.Stepped.{Stepped}
 use Rattle.walk.specs.Block.{World}
 use Rattle.walk.specs.Door.{Tables, steppedBy, replayVerdict, replayAfter, walkVerdict, walkAfter}
+use Rattle.byte_replay.specs.Door.{Lent, byteVerdict, planeAfter, answered, resultAfter}
+use Rattle.camera.specs.Entries.{entry}
 use Rattle.promises.specs.Exact.{number-in}
 
 -- what a call with a number gives, or leaves behind
@@ -126,3 +130,18 @@ module _ (s : Still) (plan : Plan) (t : Tables) (p : Progress) (grant : ℕ) whe
   pub replay : (residuals : List ℤ) (plane : List ℕ) → ¬ (replayVerdict s plan t p (length plane) residuals .no ≡ 0) → replayAfter s plan t p grant residuals plane ≡ plane
   unfolding replayAfter
   replay residuals plane h = kept _ _ plane h
+
+-- the camera's entries: a refused gather or prediction, each an `entry`, leaves its buffer; a refused replay leaves the plane, and writes the block number and
+-- the record as given, unless the result buffer is short
+pub entries : (k : ℕ) (work out : List ℕ) → ¬ (entry k work out .number ≡ 0) → entry k work out .bytes ≡ out
+unfolding entry
+entries k work out h = kept k work out h
+
+module _ (s : Still) (p : Progress) (l : Lent) (grant : ℕ) (h : ¬ (byteVerdict s p l .no ≡ 0)) where
+  pub byte-plane : (plane : List ℕ) → planeAfter s p l grant plane ≡ plane
+  unfolding planeAfter
+  byte-plane plane = kept (byteVerdict s p l .no) _ plane h
+
+  pub byte-result : (result : List ℕ) → resultAfter s p l grant result ≡ answered (byteVerdict s p l .block) (p .done) result
+  unfolding resultAfter
+  byte-result result = ap (λ (t : Stepped). answered (t .block) (t .next .done) result) (stepped (byteVerdict s p l) (recordsOf (l .plan)) p grant h)

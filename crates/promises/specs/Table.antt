@@ -14,7 +14,7 @@
 --   refs::.._chroma_pair_bytes            chroma-gather-bytes     scratch::predict_luma_tb_into, _fresh    predict-luma-scratch
 --   residual::compute_residual_i32_into   compute-residual        residual::reconstruct_into             reconstruct
 --
--- plan::check_plan, on records and on bytes, Progress::walk and Progress::replay, whose numbers carry a block, are in TableWalk; what a refused call gives back is in Refused.
+-- plan::check_plan, on records and on bytes, Progress::walk and Progress::replay, whose numbers carry a block, are in TableWalk; the camera's entries in TableBytes; what a refused call gives back is in Refused.
 use mathlib.Core.Path.{_≡_, refl, ap, subst}
 use mathlib.Core.Bool.{Bool, true, false, cond, _&&_, _||_, true≢false, false≢true}
 use mathlib.Core.List.{List, [], _∷_}
@@ -200,7 +200,7 @@ abbrev pub lumaTable : Type 0 → LumaRefGeometry → List (Row ℕ)
 lumaTable P g =
     (1 when ¬ Depth (g .bits)) ∷ (2 when ¬ Size (g .n)) ∷ (4 when BadPicture (g .picture)) ∷ (5 when P) ∷ (6 when BadLuma (lumaBlock g)) ∷ []
 
-luma-number : {whole : Bool} {P : Type 0} → Tells whole P → (g : LumaRefGeometry) → Exact (lumaNumber whole g) (lumaTable P g)
+pub luma-number : {whole : Bool} {P : Type 0} → Tells whole P → (g : LumaRefGeometry) → Exact (lumaNumber whole g) (lumaTable P g)
 luma-number t g =
     exact-row (depth (g .bits)) refl
     (λ e. exact-row (size (g .n)) refl
@@ -230,7 +230,7 @@ chromaTable P g =
     (1 when ¬ Depth (g .bits)) ∷ (2 when ¬ Size (g .n)) ∷ (4 when BadPicture (chromaPicture g) or g .format < 1 or 3 < g .format) ∷ (5 when P)
     ∷ (6 when BadChroma (chromaBlock g) (64 < g .n)) ∷ []
 
-chroma-number : {whole : Bool} {P : Type 0} → Tells whole P → (g : ChromaRefGeometry) → Exact (chromaNumber whole g) (chromaTable P g)
+pub chroma-number : {whole : Bool} {P : Type 0} → Tells whole P → (g : ChromaRefGeometry) → Exact (chromaNumber whole g) (chromaTable P g)
 chroma-number t g =
     exact-row (depth (g .bits)) refl
     (λ e. exact-row (size (g .n)) refl

@@ -196,7 +196,7 @@ check-plan-bytes f b =
     rows = planRows f (recordsOf b) []
 
 -- a test of every entry
-every-one : {A : Type 0} (d : A) {test : A → Bool} {P : A → Type 0} → ((x : A) → Tells (test x) (P x)) → (l : List A) → Tells (every test l) (Some d P l)
+pub every-one : {A : Type 0} (d : A) {test : A → Bool} {P : A → Type 0} → ((x : A) → Tells (test x) (P x)) → (l : List A) → Tells (every test l) (Some d P l)
 unfolding every
 every-one d t [] = record { passed = λ e h. not-suc-le-zero (h .1 .0); failed = λ e. absurd (true≢false e) }
 every-one {A} d {test} {P} t (x ∷ l) =
@@ -216,10 +216,10 @@ module _ (s : Still) (plan : Plan) (p : Progress) where
   last = about (cond (leb (p .done) (plan .count)) 0 11) 0
 
   -- the verdict by the number of the checks before the blocks
-  abbrev from : ℕ → Verdict
+  abbrev pub from : ℕ → Verdict
   from early = cond (eqb early 0) (cond (eqb (blocksVerdict (s .frame) plan .no) 0) last (blocksVerdict (s .frame) plan)) (about early 0)
 
-  last-first : pictureOk (pictureOf (s .frame)) ≡ true → FirstBy done from 0 lastRows
+  pub last-first : pictureOk (pictureOf (s .frame)) ≡ true → FirstBy done from 0 lastRows
   last-first ok = record { first = blocks-first (s .frame) plan ok last _ (eleven .first) }
     where
       eleven : FirstBy done (λ (x : ℕ). about x 0) (cond (leb (p .done) (plan .count)) 0 11) ((about 11 0 when plan .count < p .done) ∷ [])
@@ -246,10 +246,19 @@ module _ (s : Still) (plan : Plan) (p : Progress) where
       go true e = h (eqb-true (w .no) 0 e)
       go false e = refl
 
-  answer-exact : (early : ℕ) (grant : ℕ) (rows : List (Row Verdict)) → FirstBy done from early rows → ExactFirst done (verdictIn (steppedBy (verdictOf s plan p early) plan p grant)) rows
+  given-by : (early : ℕ) (a : Verdict) (rows : List (Row Verdict)) → a ≡ verdictOf s plan p early → FirstBy done from early rows → ExactFirst done a rows
   unfolding verdictOf
-  answer-exact early grant rows h =
-      first-exact done _ rows (subst (λ (w : Verdict). First done w rows) (sym (holds-verdict (verdictOf s plan p early) (names-none early) grant)) (h .first))
+  given-by early a rows e h = first-exact done a rows (subst (λ (w : Verdict). First done w rows) (sym e) (h .first))
+
+  -- the number and the block of an answer, and a number beside the block of an answer
+  answer-exact : (early grant : ℕ) (rows : List (Row Verdict)) → FirstBy done from early rows → ExactFirst done (verdictIn (steppedBy (verdictOf s plan p early) plan p grant)) rows
+  answer-exact early grant rows h = given-by early _ rows (holds-verdict (verdictOf s plan p early) (names-none early) grant) h
+
+  pub number-exact : (early grant : ℕ) (rows : List (Row Verdict)) → FirstBy done from early rows
+      → ExactFirst done (about (verdictOf s plan p early .no) (steppedBy (verdictOf s plan p early) plan p grant .block)) rows
+  number-exact early grant rows h =
+      let w = verdictOf s plan p early in
+      given-by early _ rows (ap (λ (v : Verdict). about (w .no) (v .block)) (holds-verdict w (names-none early) grant)) h
 
   whole-plane : (len : ℕ) → Tells (whole s len) (BadPlane s len)
   whole-plane len = same len (s .frame .height * s .frame .width)
