@@ -187,7 +187,7 @@ fn picture_ok(f: Frame) -> bool
 }
 
 // The first rule that a plan breaks, its picture's first, then its blocks' in list order, then that they cover all.
-pub fn check_plan(frame: Frame, plan: &[[u32; 4]]) -> Verdict
+pub fn check_plan_numbers(frame: Frame, plan: &[[u32; 4]]) -> Verdict
     ensures { λ r. ⌜ r ≡ planVerdict frame (planOf (now (plan .entry))) ⌝ }
 {
     if !picture_ok(frame) {

@@ -40,7 +40,7 @@ use Rattle.smooth.proofs.filter_luma_refs.Reads as smooth-filter-luma-refs
 use Rattle.refs.proofs.substitute_refs.Reads as refs-substitute-refs
 use Rattle.refs.proofs.get_reference_samples.Reads as refs-get-reference-samples
 use Rattle.refs.proofs.get_reference_samples_chroma_pair.Reads as refs-get-reference-samples-chroma-pair
-use Rattle.plan.proofs.check_plan.Reads as plan-check-plan
+use Rattle.plan.proofs.check_plan_numbers.Reads as plan-check-plan-numbers
 use Rattle.walk.proofs.Progress.fresh.Reads as walk-fresh
 use Rattle.probes.proofs.salvrunde_probe_depth.Reads as probes-salvrunde-probe-depth
 use Rattle.probes.proofs.salvrunde_probe_format.Reads as probes-salvrunde-probe-format
@@ -69,8 +69,8 @@ use Rattle.probes.proofs.salvrunde_probe_predict_chroma_tb_slices.Reads as prob
 use Rattle.probes.proofs.salvrunde_probe_predict_luma_tb_slices.Reads as probes-salvrunde-probe-predict-luma-tb-slices
 use Rattle.probes.proofs.salvrunde_probe_compute_residual_i32_into.Reads as probes-salvrunde-probe-compute-residual-i32-into
 use Rattle.probes.proofs.salvrunde_probe_reconstruct_into.Reads as probes-salvrunde-probe-reconstruct-into
-use Rattle.walk.proofs.Progress.replay.Reads as walk-replay
-use Rattle.walk.proofs.Progress.walk.Reads as walk-walk
+use Rattle.walk.proofs.Progress.replay_numbers.Reads as walk-replay-numbers
+use Rattle.walk.proofs.Progress.walk_numbers.Reads as walk-walk-numbers
 
 -- at most one answer meets a contract
 abbrev Once : {A X S : Type 0} → (A → X → S → Type 0) → Type 0
@@ -188,8 +188,8 @@ refs-get-reference-samples-chroma-pair-once : (κs : Lfts 2) → Once (refs-get-
 refs-get-reference-samples-chroma-pair-once κs a x y s t p q = p ∙ sym q
 
 -- plan
-plan-check-plan-once : (κs : Lfts 1) → Once (plan-check-plan.Post κs)
-plan-check-plan-once κs a x y s t p q = p ∙ sym q
+plan-check-plan-numbers-once : (κs : Lfts 1) → Once (plan-check-plan-numbers.Post κs)
+plan-check-plan-numbers-once κs a x y s t p q = p ∙ sym q
 
 -- walk
 walk-fresh-once : Once (walk-fresh.Post tt)
@@ -283,8 +283,8 @@ probes-salvrunde-probe-reconstruct-into-once : (κs : Lfts 3) → OnceLeft (λ s
 probes-salvrunde-probe-reconstruct-into-once κs a x y s t p q = (p .0 ∙ sym (q .0), p .1 ∙ sym (q .1))
 
 -- walk
-walk-replay-once : (κs : Lfts 6) → OnceLeft (λ s. now (s .1 .1 .1 .1 .0)) (walk-replay.Post κs)
-walk-replay-once κs a x y s t p q = (p .0 ∙ sym (q .0), p .1 .0 ∙ sym (q .1 .0))
+walk-replay-numbers-once : (κs : Lfts 6) → OnceLeft (λ s. now (s .1 .1 .1 .1 .0)) (walk-replay-numbers.Post κs)
+walk-replay-numbers-once κs a x y s t p q = (p .0 ∙ sym (q .0), p .1 .0 ∙ sym (q .1 .0))
 
-walk-walk-once : (κs : Lfts 7) → OnceLeft {L = World} (λ s. record { work = now (s .1 .1 .1 .1 .0); residuals = now (s .1 .1 .1 .1 .1 .0) }) (walk-walk.Post κs)
-walk-walk-once κs a x y s t p q = (p .0 ∙ sym (q .0), p .1 .0 ∙ sym (q .1 .0))
+walk-walk-numbers-once : (κs : Lfts 7) → OnceLeft {L = World} (λ s. record { work = now (s .1 .1 .1 .1 .0); residuals = now (s .1 .1 .1 .1 .1 .0) }) (walk-walk-numbers.Post κs)
+walk-walk-numbers-once κs a x y s t p q = (p .0 ∙ sym (q .0), p .1 .0 ∙ sym (q .1 .0))

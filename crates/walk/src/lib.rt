@@ -345,7 +345,7 @@ fn verdict_of(s: Still, plan: &[[u32; 4]], p: Progress, early: u32) -> Verdict
             block: 0,
         };
     }
-    let v = plan::check_plan(s.frame, plan);
+    let v = plan::check_plan_numbers(s.frame, plan);
     if v.no != 0 {
         return v;
     }
@@ -570,7 +570,7 @@ impl Progress {
     }
 
     // Decodes the next blocks of a plan from their residuals, as many as are granted.
-    pub fn replay(
+    pub fn replay_numbers(
         self,
         still: Still,
         plan: &[[u32; 4]],
@@ -611,7 +611,7 @@ impl Progress {
     }
 
     // Stores the residuals of the next blocks of a plan, as many as are granted, and reconstructs them in the work plane.
-    pub fn walk(
+    pub fn walk_numbers(
         self,
         still: Still,
         plan: &[[u32; 4]],

@@ -1,4 +1,4 @@
--- `walk::Progress::replay` meets its contract. Every check precedes the first write; then the blocks. Rests on the loop over the blocks and on the verdict.
+-- `walk::Progress::replay_numbers` meets its contract. Every check precedes the first write; then the blocks. Rests on the loop over the blocks and on the verdict.
 use mathlib.Core.Path.{refl, sym, ap, _∙_}
 use native.Mathlib.Omega.{arith}
 use lib.ListN.{length}
@@ -8,8 +8,8 @@ use Rattle.walk.specs.declared.Stepped.{Stepped}
 use Rattle.walk.specs.Door.{every, residualOk, replayVerdict}
 use Rattle.walk.specs.Laws.{replayFits, good-call, replay-verdict, replay-sound, replay-kept, replay-done, count-small, refused-is, stepped-is}
 use borrow.Author.Needs.{needs}
-use Rattle.walk.proofs.Progress.replay.Statement.{statement}
-use Rattle.walk.proofs.Progress.replay.Tie as tie
+use Rattle.walk.proofs.Progress.replay_numbers.Statement.{statement}
+use Rattle.walk.proofs.Progress.replay_numbers.Tie as tie
 
 replay-no-requires : tie.Need-replay-no-requires
 replay-no-requires c κs = search needs
@@ -83,8 +83,8 @@ returns-2 c =
     let q = replay-sound (a .still) (planOf (a .plan .now)) (record { refs = length (a .refs .now); indices = length (a .indices .now); fractions = length (a .fractions .now) }) (a .self) (length (a .plane .now)) (a .residuals .now) z in
     (c .step-of .ensures ∙ stepped-is (replayVerdict (a .still) (planOf (a .plan .now)) (record { refs = length (a .refs .now); indices = length (a .indices .now); fractions = length (a .fractions .now) }) (a .self) (length (a .plane .now)) (a .residuals .now)) (planOf (a .plan .now)) (a .self) (a .grant) _ z (c .before .before .before .before .before .before .before .before .before .before .before .before .before .before .before .doing-of .ensures), (replay-done (a .still) (planOf (a .plan .now)) (record { refs = length (a .refs .now); indices = length (a .indices .now); fractions = length (a .fractions .now) }) (a .self) (a .grant) (a .residuals .now) (a .plane .now) _ _ z (c .before .before .before .before .before .before .before .before .before .before .before .before .before .before .before .doing-of .ensures) (c .before .before .before .before .before .before .before .before .before .replay-blocks .ensures), λ x. absurd (x (ap (λ (r : Stepped). r .no) (c .step-of .ensures)))))
 
-pub replay-spec : {M : Type 1} → statement M
-replay-spec = tie.close (tie.spec
+pub replay-numbers-spec : {M : Type 1} → statement M
+replay-numbers-spec = tie.close (tie.spec
     replay-no-requires
     verdict-of-requires
     refusal-requires

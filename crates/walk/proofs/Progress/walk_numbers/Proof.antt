@@ -1,4 +1,4 @@
--- `walk::Progress::walk` meets its contract. Every check precedes the first write; then the blocks. Rests on the loop over the blocks and on the verdict.
+-- `walk::Progress::walk_numbers` meets its contract. Every check precedes the first write; then the blocks. Rests on the loop over the blocks and on the verdict.
 use mathlib.Core.Path.{refl, sym, ap, _∙_}
 use native.Mathlib.Omega.{arith}
 use lib.ListN.{length}
@@ -11,8 +11,8 @@ use Rattle.walk.specs.Block.{largestOf}
 use Rattle.walk.specs.Door.{every, walkVerdict}
 use Rattle.walk.specs.Laws.{walkFits, good-call, walk-verdict, walk-sound, walk-kept, walk-done, count-small, refused-is, stepped-is}
 use borrow.Author.Needs.{needs}
-use Rattle.walk.proofs.Progress.walk.Statement.{statement}
-use Rattle.walk.proofs.Progress.walk.Tie as tie
+use Rattle.walk.proofs.Progress.walk_numbers.Statement.{statement}
+use Rattle.walk.proofs.Progress.walk_numbers.Tie as tie
 
 walk-no-requires : tie.Need-walk-no-requires
 walk-no-requires c κs = search needs
@@ -89,8 +89,8 @@ returns-2 c =
     let q = walk-sound (a .still) (planOf (a .plan .now)) (record { refs = length (a .refs .now); indices = length (a .indices .now); fractions = length (a .fractions .now) }) (a .self) (a .source .now) (record { work = a .work .now; residuals = a .residuals .now }) z in
     (c .step-of .ensures ∙ stepped-is (walkVerdict (a .still) (planOf (a .plan .now)) (record { refs = length (a .refs .now); indices = length (a .indices .now); fractions = length (a .fractions .now) }) (a .self) (a .source .now) (record { work = a .work .now; residuals = a .residuals .now })) (planOf (a .plan .now)) (a .self) (a .grant) _ z (c .before .before .before .before .before .before .before .before .before .before .before .before .before .before .before .before .before .doing-of .ensures), (walk-done (a .still) (planOf (a .plan .now)) (record { refs = length (a .refs .now); indices = length (a .indices .now); fractions = length (a .fractions .now) }) (a .self) (a .grant) (a .source .now) (record { work = a .work .now; residuals = a .residuals .now }) _ _ z (c .before .before .before .before .before .before .before .before .before .before .before .before .before .before .before .before .before .doing-of .ensures) (c .before .before .before .before .before .before .before .before .before .before .walk-blocks .ensures), λ x. absurd (x (ap (λ (r : Stepped). r .no) (c .step-of .ensures)))))
 
-pub walk-spec : {M : Type 1} → statement M
-walk-spec = tie.close (tie.spec
+pub walk-numbers-spec : {M : Type 1} → statement M
+walk-numbers-spec = tie.close (tie.spec
     walk-no-requires
     verdict-of-requires
     refusal-requires
