@@ -20,6 +20,7 @@ ghost use Rattle.h265.specs.Prediction.{predSamples};
 ghost use Rattle.rows.specs.Neighbours.{neighboursOf};
 ghost use Rattle.predict.specs.Door.{predictNo};
 ghost use Rattle.predict.specs.Contents.{chromaAt};
+ghost use Rattle.scratch.specs.Lent.{withScratch};
 ghost use Rattle.probes.specs.Probes.{pictureOf, substituteAnswer, gatherAnswer, pairAnswer, planAnswer};
 use fmt::BitDepth;
 use fmt::ChromaCol;
@@ -554,6 +555,67 @@ pub extern "C" fn salvrunde_probe_predict_luma_tb_slices(
         &mut *indices,
         &mut *fractions,
     )
+}
+
+// The same three through the struct of the scratch's tables, which each makes for itself.
+#[no_mangle]
+pub extern "C" fn salvrunde_probe_predict_angular_scratch(
+    corner: u16,
+    above: &[u16],
+    left: &[u16],
+    n: usize,
+    mode: u8,
+    filter_boundary: bool,
+    bits: u32,
+    pred: &mut [u16],
+) -> u32
+    ensures { λ r. ⌜ (r ≡ angularNo bits n mode (withScratch (length (now (above .entry))) (length (now (left .entry))) (length (now (pred .entry))))) × (now (pred .exit) ≡ served r (block (λ (y x : ℕ). angular bits «filter_boundary» n mode (fromRows corner (now (above .entry)) (now (left .entry))) x y) n (now (pred .entry))) (now (pred .entry))) ⌝ }
+{
+    scratch::predict_angular_fresh(
+        corner,
+        above,
+        left,
+        n,
+        mode,
+        filter_boundary,
+        bits,
+        &mut *pred,
+    )
+}
+
+#[no_mangle]
+pub extern "C" fn salvrunde_probe_predict_chroma_tb_scratch(
+    mode: u8,
+    corner: u16,
+    above: &[u16],
+    left: &[u16],
+    n: usize,
+    bits: u32,
+    pred: &mut [u16],
+) -> u32
+    ensures { λ r. ⌜ (r ≡ predictNo bits n mode (withScratch (length (now (above .entry))) (length (now (left .entry))) (length (now (pred .entry))))) × (now (pred .exit) ≡ served r (block (λ (y x : ℕ). predSamples (chromaAt bits) (first true) n mode (fromRows corner (now (above .entry)) (now (left .entry))) x y) n (now (pred .entry))) (now (pred .entry))) ⌝ }
+{
+    scratch::predict_chroma_tb_fresh(mode, corner, above, left, n, bits, &mut *pred)
+}
+
+#[no_mangle]
+pub extern "C" fn salvrunde_probe_predict_luma_tb_scratch(
+    mode: u8,
+    corner: u16,
+    above: &[u16; 65],
+    left: &[u16; 65],
+    n: usize,
+    bits: u32,
+    pred: &mut [u16],
+) -> u32
+    ensures { λ r. ⌜ (r ≡ predictNo bits n mode (withScratch 65 65 (length (now (pred .entry))))) × (now (pred .exit) ≡ served r (block (λ (y x : ℕ). predSamples (lumaAt bits) (first true) n mode (neighboursOf (record { corner = corner; above = now (above .entry); left = now (left .entry) })) x y) n (now (pred .entry))) (now (pred .entry))) ⌝ }
+{
+    let rows = Rows {
+        corner,
+        above: *above,
+        left: *left,
+    };
+    scratch::predict_luma_tb_fresh(mode, rows, n, bits, &mut *pred)
 }
 
 // A plan's number, and the list number of the block that it is about.

@@ -25,16 +25,14 @@ struct Block {
 }
 
 impl Block {
-    fn number(&self) -> u32 {
-        let lent = table::rows(self.above.len(), self.left.len())
-            && table::block(self.n, self.pred.len())
-            && table::scratch(self.refs, self.indices, self.fractions);
+    fn number(&self, tables: bool) -> u32 {
+        let lent = table::rows(self.above.len(), self.left.len()) && table::block(self.n, self.pred.len()) && tables;
         table::first(&[(1, table::depth(self.bits)), (2, table::size(self.n)), (3, table::mode(self.mode)), (5, lent)])
     }
 
-    /// The number, and the block's buffer afterwards.
-    fn answer(&self, scratch: &mut AngularScratch) -> (u32, Vec<u16>) {
-        let (no, mut pred) = (self.number(), self.pred.clone());
+    /// The number, and the block's buffer afterwards, with tables that are long enough or not.
+    fn answer(&self, tables: bool, scratch: &mut AngularScratch) -> (u32, Vec<u16>) {
+        let (no, mut pred) = (self.number(tables), self.pred.clone());
         if no == 0 && self.luma {
             self.luma_into(&mut pred, scratch);
         } else if no == 0 {
@@ -85,7 +83,7 @@ impl Block {
 }
 
 fn ask(t: &mut Tally, call: &Block, scratch: &mut AngularScratch, random: &mut Random) {
-    let (no, after) = call.answer(scratch);
+    let (no, after) = call.answer(table::scratch(call.refs, call.indices, call.fractions), scratch);
     let (up, side, pred) = (bytes(&call.above), bytes(&call.left), bytes(&call.pred));
     let refs = bytes(&dirt(call.refs, random));
     let [indices, fractions] = [call.indices, call.fractions].map(|k| bytes_32(&dirt_32(k, random)));
@@ -99,11 +97,12 @@ fn ask(t: &mut Tally, call: &Block, scratch: &mut AngularScratch, random: &mut R
     if !call.luma {
         args.push(Number(call.left.len() as u64));
     }
+    args.extend([Number(call.n as u64), Number(call.bits as u64), Lent(&pred), Number(call.pred.len() as u64)]);
+    // through the struct, whose tables are long enough by their type
+    let (whole, left) = call.answer(true, scratch);
+    let name = if call.luma { "salvrunde_probe_predict_luma_tb_scratch" } else { "salvrunde_probe_predict_chroma_tb_scratch" };
+    t.call(name, &args, Want::fields(&[whole]).then(bytes(&left)));
     args.extend([
-        Number(call.n as u64),
-        Number(call.bits as u64),
-        Lent(&pred),
-        Number(call.pred.len() as u64),
         lend(&refs),
         Number(call.refs as u64),
         lend(&indices),

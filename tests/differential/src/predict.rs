@@ -119,18 +119,21 @@ impl Angular {
         Angular { corner, rows, mode, edge, bits, refs: 193, indices: 32, fractions: 32 }
     }
 
-    fn number(&self) -> u32 {
+    fn number(&self, tables: bool) -> u32 {
         let Flat { above, left, n, pred } = &self.rows;
-        let lent = table::rows(above.len(), left.len())
-            && table::block(*n, pred.len())
-            && table::scratch(self.refs, self.indices, self.fractions);
+        let lent = table::rows(above.len(), left.len()) && table::block(*n, pred.len()) && tables;
         table::first(&[(1, table::depth(self.bits)), (2, table::size(*n)), (3, table::angular(self.mode)), (5, lent)])
     }
 
     /// The number, and the block's buffer afterwards. The Rust's scratch is what its earlier calls left.
     pub fn answer(&self, scratch: &mut AngularScratch) -> (u32, Vec<u16>) {
+        self.with_tables(table::scratch(self.refs, self.indices, self.fractions), scratch)
+    }
+
+    /// The same, with tables that are long enough or not.
+    fn with_tables(&self, tables: bool, scratch: &mut AngularScratch) -> (u32, Vec<u16>) {
         let Flat { above, left, n, pred } = &self.rows;
-        let (no, mut after) = (self.number(), pred.clone());
+        let (no, mut after) = (self.number(tables), pred.clone());
         if no == 0 {
             let top = largest(self.bits) as i32;
             intra::predict_angular_into(self.corner, above, left, *n, self.mode, self.edge, top, &mut after, scratch);
@@ -171,6 +174,9 @@ pub fn ask_angular(t: &mut Tally, call: &Angular, scratch: &mut AngularScratch, 
         want = want.then(refs.clone()).then(indices.clone()).then(fractions.clone());
     }
     t.call("salvrunde_probe_predict_angular_slices", &args, want);
+    // the same through the struct, whose tables are long enough by their type
+    let (no, after) = call.with_tables(true, scratch);
+    t.call("salvrunde_probe_predict_angular_scratch", &args[..11], Want::fields(&[no]).then(bytes(&after)));
 }
 
 pub fn angular(t: &mut Tally) {

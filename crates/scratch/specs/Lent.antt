@@ -1,0 +1,13 @@
+-- What a call with the scratch struct lends: its tables have the lengths of their types, so only the rows and the block can be short. Assumes nothing.
+use Prim.Native.Nat.{ℕ}
+use lib.ListN.{replicate}
+use Rattle.angular.specs.Door.{Lent}
+use Rattle.scratch.specs.declared.AngularScratch.{AngularScratch}
+
+-- the lengths: the row above, the row to the left, the block, and the scratch's tables
+abbrev pub withScratch : ℕ → ℕ → ℕ → Lent
+withScratch above left pred = record { above = above; left = left; pred = pred; refs = 193; indices = 32; fractions = 32 }
+
+-- a new scratch
+abbrev pub zeroScratch : AngularScratch
+zeroScratch = record { refs = replicate 193 0; indices = replicate 32 0; fractions = replicate 32 0 }
