@@ -9,9 +9,10 @@ ghost use Rattle.h265.specs.Notation.{log2};
 ghost use Rattle.domain.specs.Facts.{Size, Ctu};
 ghost use Rattle.order.specs.Order.{pictureOk};
 ghost use Rattle.order.specs.Good.{Good};
-ghost use Rattle.plan.specs.Plan.{pictureOf, planOf, In};
+ghost use Rattle.plan.specs.Plan.{pictureOf, planOf, listed, In};
 ghost use Rattle.plan.specs.Records.{recordAt, recordsOf, bytesVerdict};
 ghost use Rattle.plan.specs.Check.{aheadBy, ahead, placedOk, blockNo, blocksVerdict, planVerdict};
+ghost use Rattle.plan.specs.Standing.{Small, startOf, stepOf, endOf};
 
 // A still's luma sides and its CTU; its least unit is 4.
 pub struct Frame {
@@ -188,7 +189,7 @@ fn picture_ok(f: Frame) -> bool
 }
 
 // The first rule that a plan breaks, its picture's first, then its blocks' in list order, then that they cover all.
-pub fn check_plan(frame: Frame, plan: &[[u32; 4]]) -> Verdict
+pub fn check_plan_numbers(frame: Frame, plan: &[[u32; 4]]) -> Verdict
     ensures { λ r. ⌜ r ≡ planVerdict frame (planOf (now (plan .entry))) ⌝ }
 {
     if !picture_ok(frame) {
@@ -253,4 +254,75 @@ pub fn check_plan_bytes(frame: Frame, plan: &[u8]) -> Verdict
         return Verdict { no: 5, block: 0 };
     }
     check_records(frame, plan)
+}
+
+// Where the check of a plan's records stands: the first refusal, its block, and the samples covered before it.
+struct Checking {
+    no: u32,
+    block: u32,
+    covered: usize,
+}
+
+// No block is looked at.
+fn check_start(f: Frame) -> Checking
+    ensures { λ r. ⌜ r ≡ startOf f ⌝ }
+{
+    let no = if picture_ok(f) { 0 } else { 4 };
+    Checking {
+        no,
+        block: 0,
+        covered: 0,
+    }
+}
+
+// Block i is looked at, unless one before it is refused.
+fn check_step(f: Frame, t: Checking, b: Block, i: usize) -> Checking
+    requires { ⌜ Small f t i ⌝ }
+    ensures { λ r. ⌜ r ≡ stepOf f t b i ⌝ }
+{
+    if t.no != 0 {
+        return t;
+    }
+    let no = block_no(f, b, t.covered);
+    if no != 0 {
+        return Checking {
+            no,
+            block: i as u32,
+            covered: t.covered,
+        };
+    }
+    let n = b.side as usize;
+    Checking {
+        no: 0,
+        block: 0,
+        covered: t.covered + n * n,
+    }
+}
+
+// Every block is looked at.
+fn check_end(f: Frame, t: Checking) -> Verdict
+    ensures { λ r. ⌜ r ≡ endOf f t ⌝ }
+{
+    if t.no != 0 {
+        return Verdict {
+            no: t.no,
+            block: t.block,
+        };
+    }
+    let area = (f.height as usize) * (f.width as usize);
+    let no = if t.covered == area { 0 } else { 10 };
+    Verdict { no, block: 0 }
+}
+
+// The same of a list of block records.
+pub fn check_plan(frame: Frame, plan: &[Block]) -> Verdict
+    ensures { λ r. ⌜ r ≡ planVerdict frame (listed (now (plan .entry))) ⌝ }
+{
+    let mut t = check_start(frame);
+    let mut i: usize = 0;
+    while i < plan.len() {
+        t = check_step(frame, t, plan[i], i);
+        i += 1;
+    }
+    check_end(frame, t)
 }

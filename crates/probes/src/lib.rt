@@ -639,7 +639,7 @@ pub extern "C" fn salvrunde_probe_check_plan(
 ) -> PlanAnswer
     ensures { λ r. ⌜ r ≡ planAnswer width height ctu (now (plan .entry)) ⌝ }
 {
-    let a = plan::check_plan(Frame { width, height, ctu }, plan);
+    let a = plan::check_plan_numbers(Frame { width, height, ctu }, plan);
     PlanAnswer {
         no: a.no,
         block: a.block,
