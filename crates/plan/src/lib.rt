@@ -11,7 +11,7 @@ ghost use Rattle.order.specs.Order.{pictureOk};
 ghost use Rattle.order.specs.Good.{Good};
 ghost use Rattle.plan.specs.Plan.{pictureOf, planOf, listed, In};
 ghost use Rattle.plan.specs.Records.{recordAt, recordsOf, bytesVerdict};
-ghost use Rattle.plan.specs.Check.{aheadBy, ahead, placedOk, blockNo, blocksVerdict, planVerdict};
+ghost use Rattle.plan.specs.Check.{aheadBy, ahead, placedOk, blockNo, planVerdict};
 ghost use Rattle.plan.specs.Standing.{Small, startOf, stepOf, endOf};
 
 // A still's luma sides and its CTU; its least unit is 4.
@@ -157,45 +157,11 @@ fn block_at(plan: &[[u32; 4]], i: usize) -> Block
     }
 }
 
-// The verdict on a good picture's blocks.
-fn check_blocks(f: Frame, plan: &[[u32; 4]]) -> Verdict
-    requires { ⌜ Good (pictureOf f) ⌝ }
-    ensures { λ r. ⌜ r ≡ blocksVerdict f (planOf (now (plan .entry))) ⌝ }
-{
-    let area = (f.height as usize) * (f.width as usize);
-    let count = plan.len();
-    let mut covered: usize = 0;
-    let mut i: usize = 0;
-    while i < count {
-        let b = block_at(plan, i);
-        let no = block_no(f, b, covered);
-        if no != 0 {
-            let block = i as u32;
-            return Verdict { no, block };
-        }
-        let n = b.side as usize;
-        covered += n * n;
-        i += 1;
-    }
-    let no = if covered == area { 0 } else { 10 };
-    Verdict { no, block: 0 }
-}
-
 // Number 4: whether the picture is not refused.
 fn picture_ok(f: Frame) -> bool
     ensures { λ r. ⌜ r ≡ pictureOk (pictureOf f) ⌝ }
 {
     domain::side_ok(f.width) & domain::side_ok(f.height) & domain::ctu_ok(f.ctu)
-}
-
-// The first rule that a plan breaks, its picture's first, then its blocks' in list order, then that they cover all.
-pub fn check_plan_numbers(frame: Frame, plan: &[[u32; 4]]) -> Verdict
-    ensures { λ r. ⌜ r ≡ planVerdict frame (planOf (now (plan .entry))) ⌝ }
-{
-    if !picture_ok(frame) {
-        return Verdict { no: 4, block: 0 };
-    }
-    check_blocks(frame, plan)
 }
 
 // Block i of a plan of bytes; zeros where there is none.
@@ -219,44 +185,7 @@ pub fn record_at(plan: &[u8], i: usize) -> Block
     }
 }
 
-// The verdict on a good picture's records.
-fn check_records(f: Frame, plan: &[u8]) -> Verdict
-    requires { ⌜ Good (pictureOf f) ⌝ }
-    ensures { λ r. ⌜ r ≡ blocksVerdict f (recordsOf (now (plan .entry))) ⌝ }
-{
-    let area = (f.height as usize) * (f.width as usize);
-    let count = plan.len() / 6;
-    let mut covered: usize = 0;
-    let mut i: usize = 0;
-    while i < count {
-        let b = record_at(plan, i);
-        let no = block_no(f, b, covered);
-        if no != 0 {
-            let block = i as u32;
-            return Verdict { no, block };
-        }
-        let n = b.side as usize;
-        covered += n * n;
-        i += 1;
-    }
-    let no = if covered == area { 0 } else { 10 };
-    Verdict { no, block: 0 }
-}
-
-// The plan check on bytes: also that they are whole records.
-pub fn check_plan_bytes(frame: Frame, plan: &[u8]) -> Verdict
-    ensures { λ r. ⌜ r ≡ bytesVerdict frame (now (plan .entry)) ⌝ }
-{
-    if !picture_ok(frame) {
-        return Verdict { no: 4, block: 0 };
-    }
-    if plan.len() % 6 != 0 {
-        return Verdict { no: 5, block: 0 };
-    }
-    check_records(frame, plan)
-}
-
-// Where the check of a plan's records stands: the first refusal, its block, and the samples covered before it.
+// Where the check of a plan stands: the first refusal, its block, and the samples covered before it.
 struct Checking {
     no: u32,
     block: u32,
@@ -314,6 +243,20 @@ fn check_end(f: Frame, t: Checking) -> Verdict
     Verdict { no, block: 0 }
 }
 
+// The first rule that a plan breaks, its picture's first, then its blocks' in list order, then that they cover all.
+pub fn check_plan_numbers(frame: Frame, plan: &[[u32; 4]]) -> Verdict
+    ensures { λ r. ⌜ r ≡ planVerdict frame (planOf (now (plan .entry))) ⌝ }
+{
+    let count = plan.len();
+    let mut t = check_start(frame);
+    let mut i: usize = 0;
+    while i < count {
+        t = check_step(frame, t, block_at(plan, i), i);
+        i += 1;
+    }
+    check_end(frame, t)
+}
+
 // The same of a list of block records.
 pub fn check_plan(frame: Frame, plan: &[Block]) -> Verdict
     ensures { λ r. ⌜ r ≡ planVerdict frame (listed (now (plan .entry))) ⌝ }
@@ -325,4 +268,31 @@ pub fn check_plan(frame: Frame, plan: &[Block]) -> Verdict
         i += 1;
     }
     check_end(frame, t)
+}
+
+// The same of the records that bytes spell.
+fn check_records(frame: Frame, plan: &[u8]) -> Verdict
+    ensures { λ r. ⌜ r ≡ planVerdict frame (recordsOf (now (plan .entry))) ⌝ }
+{
+    let count = plan.len() / 6;
+    let mut t = check_start(frame);
+    let mut i: usize = 0;
+    while i < count {
+        t = check_step(frame, t, record_at(plan, i), i);
+        i += 1;
+    }
+    check_end(frame, t)
+}
+
+// The plan check on bytes: also that they are whole records.
+pub fn check_plan_bytes(frame: Frame, plan: &[u8]) -> Verdict
+    ensures { λ r. ⌜ r ≡ bytesVerdict frame (now (plan .entry)) ⌝ }
+{
+    if !picture_ok(frame) {
+        return Verdict { no: 4, block: 0 };
+    }
+    if plan.len() % 6 != 0 {
+        return Verdict { no: 5, block: 0 };
+    }
+    check_records(frame, plan)
 }

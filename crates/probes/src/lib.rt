@@ -675,7 +675,7 @@ pub extern "C" fn salvrunde_probe_walk(
 {
     let frame = Frame { width, height, ctu };
     let p = Progress { done };
-    let a = p.walk(
+    let a = p.walk_numbers(
         Still { bits, frame },
         plan,
         source,
@@ -713,7 +713,7 @@ pub extern "C" fn salvrunde_probe_replay(
 {
     let frame = Frame { width, height, ctu };
     let p = Progress { done };
-    let a = p.replay(
+    let a = p.replay_numbers(
         Still { bits, frame },
         plan,
         residuals,

@@ -443,6 +443,10 @@ walk-replay-numbers-once κs a x y s t p q = (p .0 ∙ sym (q .0), p .1 .0 ∙ s
 walk-walk-numbers-once : (κs : Lfts 7) → OnceLeft {L = World} (λ s. record { work = now (s .1 .1 .1 .1 .0); residuals = now (s .1 .1 .1 .1 .1 .0) }) (walk-walk-numbers.Post κs)
 walk-walk-numbers-once κs a x y s t p q = (p .0 ∙ sym (q .0), p .1 .0 ∙ sym (q .1 .0))
 
+-- report
+report-report-once : (κs : Lfts 1) → Once (report-report.Post κs)
+report-report-once κs a x y s t p q = p ∙ sym q
+
 -- A function that is proved by hand has no such reading: its clause is an assertion of any model, and two answers that both meet it there are one.
 module _ {M : Type 1} (𝓤 : URA M) (H : Heap 𝓤) (A : Atoms 𝓤) (mem : Memory → SProp 𝓤) (run : Routine → Fun 𝓤) where
   abbrev OnceHeld : (T : Ended) (κs : Lfts (T .signature .lifetimes)) {L : Type 0} → (AtExit T κs → L) → Clauses 𝓤 T → Type 1
@@ -462,9 +466,6 @@ module _ {M : Type 1} (𝓤 : URA M) (H : Heap 𝓤) (A : Atoms 𝓤) (mem : Mem
   scratch-predict-luma-tb-into-once : (κs : Lfts 2) → OnceHeld scratch-predict-luma-tb-into.ended κs (λ s. now (s .1 .1 .1 .1 .0)) (scratch-predict-luma-tb-into.clauses 𝓤 H A mem run)
   scratch-predict-luma-tb-into-once κs a g x y s t = held-both _ _ _ (λ p q. by-number _ _ (p .0) (q .0) (p .1 .0) (q .1 .0))
 
--- report
-report-report-once : (κs : Lfts 1) → Once (report-report.Post κs)
-report-report-once κs a x y s t p q = p ∙ sym q
   -- plan
   plan-check-plan-once : (κs : Lfts 1) → OnceHeld plan-check-plan.ended κs (λ _. tt) (plan-check-plan.clauses 𝓤 H A mem run)
   plan-check-plan-once κs a g x y s t = held-both _ _ _ (λ p q. (p ∙ sym q, refl))
