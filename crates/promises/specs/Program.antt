@@ -1,10 +1,10 @@
 -- Document 01, 'The program': intrawalk never prints `differs`. Whatever its input, it prints a refusal, or the lines of all blocks and then `same`.
 -- Rests on demand 3.
-use mathlib.Core.Path.{_≡_, refl, sym, ap, _∙_}
-use mathlib.Core.Bool.{Bool, true, false, cond, _&&_}
+use mathlib.Core.Path.{_≡_, refl, ap}
+use mathlib.Core.Bool.{Bool, true, false, cond}
 use mathlib.Core.List.{List, [], _∷_, _++_}
 use mathlib.Core.Logic.{_⊎_, inl, inr}
-use Prim.Native.Nat.{ℕ, zero, suc, _+_, _*_, _≤_}
+use Prim.Native.Nat.{ℕ, zero, suc, _≤_}
 use native.Mathlib.Omega.{arith}
 use lib.Dec.{eqb}
 use lib.ListN.{length, getD, length-replicate}
@@ -13,7 +13,7 @@ use Rattle.laws.specs.Chain.{sum}
 use Rattle.report.specs.File.{fileOk}
 use Rattle.report.specs.Told.{tables, zeros, blank, verdict, residuals, replayed, agree, lines, refusal, ending, told, printed, jobOf}
 use Rattle.report.specs.Told.{Job as File}
-use Rattle.promises.specs.Calls.{Job, Served, fresh, calls, walkNo, walkCall, replayCall}
+use Rattle.promises.specs.Calls.{Job, calls}
 use Rattle.promises.specs.Chains.{sum-none, sum-more}
 use Rattle.promises.specs.Proof3.{demand-3}
 

@@ -6,11 +6,11 @@ use Prim.Native.Nat.{ℕ, zero, suc, _+_, _-_, _*_, _/_, _%_, _^_, _≤_, _<_}
 use native.Mathlib.Nat.{pow-succ', mul-le-mul}
 use native.Mathlib.Numerals.{add-one}
 use native.Mathlib.Omega.{arith}
-use lib.Dec.{leb, ltb, eqb}
+use lib.Dec.{ltb, eqb}
 use lib.ListN.{length, getD, set, take, drop, replicate, length-append, length-replicate, replicate-append-replicate}
 use lib.IntN.{ℤ, pos, natAbs}
 use lib.Seq.{take-at, drop-append-add, drop-drop, length-take-le, take-length, set-append-left, paste, paste-suc}
-use borrow.Author.Tests.{lt-ltb, le-ltb, ltb-true, ltb-false}
+use borrow.Author.Tests.{lt-ltb, ltb-true, ltb-false}
 use Rattle.io.specs.Digits.{digits, glyph, Fewest}
 use Rattle.laws.specs.Fill.{fill}
 use Rattle.laws.specs.FillLaws.{length-fill}
@@ -21,7 +21,7 @@ use Rattle.walk.specs.declared.Stepped.{Stepped}
 use Rattle.walk.specs.Block.{World}
 use Rattle.walk.specs.Door.{steppedBy, walkVerdict, walkAfter}
 use Rattle.walk.specs.Laws.{place-in}
-use Rattle.report.specs.Text.{spell, number, laid}
+use Rattle.report.specs.Text.{spell, laid}
 use Rattle.report.specs.Told.{Job, tables, fresh, agree, absolutes, line, lines}
 
 -- little-endian numbers of two bytes and of four

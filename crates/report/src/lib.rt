@@ -1,15 +1,14 @@
 // What intrawalk prints of its input (document 01, 'The program'): the whole text, from the bytes alone.
 // Rests on the contracts of walk and replay, and on the kit's for decimal numbers.
 ghost use mathlib.Core.Path.{_≡_};
-ghost use mathlib.Core.List.{[], _∷_, _++_};
 ghost use Prim.Native.Nat.{ℕ, _+_, _-_, _*_, _≤_, _<_};
-ghost use lib.ListN.{getD, replicate};
+ghost use lib.ListN.{replicate};
 ghost use lib.ListN.{length as count};
 ghost use lib.IntN.{pos, natAbs};
 ghost use Rattle.laws.specs.Fill.{fill};
 ghost use Rattle.laws.specs.Bytes.{leAt};
 ghost use Rattle.report.specs.File.{trailerOf, area, regionsOk, fileOk, stillOf, recordAt};
-ghost use Rattle.report.specs.Text.{number, laid};
+ghost use Rattle.report.specs.Text.{number};
 ghost use Rattle.plan.specs.Plan.{planOf};
 ghost use Rattle.walk.specs.Door.{replayAfter};
 ghost use Rattle.report.specs.Told.{tables, fresh, agree, line, lines, absolutes, refusal, ending, told, jobOf, printed, reportOf};

@@ -1,5 +1,4 @@
 -- `report::absolute` meets its contract.
-use native.Mathlib.Omega.{arith}
 use mir.Facts.{toZ-ofZ}
 use borrow.Author.Needs.{needs}
 use Rattle.report.proofs.absolute.Statement.{statement}

@@ -1,7 +1,7 @@
 -- `report::file_ok` meets its contract. Each way out has what its tests told.
 use lib.ListN.{length}
 use Prim.Native.Nat.{_-_}
-use mathlib.Core.Path.{_≡_, sym, ap, _∙_}
+use mathlib.Core.Path.{ap, _∙_}
 use borrow.Author.Tests.{le-leb, lt-leb}
 use Rattle.report.specs.declared.Trailer.{Trailer}
 use Rattle.report.specs.File.{fileOk, regionsOk}

@@ -1,9 +1,9 @@
 -- `report::lay_ending` meets its contract: a word, the count, and a word by the flag.
-use mathlib.Core.Path.{refl, sym, ap}
+use mathlib.Core.Path.{sym, ap}
 use mathlib.Core.Bool.{Bool}
 use native.Mathlib.Omega.{arith}
 use Rattle.report.specs.Told.{ending}
-use Rattle.report.specs.Laws.{Laid, then, said}
+use Rattle.report.specs.Laws.{then, said}
 use borrow.Author.Needs.{needs}
 use Rattle.report.proofs.lay_ending.Statement.{statement}
 use Rattle.report.proofs.lay_ending.Tie as tie

@@ -1,6 +1,6 @@
 -- `report::lay_line` meets its contract: five numbers, one after the other.
 use native.Mathlib.Omega.{arith}
-use Rattle.report.specs.Laws.{Laid, then}
+use Rattle.report.specs.Laws.{then}
 use borrow.Author.Needs.{needs}
 use Rattle.report.proofs.lay_line.Statement.{statement}
 use Rattle.report.proofs.lay_line.Tie as tie

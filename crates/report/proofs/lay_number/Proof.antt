@@ -1,10 +1,10 @@
 -- `report::lay_number` meets its contract. The kit's digits are those of the definition.
-use mathlib.Core.Path.{_≡_, refl, ap, _∙_}
+use mathlib.Core.Path.{ap}
 use mathlib.Core.List.{List, [], _∷_, _++_}
 use Prim.Native.Nat.{ℕ}
 use native.Mathlib.Omega.{arith}
-use Rattle.report.specs.Text.{spell, number}
-use Rattle.report.specs.Laws.{Laid, then, said, number-is, number-short}
+use Rattle.report.specs.Text.{number}
+use Rattle.report.specs.Laws.{then, said, number-is, number-short}
 use borrow.Author.Needs.{needs}
 use Rattle.report.proofs.lay_number.Statement.{statement}
 use Rattle.report.proofs.lay_number.Tie as tie

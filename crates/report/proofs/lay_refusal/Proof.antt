@@ -1,6 +1,6 @@
 -- `report::lay_refusal` meets its contract: a word and two numbers, one after the other.
 use native.Mathlib.Omega.{arith}
-use Rattle.report.specs.Laws.{Laid, then}
+use Rattle.report.specs.Laws.{then}
 use borrow.Author.Needs.{needs}
 use Rattle.report.proofs.lay_refusal.Statement.{statement}
 use Rattle.report.proofs.lay_refusal.Tie as tie

@@ -1,7 +1,6 @@
 -- `report::tell_file` meets its contract. The parts of the arrays are what the file asks to be walked, and zeros.
-use mathlib.Core.Path.{refl, sym, ap, _∙_}
+use mathlib.Core.Path.{sym, ap}
 use native.Mathlib.Omega.{arith}
-use Prim.Native.Nat.{ℕ, _≤_}
 use lib.ListN.{replicate}
 use lib.IntN.{pos}
 use Rattle.report.specs.Told.{told}

@@ -1,5 +1,4 @@
 -- `report::trailer_of` meets its contract, field by field.
-use mathlib.Core.Path.{refl}
 use borrow.Author.Needs.{needs}
 use Rattle.report.proofs.trailer_of.Statement.{statement}
 use Rattle.report.proofs.trailer_of.Tie as tie
