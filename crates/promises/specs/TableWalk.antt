@@ -1,4 +1,4 @@
--- Document 01, 'The numbers a call gives back', where a number carries a block: the plan check (`check-plan`, on bytes `check-plan-bytes`), walk (`walk`) and replay (`replay`). The rows are in
+-- Document 01, 'The numbers a call gives back', where a number carries a block: the plan check (`check-plan`, on bytes `check-plan-bytes`), walk (`walk`) and replay (`replay`, on bytes `replay-bytes`). The rows are in
 -- the order of the checks, the blocks' in list order, and the answer is given exactly when it is that of the first row that holds. Rests on
 -- Exact and on what the plan's verdict tells.
 use mathlib.Core.Path.{_≡_, refl, sym, ap, subst}
@@ -28,6 +28,8 @@ use Rattle.walk.specs.declared.Progress.{Progress}
 use Rattle.walk.specs.declared.Stepped.{Stepped}
 use Rattle.walk.specs.Block.{largestOf, World}
 use Rattle.walk.specs.Door.{every, whole, Tables, roomy, doing, verdictOf, steppedBy, replayVerdict, walkVerdict}
+use Rattle.bytes.specs.Bytes.{residualsOf}
+use Rattle.byte_replay.specs.Door.{Lent, wholeBy, byteVerdict, byteStep}
 use Rattle.promises.specs.Exact.{Row, _when_, _or_, First, ExactFirst, FirstBy, Tells, first-exact, first-test, first-row, all-of, at-most, same}
 use Rattle.promises.specs.Table.{BadPicture, BadPlace, depth, picture, placed}
 
@@ -64,9 +66,12 @@ planRows f l more = blockRows f (l .block) (l .count) 0 ((about 10 0 when Uncove
 abbrev pub Some : {A : Type 0} → A → (A → Type 0) → List A → Type 0
 Some d P l = (i : ℕ) × ((i < length l) × P (getD l i d))
 
--- number 5: a plane that is not the picture's size, and the scratch
+-- number 5: a plane that is not the picture's size, in samples or in bytes, and the scratch
 abbrev pub BadPlane : Still → ℕ → Type 0
 BadPlane s len = ¬ (len ≡ s .frame .height * s .frame .width)
+
+abbrev pub BadBytes : Still → ℕ → ℕ → Type 0
+BadBytes s each len = ¬ (len ≡ each * (s .frame .height * s .frame .width))
 
 abbrev pub BadTables : Tables → Type 0
 BadTables t = t .refs < 193 or t .indices < 32 or t .fractions < 32
@@ -286,3 +291,21 @@ module _ (s : Still) (plan : Plan) (p : Progress) where
       (λ e. first-row (picture (pictureOf (s .frame)))
       (λ ok. first-row (all-of (all-of (whole-plane (length plane)) (whole-plane (length residuals))) (tables t))
       (λ e. first-row (every-one (pos 0) (λ r. at-most (natAbs r) 65535) residuals) (λ e. last-first ok)))))
+
+-- byte_replay::replay, and the camera's entry: number 5 counts bytes, and is given for a plan that is not whole records and for a short result buffer too
+pub replay-bytes : (s : Still) (p : Progress) (l : Lent) (grant : ℕ)
+    → ExactFirst done (verdictIn (byteStep s p l grant))
+    ((about 1 0 when ¬ Depth (s .bits)) ∷ (about 4 0 when BadPicture (pictureOf (s .frame)))
+    ∷ (about 5 0 when BadBytes s 2 (l .plane) or BadBytes s 4 (length (l .residuals)) or ¬ (length (l .plan) % 6 ≡ 0) or l .result < 8)
+    ∷ (about 8 0 when Some (pos 0) (λ r. 65535 < natAbs r) (residualsOf (l .residuals)))
+    ∷ lastRows s (recordsOf (l .plan)) p)
+unfolding byteVerdict
+replay-bytes s p l grant =
+    answer-exact s (recordsOf (l .plan)) p _ grant _
+    (first-row (depth (s .bits))
+    (λ e. first-row (picture (pictureOf (s .frame)))
+    (λ ok. first-row (all-of (all-of (all-of (bytes 2 (l .plane)) (bytes 4 (length (l .residuals)))) (same (length (l .plan) % 6) 0)) (at-most 8 (l .result)))
+    (λ e. first-row (every-one (pos 0) (λ r. at-most (natAbs r) 65535) (residualsOf (l .residuals))) (λ e. last-first s (recordsOf (l .plan)) p ok)))))
+  where
+    bytes : (each len : ℕ) → Tells (wholeBy s each len) (BadBytes s each len)
+    bytes each len = same len (each * (s .frame .height * s .frame .width))
