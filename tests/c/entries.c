@@ -9,14 +9,15 @@
 
 #include "salvrunde.h"
 
-/* The doors, as crate probes exports them: a slice is a pointer and a count of elements. */
+/* The doors, as crate probes exports them: a slice is a pointer and a count of elements, and an answer of more than two words is
+ * written where a first argument points, which comes back. */
 struct references { uint32_t no; uint16_t corner, above[65], left[65]; };
 struct pair_references { uint32_t no; struct { uint16_t corner, above[65], left[65]; } planes[2]; };
 struct step { uint32_t no, block, did, done; };
-struct references salvrunde_probe_get_reference_samples(const uint16_t *plane, size_t plane_length, uint32_t bits, uint32_t width,
-    uint32_t height, uint32_t ctu, uint32_t unit, uint32_t row, uint32_t col, size_t n);
-struct pair_references salvrunde_probe_get_reference_samples_chroma_pair(const uint16_t *cb, size_t cb_length, const uint16_t *cr,
-    size_t cr_length, uint32_t bits, uint32_t format, uint32_t luma_w, uint32_t luma_h, uint32_t min_luma_pu, uint32_t row,
+struct references *salvrunde_probe_get_reference_samples(struct references *out, const uint16_t *plane, size_t plane_length, uint32_t bits,
+    uint32_t width, uint32_t height, uint32_t ctu, uint32_t unit, uint32_t row, uint32_t col, size_t n);
+struct pair_references *salvrunde_probe_get_reference_samples_chroma_pair(struct pair_references *out, const uint16_t *cb, size_t cb_length,
+    const uint16_t *cr, size_t cr_length, uint32_t bits, uint32_t format, uint32_t luma_w, uint32_t luma_h, uint32_t min_luma_pu, uint32_t row,
     uint32_t col, size_t n, uint32_t cur_row, uint32_t cur_col);
 uint32_t salvrunde_probe_predict_planar_into(const uint16_t *above, size_t above_length, const uint16_t *left, size_t left_length,
     size_t n, uint16_t *pred, size_t pred_length);
@@ -197,7 +198,8 @@ static void luma(void) {
     struct lent p = lend(about(2 * samples)), o = lend(about(262));
     uint16_t *plane = decoded(&p, samples);
     uint8_t bytes[262];
-    struct references r = salvrunde_probe_get_reference_samples(plane, samples, bits, width, height, ctu, unit, row, col, n);
+    struct references r;
+    salvrunde_probe_get_reference_samples(&r, plane, samples, bits, width, height, ctu, unit, row, col, n);
     no = salvrunde_luma_refs(bits, width, height, ctu, unit, row, col, n, p.bytes, p.length, o.bytes, o.length);
     calls++;
     wanted = with_5(r.no, p.length == 2 * samples && o.length >= 262);
@@ -218,7 +220,8 @@ static void chroma(void) {
     struct lent b = lend(about(2 * samples)), r = lend(about(2 * samples)), o = lend(about(524));
     uint16_t *cb = decoded(&b, samples), *cr = decoded(&r, samples);
     uint8_t bytes[524];
-    struct pair_references door = salvrunde_probe_get_reference_samples_chroma_pair(cb, samples, cr, samples, bits, format, width, height, unit,
+    struct pair_references door;
+    salvrunde_probe_get_reference_samples_chroma_pair(&door, cb, samples, cr, samples, bits, format, width, height, unit,
         row, col, n, cur_row, cur_col);
     no = salvrunde_chroma_refs(bits, format, width, height, unit, row, col, n, cur_row, cur_col, b.bytes, b.length, r.bytes, r.length, o.bytes, o.length);
     calls++;

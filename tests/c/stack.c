@@ -1,5 +1,5 @@
 /* How much stack each of the firmware's entries takes, on x86-64, with the archive as it is shipped: paints the stack below, calls, and looks how
- * far down the paint is gone. Needs no C library, so that the kit's compiler builds it on any processor and its emulator runs it. */
+ * far down the paint is gone. Needs start.c and no C library, so that the kit's compiler builds it on any processor and its emulator runs it. */
 #include <stddef.h>
 #include <stdint.h>
 
@@ -12,24 +12,10 @@ enum { WIDTH = 64, HEIGHT = 64, SAMPLES = WIDTH * HEIGHT, DEEP = 64 * 1024, PAIN
 static uint8_t plane[2 * SAMPLES], other[2 * SAMPLES], residuals[4 * SAMPLES], rows[524], above[130], left[130], block[2048], result[8];
 static uint8_t plan[6 * 4];
 
-__asm__(".globl _start\n_start:\n  xor %ebp, %ebp\n  and $-16, %rsp\n  call measure\n  hlt\n");
-
 static long system_call(long number, long a, long b, long c) {
     long r;
     __asm__ volatile("syscall" : "=a"(r) : "a"(number), "D"(a), "S"(b), "d"(c) : "rcx", "r11", "memory");
     return r;
-}
-
-void *memcpy(void *to, const void *from, size_t count) {
-    void *start = to;
-    __asm__ volatile("rep movsb" : "+D"(to), "+S"(from), "+c"(count) : : "memory");
-    return start;
-}
-
-void *memset(void *to, int byte, size_t count) {
-    void *start = to;
-    __asm__ volatile("rep stosb" : "+D"(to), "+c"(count) : "a"(byte) : "memory");
-    return start;
 }
 
 static void say(const char *text) {
@@ -84,7 +70,7 @@ static void tell(const char *name, uint32_t (*call)(void), uint32_t modes, word 
     if (greatest > most) over = 1;
 }
 
-void measure(void) {
+int main(void) {
     for (int i = 0; i < 4; i++) plan[6 * i] = (uint8_t)(i / 2 * 32), plan[6 * i + 2] = (uint8_t)(i % 2 * 32), plan[6 * i + 4] = 32;
     for (word i = 0; i < sizeof plane; i++) plane[i] = other[i] = (uint8_t)(i * 7);
     tell("luma_refs", luma, 0, 6144);
@@ -94,6 +80,5 @@ void measure(void) {
     tell("angular", angular, 33, 6144);
     tell("chroma_block", chroma_block, 33, 6144);
     tell("replay", replay, 33, 8192);
-    system_call(60, over, 0, 0);
-    for (;;) {}
+    return over;
 }

@@ -43,5 +43,19 @@ int main(void) {
     HOLDS(salvrunde_angular(10, 8, 258, 1, 1000, above, SALVRUNDE_ROW_BYTES, left, SALVRUNDE_ROW_BYTES, block, sizeof block) == SALVRUNDE_MODE);
     HOLDS(salvrunde_chroma_block(10, 8, 1, 1000, above, SALVRUNDE_ROW_BYTES, left, SALVRUNDE_ROW_BYTES, block, sizeof block) == SALVRUNDE_DONE);
     HOLDS(salvrunde_chroma_block(10, 8, 1, 1000, above, SALVRUNDE_ROW_BYTES - 1, left, SALVRUNDE_ROW_BYTES, block, sizeof block) == SALVRUNDE_BUFFER);
+
+    /* replay: two blocks of 8 by 8, one call each, then a plan that is not whole records and a record past the last block */
+    {
+        static const uint8_t plan[2 * SALVRUNDE_RECORD_BYTES] = {0, 0, 0, 0, 8, 1, 0, 0, 8, 0, 8, 1};
+        static uint8_t still[2 * 16 * 8], residuals[4 * 16 * 8], result[SALVRUNDE_RESULT_BYTES];
+        residuals[0] = 2;
+        HOLDS(salvrunde_replay(0, 8, 16, 8, 16, 1, plan, sizeof plan, residuals, sizeof residuals, still, sizeof still, result, sizeof result) == SALVRUNDE_DONE);
+        HOLDS(result[0] == 0 && result[4] == 1 && sample(still, 0) == 130 && sample(still, 1) == 128 && sample(still, 8) == 0);
+        HOLDS(salvrunde_replay(1, 8, 16, 8, 16, 9, plan, sizeof plan, residuals, sizeof residuals, still, sizeof still, result, sizeof result) == SALVRUNDE_DONE);
+        HOLDS(result[4] == 2 && sample(still, 8) == 128);
+        HOLDS(salvrunde_replay(1, 8, 16, 8, 16, 9, plan, 11, residuals, sizeof residuals, still, sizeof still, result, sizeof result) == SALVRUNDE_BUFFER);
+        HOLDS(salvrunde_replay(3, 8, 16, 8, 16, 9, plan, sizeof plan, residuals, sizeof residuals, still, sizeof still, result, sizeof result) == SALVRUNDE_START);
+        HOLDS(result[0] == 0 && result[4] == 3);
+    }
     return 0;
 }

@@ -157,7 +157,8 @@ fn row_of(row: &[u8]) -> [u16; 65]
     let mut i = 0;
     while i < 65 {
         let low = 2 * i;
-        out[i] = bytes::sample(row[low], row[low + 1]);
+        let high = low + 1;
+        out[i] = bytes::sample(row[low], row[high]);
         i += 1;
     }
     out

@@ -14,6 +14,7 @@ pub mod Verdict
 pub mod Cell
 pub mod Count
 pub mod Area
--- The loops' turns, and small verdicts.
+-- The loops' turns, over lent numbers and over records, and small verdicts.
 pub mod Steps
+pub mod Standing
 pub mod Figures

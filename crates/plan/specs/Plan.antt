@@ -69,3 +69,10 @@ blockOf l = record { row = getD l 0 0; col = getD l 1 0; side = getD l 2 0; mode
 
 abbrev pub planOf : List (List ℕ) → Plan
 planOf l = record { count = length l; block = λ k. blockOf (getD l k []) }
+
+-- a plan as a list of block records
+abbrev pub noBlock : Block
+noBlock = record { row = 0; col = 0; side = 0; mode = 0 }
+
+abbrev pub listed : List Block → Plan
+listed l = record { count = length l; block = λ k. getD l k noBlock }

@@ -9,9 +9,10 @@ ghost use Rattle.h265.specs.Notation.{log2};
 ghost use Rattle.domain.specs.Facts.{Size, Ctu};
 ghost use Rattle.order.specs.Order.{pictureOk};
 ghost use Rattle.order.specs.Good.{Good};
-ghost use Rattle.plan.specs.Plan.{pictureOf, planOf, In};
+ghost use Rattle.plan.specs.Plan.{pictureOf, planOf, listed, In};
 ghost use Rattle.plan.specs.Records.{recordAt, recordsOf, bytesVerdict};
-ghost use Rattle.plan.specs.Check.{aheadBy, ahead, placedOk, blockNo, blocksVerdict, planVerdict};
+ghost use Rattle.plan.specs.Check.{aheadBy, ahead, placedOk, blockNo, planVerdict};
+ghost use Rattle.plan.specs.Standing.{Small, startOf, stepOf, endOf};
 
 // A still's luma sides and its CTU; its least unit is 4.
 pub struct Frame {
@@ -156,45 +157,11 @@ fn block_at(plan: &[[u32; 4]], i: usize) -> Block
     }
 }
 
-// The verdict on a good picture's blocks.
-fn check_blocks(f: Frame, plan: &[[u32; 4]]) -> Verdict
-    requires { ⌜ Good (pictureOf f) ⌝ }
-    ensures { λ r. ⌜ r ≡ blocksVerdict f (planOf (now (plan .entry))) ⌝ }
-{
-    let area = (f.height as usize) * (f.width as usize);
-    let count = plan.len();
-    let mut covered: usize = 0;
-    let mut i: usize = 0;
-    while i < count {
-        let b = block_at(plan, i);
-        let no = block_no(f, b, covered);
-        if no != 0 {
-            let block = i as u32;
-            return Verdict { no, block };
-        }
-        let n = b.side as usize;
-        covered += n * n;
-        i += 1;
-    }
-    let no = if covered == area { 0 } else { 10 };
-    Verdict { no, block: 0 }
-}
-
 // Number 4: whether the picture is not refused.
 fn picture_ok(f: Frame) -> bool
     ensures { λ r. ⌜ r ≡ pictureOk (pictureOf f) ⌝ }
 {
     domain::side_ok(f.width) & domain::side_ok(f.height) & domain::ctu_ok(f.ctu)
-}
-
-// The first rule that a plan breaks, its picture's first, then its blocks' in list order, then that they cover all.
-pub fn check_plan(frame: Frame, plan: &[[u32; 4]]) -> Verdict
-    ensures { λ r. ⌜ r ≡ planVerdict frame (planOf (now (plan .entry))) ⌝ }
-{
-    if !picture_ok(frame) {
-        return Verdict { no: 4, block: 0 };
-    }
-    check_blocks(frame, plan)
 }
 
 // Block i of a plan of bytes; zeros where there is none.
@@ -218,28 +185,103 @@ pub fn record_at(plan: &[u8], i: usize) -> Block
     }
 }
 
-// The verdict on a good picture's records.
-fn check_records(f: Frame, plan: &[u8]) -> Verdict
-    requires { ⌜ Good (pictureOf f) ⌝ }
-    ensures { λ r. ⌜ r ≡ blocksVerdict f (recordsOf (now (plan .entry))) ⌝ }
+// Where the check of a plan stands: the first refusal, its block, and the samples covered before it.
+struct Checking {
+    no: u32,
+    block: u32,
+    covered: usize,
+}
+
+// No block is looked at.
+fn check_start(f: Frame) -> Checking
+    ensures { λ r. ⌜ r ≡ startOf f ⌝ }
 {
+    let no = if picture_ok(f) { 0 } else { 4 };
+    Checking {
+        no,
+        block: 0,
+        covered: 0,
+    }
+}
+
+// Block i is looked at, unless one before it is refused.
+fn check_step(f: Frame, t: Checking, b: Block, i: usize) -> Checking
+    requires { ⌜ Small f t i ⌝ }
+    ensures { λ r. ⌜ r ≡ stepOf f t b i ⌝ }
+{
+    if t.no != 0 {
+        return t;
+    }
+    let no = block_no(f, b, t.covered);
+    if no != 0 {
+        return Checking {
+            no,
+            block: i as u32,
+            covered: t.covered,
+        };
+    }
+    let n = b.side as usize;
+    Checking {
+        no: 0,
+        block: 0,
+        covered: t.covered + n * n,
+    }
+}
+
+// Every block is looked at.
+fn check_end(f: Frame, t: Checking) -> Verdict
+    ensures { λ r. ⌜ r ≡ endOf f t ⌝ }
+{
+    if t.no != 0 {
+        return Verdict {
+            no: t.no,
+            block: t.block,
+        };
+    }
     let area = (f.height as usize) * (f.width as usize);
-    let count = plan.len() / 6;
-    let mut covered: usize = 0;
+    let no = if t.covered == area { 0 } else { 10 };
+    Verdict { no, block: 0 }
+}
+
+// The first rule that a plan breaks, its picture's first, then its blocks' in list order, then that they cover all.
+pub fn check_plan_numbers(frame: Frame, plan: &[[u32; 4]]) -> Verdict
+    ensures { λ r. ⌜ r ≡ planVerdict frame (planOf (now (plan .entry))) ⌝ }
+{
+    let count = plan.len();
+    let mut t = check_start(frame);
     let mut i: usize = 0;
     while i < count {
-        let b = record_at(plan, i);
-        let no = block_no(f, b, covered);
-        if no != 0 {
-            let block = i as u32;
-            return Verdict { no, block };
-        }
-        let n = b.side as usize;
-        covered += n * n;
+        t = check_step(frame, t, block_at(plan, i), i);
         i += 1;
     }
-    let no = if covered == area { 0 } else { 10 };
-    Verdict { no, block: 0 }
+    check_end(frame, t)
+}
+
+// The same of a list of block records.
+pub fn check_plan(frame: Frame, plan: &[Block]) -> Verdict
+    ensures { λ r. ⌜ r ≡ planVerdict frame (listed (now (plan .entry))) ⌝ }
+{
+    let mut t = check_start(frame);
+    let mut i: usize = 0;
+    while i < plan.len() {
+        t = check_step(frame, t, plan[i], i);
+        i += 1;
+    }
+    check_end(frame, t)
+}
+
+// The same of the records that bytes spell.
+fn check_records(frame: Frame, plan: &[u8]) -> Verdict
+    ensures { λ r. ⌜ r ≡ planVerdict frame (recordsOf (now (plan .entry))) ⌝ }
+{
+    let count = plan.len() / 6;
+    let mut t = check_start(frame);
+    let mut i: usize = 0;
+    while i < count {
+        t = check_step(frame, t, record_at(plan, i), i);
+        i += 1;
+    }
+    check_end(frame, t)
 }
 
 // The plan check on bytes: also that they are whole records.

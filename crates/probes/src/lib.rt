@@ -639,7 +639,7 @@ pub extern "C" fn salvrunde_probe_check_plan(
 ) -> PlanAnswer
     ensures { λ r. ⌜ r ≡ planAnswer width height ctu (now (plan .entry)) ⌝ }
 {
-    let a = plan::check_plan(Frame { width, height, ctu }, plan);
+    let a = plan::check_plan_numbers(Frame { width, height, ctu }, plan);
     PlanAnswer {
         no: a.no,
         block: a.block,
@@ -675,7 +675,7 @@ pub extern "C" fn salvrunde_probe_walk(
 {
     let frame = Frame { width, height, ctu };
     let p = Progress { done };
-    let a = p.walk(
+    let a = p.walk_numbers(
         Still { bits, frame },
         plan,
         source,
@@ -713,7 +713,7 @@ pub extern "C" fn salvrunde_probe_replay(
 {
     let frame = Frame { width, height, ctu };
     let p = Progress { done };
-    let a = p.replay(
+    let a = p.replay_numbers(
         Still { bits, frame },
         plan,
         residuals,

@@ -318,7 +318,8 @@ fn sample_in(plane: &[u8], at: usize) -> u16
     ensures { λ r. ⌜ r ≡ getD (samplesOf (now (plane .entry))) at 0 ⌝ }
 {
     let low = 2 * at;
-    bytes::sample(plane[low], plane[low + 1])
+    let high = low + 1;
+    bytes::sample(plane[low], plane[high])
 }
 
 // An edge and the corner out of a plane of bytes.

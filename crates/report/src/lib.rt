@@ -311,7 +311,7 @@ fn walk_all(
     let mut refs = [0u16; 193];
     let mut indices = [0u32; 32];
     let mut fractions = [0u32; 32];
-    Progress::fresh().walk(
+    Progress::fresh().walk_numbers(
         still,
         plan,
         source,
@@ -332,7 +332,7 @@ fn replay_all(still: Still, plan: &[[u32; 4]], residuals: &[i32], plane: &mut [u
     let mut refs = [0u16; 193];
     let mut indices = [0u32; 32];
     let mut fractions = [0u32; 32];
-    Progress::fresh().replay(
+    Progress::fresh().replay_numbers(
         still,
         plan,
         residuals,

@@ -29,6 +29,7 @@ use Rattle.refs.specs.declared.Gathered.{Gathered}
 use Rattle.refs.specs.Door.{lumaDoor, lumaRows}
 use Rattle.angular.specs.Door.{Lent}
 use Rattle.predict.specs.Door.{predictNo}
+use Rattle.plan.specs.declared.Frame.{Frame}
 use Rattle.plan.specs.declared.Block.{Block}
 use Rattle.plan.specs.declared.Verdict.{Verdict}
 use Rattle.plan.specs.Plan.{pictureOf, Plan, Placed, GoodPlan, place}
@@ -189,18 +190,26 @@ module _ (plan : ℕ → Block) where
       let n = count-up k (λ i l. h i (omega arith)) in
       omega (arith, m, n)
 
+-- the blocks of an accepted plan have the picture's samples, and are not many
+module _ (f : Frame) (plan : Plan) (h : Accepted f (plan .block) (plan .count)) where
+  accepted-area : place (plan .block) (plan .count) ≡ f .height * f .width
+  accepted-area = area (h .picture) (plan .block) (plan .count) (h .plan-good)
+
+  pub accepted-small : plan .count ≤ 16777216
+  accepted-small =
+      let m = count-up (plan .block) (plan .count) (λ i l. size-small (plan .block i .side) (h .plan-good .placed i l .size) .0) in
+      omega (arith, m, accepted-area, area-small (h .picture))
+
 -- a call that is served
 module _ (s : Still) (plan : Plan) (plane residuals : ℕ) (t : Tables) (h : Sound s plan plane residuals t) where
   whole-area : place (plan .block) (plan .count) ≡ s .frame .height * s .frame .width
-  whole-area = area (h .accepted .picture) (plan .block) (plan .count) (h .accepted .plan-good)
+  whole-area = accepted-area (s .frame) plan (h .accepted)
 
   pub place-small : (k : ℕ) → k ≤ plan .count → place (plan .block) k ≤ 16777216
   place-small k l = omega (arith, place-up (plan .block) k (plan .count) l, whole-area, area-small (h .accepted .picture))
 
   pub count-small : plan .count ≤ 16777216
-  count-small =
-      let m = count-up (plan .block) (plan .count) (λ i l. size-small (plan .block i .side) (h .accepted .plan-good .placed i l .size) .0) in
-      omega (arith, m, whole-area, area-small (h .accepted .picture))
+  count-small = accepted-small (s .frame) plan (h .accepted)
 
   -- a block of it, whatever the lengths are now called
   module _ (k at : ℕ) (b : Block) (l : k < plan .count) (e : at ≡ place (plan .block) k) (q : b ≡ plan .block k) where

@@ -10,3 +10,5 @@ pub mod Picture
 -- Ready: what the functions ask. Laws: what joins them.
 pub mod Ready
 pub mod Laws
+-- Listed: a call over block records.
+pub mod Listed

@@ -1,7 +1,7 @@
 // Walk and replay of a luma still, block by block, in any number of calls (document 01, 'Plan, walk, replay').
 // Rests on the contracts of the gather, of the prediction and of the plan check alone.
 ghost use mathlib.Core.Path.{_≡_};
-ghost use mathlib.Core.Bool.{true, _&&_};
+ghost use mathlib.Core.Bool.{true, cond, _&&_};
 ghost use mathlib.Core.List.{[], _∷_};
 ghost use Prim.Native.Nat.{ℕ, min, _+_, _-_, _*_, _^_, _≤_, _<_};
 ghost use lib.Dec.{leb, eqb};
@@ -14,12 +14,13 @@ ghost use Rattle.laws.specs.Choose.{_unless_, firstFail};
 ghost use Rattle.h265.specs.Notation.{clipTo};
 ghost use Rattle.domain.specs.Facts.{Depth};
 ghost use Rattle.order.specs.Order.{pictureOk};
-ghost use Rattle.plan.specs.Plan.{pictureOf, planOf, place};
+ghost use Rattle.plan.specs.Plan.{pictureOf, planOf, listed, place};
 ghost use Rattle.walk.specs.Block.{rebuilt, walked, replayUnit, walkUnit};
 ghost use Rattle.walk.specs.Door.{every, whole, roomy, doing, residualOk, verdictOf, steppedBy, replayVerdict, replayAfter, walkVerdict, walkAfter};
 ghost use Rattle.walk.specs.Bridge.{geoOf};
 ghost use Rattle.walk.specs.Ready.{Small, RowIn, RowsIn, Ready, Lies, Predicted, Sound};
 ghost use Rattle.walk.specs.Laws.{openingNo, replayNo, lessAt, backAt, walkNo};
+ghost use Rattle.walk.specs.Listed.{scratchTables, settle, bare, callOf, ReplayReady, WalkReady};
 use fmt::LumaCol;
 use fmt::LumaRow;
 use order::Picture;
@@ -27,6 +28,7 @@ use plan::Block;
 use plan::Frame;
 use plan::Verdict;
 use refs::LumaRefGeometry;
+use scratch::AngularScratch;
 
 // A still: its depth, its luma sides and its CTU.
 pub struct Still {
@@ -346,7 +348,7 @@ fn verdict_of(s: Still, plan: &[[u32; 4]], p: Progress, early: u32) -> Verdict
             block: 0,
         };
     }
-    let v = plan::check_plan(s.frame, plan);
+    let v = plan::check_plan_numbers(s.frame, plan);
     if v.no != 0 {
         return v;
     }
@@ -562,6 +564,216 @@ fn walk_no(
     }
 }
 
+// What a call over block records comes to, before the first write: its answer, and the block that it goes up to, 0 when refused.
+struct Call {
+    answer: Stepped,
+    upto: usize,
+}
+
+// The number of the checks before the plan's, then the plan's, then 11.
+fn settled(p: Progress, count: usize, found: Verdict, early: u32) -> Verdict
+    ensures { λ v. ⌜ v ≡ settle found count p early ⌝ }
+{
+    if early != 0 {
+        return Verdict {
+            no: early,
+            block: 0,
+        };
+    }
+    if found.no != 0 {
+        return found;
+    }
+    let no = if (p.done as usize) <= count { 0 } else { 11 };
+    Verdict { no, block: 0 }
+}
+
+fn call_of(p: Progress, v: Verdict, count: usize, grant: u32) -> Call
+    requires { ⌜ (v .no ≡ 0 → (p .done ≤ count) × (count ≤ 16777216)) ⌝ }
+    ensures { λ r. ⌜ r ≡ callOf v (bare count) p grant ⌝ }
+{
+    if v.no != 0 {
+        let answer = refusal(v, p);
+        return Call { answer, upto: 0 };
+    }
+    let did = doing_of(count, p.done, grant);
+    let answer = step_of(p, did);
+    Call {
+        answer,
+        upto: (p.done as usize) + (did as usize),
+    }
+}
+
+fn replay_call(
+    p: Progress,
+    s: Still,
+    residuals: &[i32],
+    plane: usize,
+    count: usize,
+    found: Verdict,
+    grant: u32,
+) -> Call
+    requires { ⌜ (found .no ≡ 0 → count ≤ 16777216) ⌝ }
+    ensures { λ r. ⌜ r ≡ callOf (settle found count p (replayNo s scratchTables plane (now (residuals .entry)))) (bare count) p grant ⌝ }
+{
+    let early = replay_no(s, residuals, plane, 193, 32, 32);
+    call_of(p, settled(p, count, found, early), count, grant)
+}
+
+fn walk_call(
+    p: Progress,
+    s: Still,
+    source: &[u16],
+    work: usize,
+    residuals: usize,
+    count: usize,
+    found: Verdict,
+    grant: u32,
+) -> Call
+    requires { ⌜ (found .no ≡ 0 → count ≤ 16777216) ⌝ }
+    ensures { λ r. ⌜ r ≡ callOf (settle found count p (walkNo s scratchTables (now (source .entry)) work residuals)) (bare count) p grant ⌝ }
+{
+    let early = walk_no(s, source, work, residuals, 193, 32, 32);
+    call_of(p, settled(p, count, found, early), count, grant)
+}
+
+// Block k, whose residuals begin at `at`: rebuilt unless it was done before. Gives the next block's place.
+fn replay_turn(
+    s: Still,
+    b: Block,
+    at: usize,
+    k: usize,
+    from: u32,
+    residuals: &[i32],
+    plane: &mut [u16],
+    refs: &mut [u16],
+    indices: &mut [u32],
+    fractions: &mut [u32],
+) -> usize
+    requires { ⌜ Ready s b (length (now plane)) (record { refs = length (now refs); indices = length (now indices); fractions = length (now fractions) }) × (Lies s b (length (now residuals)) at × Small (now residuals)) ⌝ }
+    ensures { λ r. ⌜ (r ≡ at + b .side * b .side) × (now (plane .exit) ≡ cond (leb from k) (rebuilt s b at (now (residuals .entry)) (now (plane .entry))) (now (plane .entry))) ⌝ }
+{
+    let n = b.side as usize;
+    let next = at + n * n;
+    if k < (from as usize) {
+        return next;
+    }
+    rebuild_block(
+        s,
+        b,
+        at,
+        residuals,
+        &mut *plane,
+        &mut *refs,
+        &mut *indices,
+        &mut *fractions,
+    );
+    next
+}
+
+// The same of the walk.
+fn walk_turn(
+    s: Still,
+    b: Block,
+    at: usize,
+    k: usize,
+    from: u32,
+    source: &[u16],
+    work: &mut [u16],
+    residuals: &mut [i32],
+    refs: &mut [u16],
+    indices: &mut [u32],
+    fractions: &mut [u32],
+) -> usize
+    requires { ⌜ Ready s b (length (now work)) (record { refs = length (now refs); indices = length (now indices); fractions = length (now fractions) }) × (Lies s b (length (now residuals)) at × (length (now source) ≡ length (now work))) ⌝ }
+    ensures { λ r. ⌜ (r ≡ at + b .side * b .side) × (record { work = now (work .exit); residuals = now (residuals .exit) } ≡ cond (leb from k) (walked s (now (source .entry)) b at (record { work = now (work .entry); residuals = now (residuals .entry) })) (record { work = now (work .entry); residuals = now (residuals .entry) })) ⌝ }
+{
+    let n = b.side as usize;
+    let next = at + n * n;
+    if k < (from as usize) {
+        return next;
+    }
+    walk_block(
+        s,
+        b,
+        at,
+        source,
+        &mut *work,
+        &mut *residuals,
+        &mut *refs,
+        &mut *indices,
+        &mut *fractions,
+    );
+    next
+}
+
+// The records of a plan up to block `upto`: those from block `from` on are rebuilt. Gives the place after the last.
+fn replay_listed(
+    s: Still,
+    plan: &[Block],
+    residuals: &[i32],
+    plane: &mut [u16],
+    scratch: &mut AngularScratch,
+    from: u32,
+    upto: usize,
+) -> usize
+    requires { ⌜ ReplayReady s (listed (now plan)) (length (now plane)) (now residuals) upto ⌝ }
+    ensures { λ _. ⌜ (now (plane .exit) ≡ units (replayUnit s (listed (now (plan .entry)) .block) (now (residuals .entry))) from (upto - from) (now (plane .entry))) × (upto ≡ 0 → now (scratch .exit) ≡ now (scratch .entry)) ⌝ }
+{
+    let mut at: usize = 0;
+    let mut k: usize = 0;
+    while k < upto {
+        at = replay_turn(
+            s,
+            plan[k],
+            at,
+            k,
+            from,
+            residuals,
+            plane,
+            &mut scratch.refs,
+            &mut scratch.indices,
+            &mut scratch.fractions,
+        );
+        k += 1;
+    }
+    at
+}
+
+// The same of the walk.
+fn walk_listed(
+    s: Still,
+    plan: &[Block],
+    source: &[u16],
+    work: &mut [u16],
+    residuals: &mut [i32],
+    scratch: &mut AngularScratch,
+    from: u32,
+    upto: usize,
+) -> usize
+    requires { ⌜ WalkReady s (listed (now plan)) (length (now source)) (length (now work)) (length (now residuals)) upto ⌝ }
+    ensures { λ _. ⌜ (record { work = now (work .exit); residuals = now (residuals .exit) } ≡ units (walkUnit s (listed (now (plan .entry)) .block) (now (source .entry))) from (upto - from) (record { work = now (work .entry); residuals = now (residuals .entry) })) × (upto ≡ 0 → now (scratch .exit) ≡ now (scratch .entry)) ⌝ }
+{
+    let mut at: usize = 0;
+    let mut k: usize = 0;
+    while k < upto {
+        at = walk_turn(
+            s,
+            plan[k],
+            at,
+            k,
+            from,
+            source,
+            work,
+            residuals,
+            &mut scratch.refs,
+            &mut scratch.indices,
+            &mut scratch.fractions,
+        );
+        k += 1;
+    }
+    at
+}
+
 impl Progress {
     // No block is done.
     pub fn fresh() -> Self
@@ -571,7 +783,7 @@ impl Progress {
     }
 
     // Decodes the next blocks of a plan from their residuals, as many as are granted.
-    pub fn replay(
+    pub fn replay_numbers(
         self,
         still: Still,
         plan: &[[u32; 4]],
@@ -612,7 +824,7 @@ impl Progress {
     }
 
     // Stores the residuals of the next blocks of a plan, as many as are granted, and reconstructs them in the work plane.
-    pub fn walk(
+    pub fn walk_numbers(
         self,
         still: Still,
         plan: &[[u32; 4]],
@@ -653,5 +865,68 @@ impl Progress {
             did as usize,
         );
         step_of(self, did)
+    }
+
+    // Decodes the next blocks of a plan of records from their residuals, as many as are granted.
+    pub fn replay(
+        self,
+        still: Still,
+        plan: &[Block],
+        residuals: &[i32],
+        plane: &mut [u16],
+        scratch: &mut AngularScratch,
+        grant: u32,
+    ) -> Stepped
+        ensures { λ r. ⌜ (r ≡ steppedBy (replayVerdict still (listed (now (plan .entry))) scratchTables self (length (now (plane .entry))) (now (residuals .entry))) (listed (now (plan .entry))) self grant) × ((now (plane .exit) ≡ replayAfter still (listed (now (plan .entry))) scratchTables self grant (now (residuals .entry)) (now (plane .entry))) × ((r .no ≡ 0 → ⊥) → now (scratch .exit) ≡ now (scratch .entry))) ⌝ }
+    {
+        let found = plan::check_plan(still.frame, plan);
+        let call = replay_call(
+            self,
+            still,
+            residuals,
+            plane.len(),
+            plan.len(),
+            found,
+            grant,
+        );
+        replay_listed(still, plan, residuals, plane, scratch, self.done, call.upto);
+        call.answer
+    }
+
+    // Stores the residuals of the next blocks of a plan of records, as many as are granted, and reconstructs them in the work plane.
+    pub fn walk(
+        self,
+        still: Still,
+        plan: &[Block],
+        source: &[u16],
+        work: &mut [u16],
+        residuals: &mut [i32],
+        scratch: &mut AngularScratch,
+        grant: u32,
+    ) -> Stepped
+        ensures { λ r. ⌜ (r ≡ steppedBy (walkVerdict still (listed (now (plan .entry))) scratchTables self (now (source .entry)) (record { work = now (work .entry); residuals = now (residuals .entry) })) (listed (now (plan .entry))) self grant) × ((record { work = now (work .exit); residuals = now (residuals .exit) } ≡ walkAfter still (listed (now (plan .entry))) scratchTables self grant (now (source .entry)) (record { work = now (work .entry); residuals = now (residuals .entry) })) × ((r .no ≡ 0 → ⊥) → now (scratch .exit) ≡ now (scratch .entry))) ⌝ }
+    {
+        let found = plan::check_plan(still.frame, plan);
+        let call = walk_call(
+            self,
+            still,
+            source,
+            work.len(),
+            residuals.len(),
+            plan.len(),
+            found,
+            grant,
+        );
+        walk_listed(
+            still,
+            plan,
+            source,
+            work,
+            residuals,
+            scratch,
+            self.done,
+            call.upto,
+        );
+        call.answer
     }
 }

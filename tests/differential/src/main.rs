@@ -3,13 +3,11 @@
 //! `differential -- HOST..` runs every subject and ends with status 1 where an answer differs.
 //! `differential NAME.. -- HOST..` runs the subjects of those names alone.
 //! `differential list -- HOST..` writes the fixed lists of the Rust's answers that the replay crates hold.
-//! `differential demo -- HOST..` prints the decode order of a small picture.
 //!
 //! A subject is a module with one function that makes calls through a `Tally`. To add one: write src/NAME.rs, add its line
 //! to SUBJECTS, and add the entries that it calls to entries.txt.
 mod assembled;
 mod block;
-mod demo;
 mod differences;
 mod fmt;
 mod frame;
@@ -70,7 +68,7 @@ const SUBJECTS: &[(&str, Subject)] = &[
 
 fn main() -> ExitCode {
     let words: Vec<String> = std::env::args().skip(1).collect();
-    let cut = words.iter().position(|w| w == "--").expect("usage: differential [list | demo | NAME..] -- HOST..");
+    let cut = words.iter().position(|w| w == "--").expect("usage: differential [list | NAME..] -- HOST..");
     let mut host = Host::start(&words[cut + 1..]);
     match words[..cut].first().map(String::as_str) {
         Some("list") => {
@@ -78,7 +76,6 @@ fn main() -> ExitCode {
             list_predict::write();
             list_refs::write();
         }
-        Some("demo") => demo::print(&mut host),
         _ => return compare(&mut host, &words[..cut]),
     }
     ExitCode::SUCCESS

@@ -23,11 +23,11 @@ loop-holds c = (omega arith, fill-none _ _)
 mul-low : tie.Need-mul-low Inv-loop μ-loop
 mul-low c = omega arith
 
+add-high : tie.Need-add-high Inv-loop μ-loop
+add-high c = omega arith
+
 shared-slice-read-sample : tie.Need-shared-slice-read-sample Inv-loop μ-loop
 shared-slice-read-sample c = omega arith
-
-add-sample : tie.Need-add-sample Inv-loop μ-loop
-add-sample c = omega arith
 
 shared-slice-read-sample-2 : tie.Need-shared-slice-read-sample-2 Inv-loop μ-loop
 shared-slice-read-sample-2 c = omega arith
@@ -61,8 +61,8 @@ row-of-spec =
     μ-loop
     loop-holds
     mul-low
+    add-high
     shared-slice-read-sample
-    add-sample
     shared-slice-read-sample-2
     sample-requires
     mul-out

@@ -5,7 +5,7 @@ use Rattle.laws.specs.Choose.{if-yes, if-no}
 use Rattle.order.specs.Order.{pictureOk}
 use Rattle.plan.specs.Plan.{pictureOf}
 use Rattle.plan.specs.Records.{wholeRecords, bytesVerdict}
-use Rattle.plan.specs.Tests.{picture-good}
+use Rattle.plan.specs.Check.{planVerdict}
 use borrow.Author.Needs.{needs}
 use Rattle.plan.proofs.check_plan_bytes.Statement.{statement}
 use Rattle.plan.proofs.check_plan_bytes.Tie as tie
@@ -24,13 +24,14 @@ returns-2 c =
     if-yes (pictureOk (pictureOf (a .frame))) _ _ _ (sym (c .before .before .picture-ok .ensures) ∙ not-false _ (c .before .if1 .left)) (if-no (wholeRecords (a .plan .now)) _ _ _ (ne-eqb _ 0 (c .if2 .taken)) refl)
 
 check-records-requires : tie.Need-check-records-requires
-check-records-requires c κs = picture-good _ (sym (c .before .before .picture-ok .ensures) ∙ not-false _ (c .before .if1 .left))
+check-records-requires c κs = search needs
 
 returns-3 : tie.Need-returns-3
-unfolding bytesVerdict
+unfolding bytesVerdict planVerdict
 returns-3 c =
     let a = c .before .before .before .before .before .args in
-    if-yes (pictureOk (pictureOf (a .frame))) _ _ _ (sym (c .before .before .before .picture-ok .ensures) ∙ not-false _ (c .before .before .if1 .left)) (if-yes (wholeRecords (a .plan .now)) _ _ _ (eq-eqb _ 0 (c .before .if2 .left)) (c .check-records .ensures))
+    let good = sym (c .before .before .before .picture-ok .ensures) ∙ not-false _ (c .before .before .if1 .left) in
+    if-yes (pictureOk (pictureOf (a .frame))) _ _ _ good (if-yes (wholeRecords (a .plan .now)) _ _ _ (eq-eqb _ 0 (c .before .if2 .left)) (c .check-records .ensures ∙ sym (if-yes _ _ _ _ good refl)))
 
 pub check-plan-bytes-spec : {M : Type 1} → statement M
 check-plan-bytes-spec =

@@ -5,11 +5,11 @@ use Rattle.probes.specs.Probes.{verdictOf}
 use Rattle.probes.proofs.salvrunde_probe_check_plan.Statement.{statement}
 use Rattle.probes.proofs.salvrunde_probe_check_plan.Tie as tie
 
-check-plan-requires : tie.Need-check-plan-requires
-check-plan-requires c κs = search needs
+check-plan-numbers-requires : tie.Need-check-plan-numbers-requires
+check-plan-numbers-requires c κs = search needs
 
 returns : tie.Need-returns
-returns c = ap verdictOf (c .check-plan .ensures)
+returns c = ap verdictOf (c .check-plan-numbers .ensures)
 
 pub salvrunde-probe-check-plan-spec : {M : Type 1} → statement M
-salvrunde-probe-check-plan-spec = tie.close (tie.spec check-plan-requires returns)
+salvrunde-probe-check-plan-spec = tie.close (tie.spec check-plan-numbers-requires returns)

@@ -5,8 +5,8 @@ use Rattle.probes.specs.Probes.{stepOf}
 use Rattle.probes.proofs.salvrunde_probe_walk.Statement.{statement}
 use Rattle.probes.proofs.salvrunde_probe_walk.Tie as tie
 
-walk-requires : tie.Need-walk-requires
-walk-requires c κs = search needs
+walk-numbers-requires : tie.Need-walk-numbers-requires
+walk-numbers-requires c κs = search needs
 
 same-length : tie.Need-same-length
 same-length c = search needs
@@ -24,13 +24,13 @@ same-length-5 : tie.Need-same-length-5
 same-length-5 c = search needs
 
 returns : tie.Need-returns
-returns c = let e = c .before .before .before .before .before .before .before .before .before .walk .ensures in (ap stepOf (e .0), e .1)
+returns c = let e = c .before .before .before .before .before .before .before .before .before .walk-numbers .ensures in (ap stepOf (e .0), e .1)
 
 pub salvrunde-probe-walk-spec : {M : Type 1} → statement M
 salvrunde-probe-walk-spec =
     tie.close
     (tie.spec
-    walk-requires
+    walk-numbers-requires
     same-length
     same-length-2
     same-length-3

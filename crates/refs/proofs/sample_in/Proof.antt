@@ -9,11 +9,11 @@ use Rattle.refs.proofs.sample_in.Tie as tie
 mul-low : tie.Need-mul-low
 mul-low c = omega (arith, length-samples (c .before .args .plane .now), c .before .pre)
 
+add-high : tie.Need-add-high
+add-high c = omega (arith, length-samples (c .before .args .plane .now), c .before .pre)
+
 shared-slice-read-sample : tie.Need-shared-slice-read-sample
 shared-slice-read-sample c = omega (arith, length-samples (c .before .before .args .plane .now), c .before .before .pre)
-
-add-sample : tie.Need-add-sample
-add-sample c = omega (arith, length-samples (c .before .before .args .plane .now), c .before .before .pre)
 
 shared-slice-read-sample-2 : tie.Need-shared-slice-read-sample-2
 shared-slice-read-sample-2 c = omega (arith, length-samples (c .before .before .before .args .plane .now), c .before .before .before .pre)
@@ -29,8 +29,8 @@ sample-in-spec =
     tie.close
     (tie.spec
     mul-low
+    add-high
     shared-slice-read-sample
-    add-sample
     shared-slice-read-sample-2
     sample-requires
     returns)

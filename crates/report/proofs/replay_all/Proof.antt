@@ -18,14 +18,14 @@ slice-aggregate-replay-3 c = search needs
 cast-replay : tie.Need-cast-replay
 cast-replay c = search needs
 
-replay-requires : tie.Need-replay-requires
-replay-requires c κs = search needs
+replay-numbers-requires : tie.Need-replay-numbers-requires
+replay-numbers-requires c κs = search needs
 
 same-length : tie.Need-same-length
 same-length c = search needs
 
 returns : tie.Need-returns
-returns c = rw (c .before .before .before .before .before .before .before .before .before .before .fresh .ensures) at (c .before .before .before .before .before .replay .ensures .1 .0)
+returns c = rw (c .before .before .before .before .before .before .before .before .before .before .fresh .ensures) at (c .before .before .before .before .before .replay-numbers .ensures .1 .0)
 
 pub replay-all-spec : {M : Type 1} → statement M
 replay-all-spec =
@@ -36,6 +36,6 @@ replay-all-spec =
     slice-aggregate-replay-2
     slice-aggregate-replay-3
     cast-replay
-    replay-requires
+    replay-numbers-requires
     same-length
     returns)

@@ -18,8 +18,8 @@ slice-aggregate-walk-3 c = search needs
 cast-walk : tie.Need-cast-walk
 cast-walk c = search needs
 
-walk-requires : tie.Need-walk-requires
-walk-requires c κs = search needs
+walk-numbers-requires : tie.Need-walk-numbers-requires
+walk-numbers-requires c κs = search needs
 
 same-length : tie.Need-same-length
 same-length c = search needs
@@ -28,7 +28,7 @@ same-length-2 : tie.Need-same-length-2
 same-length-2 c = search needs
 
 returns : tie.Need-returns
-returns c = record { gives = rw (c .before .before .before .before .before .before .before .before .before .before .before .before .fresh .ensures) at (c .before .before .before .before .before .before .walk .ensures .0); leaves = rw (c .before .before .before .before .before .before .before .before .before .before .before .before .fresh .ensures) at (c .before .before .before .before .before .before .walk .ensures .1 .0) }
+returns c = record { gives = rw (c .before .before .before .before .before .before .before .before .before .before .before .before .fresh .ensures) at (c .before .before .before .before .before .before .walk-numbers .ensures .0); leaves = rw (c .before .before .before .before .before .before .before .before .before .before .before .before .fresh .ensures) at (c .before .before .before .before .before .before .walk-numbers .ensures .1 .0) }
 
 pub walk-all-spec : {M : Type 1} → statement M
 walk-all-spec =
@@ -39,7 +39,7 @@ walk-all-spec =
     slice-aggregate-walk-2
     slice-aggregate-walk-3
     cast-walk
-    walk-requires
+    walk-numbers-requires
     same-length
     same-length-2
     returns)
