@@ -1,6 +1,11 @@
--- Document 01, 'The numbers a call gives back', where a number carries a block: the plan check (`check-plan`, on bytes `check-plan-bytes`), walk (`walk`) and replay (`replay`). The rows are in
--- the order of the checks, the blocks' in list order, and the answer is given exactly when it is that of the first row that holds. Rests on
--- Exact and on what the plan's verdict tells.
+-- Document 01, 'The numbers a call gives back', where a number carries a block. The rows are in the order of the checks, the blocks' in list order, and the
+-- answer is given exactly when it is that of the first row that holds. A plan is any `Plan`: of lent numbers (`planOf`), of records (`listed`) or of bytes
+-- (`recordsOf`). Where the call takes the scratch struct, its tables (`scratchTables`) are never short. Rests on Exact and on what the plan's verdict tells.
+--
+--   plan::check_plan, plan::check_plan_numbers       check-plan
+--   plan::check_plan_bytes                           check-plan-bytes
+--   Progress::walk, Progress::walk_numbers           walk
+--   Progress::replay, Progress::replay_numbers       replay
 use mathlib.Core.Path.{_≡_, refl, sym, ap, subst}
 use mathlib.Core.Bool.{Bool, true, false, cond, true≢false}
 use mathlib.Core.List.{List, [], _∷_}
@@ -174,7 +179,7 @@ module _ (f : Frame) (l : Plan) where
       go true e = sym (zero-done ok (eqb-true (v .no) 0 e))
       go false e = refl
 
--- plan::check_plan, and the same on bytes, which are to be whole records
+-- the plan check, and the same on bytes, which are to be whole records
 pub check-plan : (f : Frame) (l : Plan) → ExactFirst done (planVerdict f l) ((about 4 0 when BadPicture (pictureOf f)) ∷ planRows f l [])
 unfolding planVerdict
 check-plan f l =
@@ -266,7 +271,6 @@ module _ (s : Still) (plan : Plan) (p : Progress) where
   tables : (t : Tables) → Tells (roomy t) (BadTables t)
   tables t = all-of (all-of (at-most 193 (t .refs)) (at-most 32 (t .indices))) (at-most 32 (t .fractions))
 
-  -- Progress::walk
   pub walk : (t : Tables) (grant : ℕ) (source : List ℕ) (w : World)
       → ExactFirst done (verdictIn (steppedBy (walkVerdict s plan t p source w) plan p grant))
       ((about 1 0 when ¬ Depth (s .bits)) ∷ (about 4 0 when BadPicture (pictureOf (s .frame)))
@@ -281,7 +285,6 @@ module _ (s : Still) (plan : Plan) (p : Progress) where
       (λ ok. first-row (all-of (all-of (all-of (whole-plane (length source)) (whole-plane (length (w .work)))) (whole-plane (length (w .residuals)))) (tables t))
       (λ e. first-row (every-one 0 (λ v. at-most v (largestOf s)) source) (λ e. last-first ok)))))
 
-  -- Progress::replay
   pub replay : (t : Tables) (grant : ℕ) (residuals : List ℤ) (plane : List ℕ)
       → ExactFirst done (verdictIn (steppedBy (replayVerdict s plan t p (length plane) residuals) plan p grant))
       ((about 1 0 when ¬ Depth (s .bits)) ∷ (about 4 0 when BadPicture (pictureOf (s .frame)))
