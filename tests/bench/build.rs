@@ -1,5 +1,5 @@
 //! Builds the Rust as tests/differential does, links the archives that `run` made (PROBES is their folder), and tells the
-//! driver which entries the archive of `probes` has: `cfg(entry = "NAME")` for each `salvrunde_probe_NAME`.
+//! driver which entries the archive has: `cfg(entry = "NAME")` for each `salvrunde_probe_NAME`.
 use std::{env, fs};
 
 #[path = "../differential/build.rs"]
@@ -8,13 +8,13 @@ mod oracle;
 fn main() {
     oracle::main();
     println!("cargo:rerun-if-changed=../differential/build.rs");
-    let folder = env::var("PROBES").expect("run tests/bench/run, which makes the archive");
+    let folder = env::var("PROBES").expect("run tests/bench/run, which makes the archives");
     println!("cargo:rerun-if-env-changed=PROBES");
-    println!("cargo:rerun-if-changed={folder}/libprobes.a");
     println!("cargo:rustc-link-search=native={folder}");
-    println!("cargo:rustc-link-lib=static=probes");
-    println!("cargo:rerun-if-changed={folder}/libcamera.a");
-    println!("cargo:rustc-link-lib=static=camera");
+    for name in ["probes", "camera"] {
+        println!("cargo:rerun-if-changed={folder}/lib{name}.a");
+        println!("cargo:rustc-link-lib=static={name}");
+    }
     println!("cargo:rustc-check-cfg=cfg(entry, values(any()))");
     let source = "../../crates/probes/src/lib.rt";
     println!("cargo:rerun-if-changed={source}");

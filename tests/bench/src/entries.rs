@@ -91,6 +91,25 @@ unsafe extern "C" {
         fractions_len: usize,
     ) -> u32;
 
+    pub fn salvrunde_probe_predict_chroma_tb_slices(
+        mode: u8,
+        corner: u16,
+        above: *const u16,
+        above_len: usize,
+        left: *const u16,
+        left_len: usize,
+        n: usize,
+        bits: u32,
+        pred: *mut u16,
+        pred_len: usize,
+        refs: *mut u16,
+        refs_len: usize,
+        indices: *mut u32,
+        indices_len: usize,
+        fractions: *mut u32,
+        fractions_len: usize,
+    ) -> u32;
+
     pub fn salvrunde_probe_filter_references(
         out: *mut TwoRows,
         corner: u16,
@@ -225,3 +244,190 @@ unsafe extern "C" {
         result_len: usize,
     ) -> u32;
 }
+
+// The entries of crate camera, as include/salvrunde.h declares them.
+unsafe extern "C" {
+    pub fn salvrunde_luma_refs(
+        bits: u32,
+        width: u32,
+        height: u32,
+        ctu: u32,
+        unit: u32,
+        row: u32,
+        col: u32,
+        n: u32,
+        plane: *const u8,
+        plane_bytes: usize,
+        out: *mut u8,
+        out_bytes: usize,
+    ) -> u32;
+
+    pub fn salvrunde_chroma_refs(
+        bits: u32,
+        format: u32,
+        luma_width: u32,
+        luma_height: u32,
+        unit: u32,
+        row: u32,
+        col: u32,
+        n: u32,
+        cur_luma_row: u32,
+        cur_luma_col: u32,
+        cb: *const u8,
+        cb_bytes: usize,
+        cr: *const u8,
+        cr_bytes: usize,
+        out: *mut u8,
+        out_bytes: usize,
+    ) -> u32;
+
+    pub fn salvrunde_planar(
+        n: u32,
+        above: *const u8,
+        above_bytes: usize,
+        left: *const u8,
+        left_bytes: usize,
+        out: *mut u8,
+        out_bytes: usize,
+    ) -> u32;
+
+    pub fn salvrunde_dc(
+        n: u32,
+        edge: u32,
+        above: *const u8,
+        above_bytes: usize,
+        left: *const u8,
+        left_bytes: usize,
+        out: *mut u8,
+        out_bytes: usize,
+    ) -> u32;
+
+    pub fn salvrunde_angular(
+        bits: u32,
+        n: u32,
+        mode: u32,
+        edge: u32,
+        corner: u16,
+        above: *const u8,
+        above_bytes: usize,
+        left: *const u8,
+        left_bytes: usize,
+        out: *mut u8,
+        out_bytes: usize,
+    ) -> u32;
+
+    pub fn salvrunde_chroma_block(
+        bits: u32,
+        n: u32,
+        mode: u32,
+        corner: u16,
+        above: *const u8,
+        above_bytes: usize,
+        left: *const u8,
+        left_bytes: usize,
+        out: *mut u8,
+        out_bytes: usize,
+    ) -> u32;
+
+    pub fn salvrunde_replay(
+        done: u32,
+        bits: u32,
+        width: u32,
+        height: u32,
+        ctu: u32,
+        grant: u32,
+        plan: *const u8,
+        plan_bytes: usize,
+        residuals: *const u8,
+        residuals_bytes: usize,
+        plane: *mut u8,
+        plane_bytes: usize,
+        result: *mut u8,
+        result_bytes: usize,
+    ) -> u32;
+}
+
+// The pointers that entries on bytes and their doors are called through.
+pub type PlanarDoor = unsafe extern "C" fn(*const u16, usize, *const u16, usize, usize, *mut u16, usize) -> u32;
+pub type PlanarEntry = unsafe extern "C" fn(u32, *const u8, usize, *const u8, usize, *mut u8, usize) -> u32;
+pub type DcDoor = unsafe extern "C" fn(*const u16, usize, *const u16, usize, usize, bool, *mut u16, usize) -> u32;
+pub type DcEntry = unsafe extern "C" fn(u32, u32, *const u8, usize, *const u8, usize, *mut u8, usize) -> u32;
+pub type AngularDoor = unsafe extern "C" fn(
+    u16,
+    *const u16,
+    usize,
+    *const u16,
+    usize,
+    usize,
+    u8,
+    bool,
+    u32,
+    *mut u16,
+    usize,
+    *mut u16,
+    usize,
+    *mut u32,
+    usize,
+    *mut u32,
+    usize,
+) -> u32;
+pub type AngularEntry = unsafe extern "C" fn(u32, u32, u32, u32, u16, *const u8, usize, *const u8, usize, *mut u8, usize) -> u32;
+pub type ChromaDoor = unsafe extern "C" fn(
+    u8,
+    u16,
+    *const u16,
+    usize,
+    *const u16,
+    usize,
+    usize,
+    u32,
+    *mut u16,
+    usize,
+    *mut u16,
+    usize,
+    *mut u32,
+    usize,
+    *mut u32,
+    usize,
+) -> u32;
+pub type ChromaEntry = unsafe extern "C" fn(u32, u32, u32, u16, *const u8, usize, *const u8, usize, *mut u8, usize) -> u32;
+pub type LumaRefsDoor =
+    unsafe extern "C" fn(*mut References, *const u16, usize, u32, u32, u32, u32, u32, u32, u32, usize) -> *mut References;
+pub type LumaRefsEntry = unsafe extern "C" fn(u32, u32, u32, u32, u32, u32, u32, u32, *const u8, usize, *mut u8, usize) -> u32;
+pub type ChromaRefsDoor = unsafe extern "C" fn(
+    *mut ReferencePair,
+    *const u16,
+    usize,
+    *const u16,
+    usize,
+    u32,
+    u32,
+    u32,
+    u32,
+    u32,
+    u32,
+    u32,
+    usize,
+    u32,
+    u32,
+) -> *mut ReferencePair;
+pub type ChromaRefsEntry = unsafe extern "C" fn(
+    u32,
+    u32,
+    u32,
+    u32,
+    u32,
+    u32,
+    u32,
+    u32,
+    u32,
+    u32,
+    *const u8,
+    usize,
+    *const u8,
+    usize,
+    *mut u8,
+    usize,
+) -> u32;
+pub type ReplayEntry =
+    unsafe extern "C" fn(u32, u32, u32, u32, u32, u32, *const u8, usize, *const u8, usize, *mut u8, usize, *mut u8, usize) -> u32;

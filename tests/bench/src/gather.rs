@@ -7,15 +7,24 @@ use crate::random::Random;
 use crate::table::Table;
 use std::hint::black_box;
 
-const BITS: u32 = 10;
+pub const BITS: u32 = 10;
 
 /// A block: side, CTU, least unit, and its place.
-struct Block {
-    n: usize,
-    ctu: usize,
-    unit: usize,
-    row: usize,
-    col: usize,
+pub struct Block {
+    pub n: usize,
+    pub ctu: usize,
+    pub unit: usize,
+    pub row: usize,
+    pub col: usize,
+}
+
+/// Blocks anywhere in the picture.
+pub fn blocks(random: &mut Random, n: usize, ctu: usize, unit: usize) -> Vec<Block> {
+    let mut block = || {
+        let (row, col) = place(random, HEIGHT, WIDTH, n);
+        Block { n, ctu, unit, row, col }
+    };
+    (0..PLACES).map(|_| block()).collect()
 }
 
 /// The Rust's function, called as it stands.
@@ -55,11 +64,7 @@ pub fn time(table: &mut Table) {
         for unit in [8, 4] {
             // a unit above the side, or a side above the CTU, is refused
             for n in SIDES.into_iter().filter(|&n| unit <= n && n <= ctu) {
-                let mut block = || {
-                    let (row, col) = place(&mut random, HEIGHT, WIDTH, n);
-                    Block { n, ctu, unit, row, col }
-                };
-                let blocks: Vec<Block> = (0..PLACES).map(|_| block()).collect();
+                let blocks = blocks(&mut random, n, ctu, unit);
                 for b in &blocks {
                     proved(&plane, b, &mut got);
                     assert_eq!((got.no, got.rows.tuple()), (0, rust(&plane, b)));

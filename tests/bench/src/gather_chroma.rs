@@ -7,19 +7,50 @@ use crate::random::Random;
 use crate::table::Table;
 use std::hint::black_box;
 
-const BITS: u32 = 10;
+pub const BITS: u32 = 10;
 
-/// A block: its format (chroma_format_idc and subsampling), side, least luma unit, place, and the luma place of its coding unit.
-struct Block {
-    idc: u32,
-    sub_w: usize,
-    sub_h: usize,
-    n: usize,
-    unit: usize,
-    row: usize,
-    col: usize,
-    luma_row: usize,
-    luma_col: usize,
+/// A chroma format: its chroma_format_idc, and how many luma samples a sample stands for.
+#[derive(Clone, Copy)]
+pub struct Format {
+    pub what: &'static str,
+    pub idc: u32,
+    pub sub_w: usize,
+    pub sub_h: usize,
+}
+
+impl Format {
+    /// A plane's width and height.
+    pub fn plane(self) -> (usize, usize) {
+        (WIDTH / self.sub_w, HEIGHT / self.sub_h)
+    }
+}
+
+pub const FORMATS: [Format; 3] = [
+    Format { what: "4:2:0", idc: 1, sub_w: 2, sub_h: 2 },
+    Format { what: "4:2:2", idc: 2, sub_w: 2, sub_h: 1 },
+    Format { what: "4:4:4", idc: 3, sub_w: 1, sub_h: 1 },
+];
+
+/// A block: its format, side, least luma unit, place, and the luma place of its coding unit.
+pub struct Block {
+    pub format: Format,
+    pub n: usize,
+    pub unit: usize,
+    pub row: usize,
+    pub col: usize,
+    pub luma_row: usize,
+    pub luma_col: usize,
+}
+
+/// Blocks anywhere in a plane. The coding unit is as wide as the block; in 4:2:2 two blocks stand in it, one below the other.
+pub fn blocks(random: &mut Random, format: Format, n: usize) -> Vec<Block> {
+    let ((width, height), side) = (format.plane(), n * format.sub_w);
+    let mut block = || {
+        let (row, col) = place(random, height, width, n);
+        let (luma_row, luma_col) = (row * format.sub_h / side * side, col * format.sub_w);
+        Block { format, n, unit: side.min(8), row, col, luma_row, luma_col }
+    };
+    (0..PLACES).map(|_| block()).collect()
 }
 
 type RustRows = (u16, [u16; 65], [u16; 65]);
@@ -29,13 +60,13 @@ type Rust = fn(&[u16], &[u16], ChromaRefGeometry) -> (RustRows, RustRows);
 
 fn geometry(b: &Block) -> ChromaRefGeometry {
     ChromaRefGeometry {
-        stride: WIDTH / b.sub_w,
+        stride: WIDTH / b.format.sub_w,
         block_row: b.row,
         block_col: b.col,
-        chroma_h: HEIGHT / b.sub_h,
+        chroma_h: HEIGHT / b.format.sub_h,
         n: b.n,
-        sub_w: b.sub_w,
-        sub_h: b.sub_h,
+        sub_w: b.format.sub_w,
+        sub_h: b.format.sub_h,
         luma_w: WIDTH,
         luma_h: HEIGHT,
         luma_ctus_x: WIDTH.div_ceil(64),
@@ -57,7 +88,7 @@ fn proved(cb: &[u16], cr: &[u16], b: &Block, out: &mut ReferencePair) {
             cr.as_ptr(),
             cr.len(),
             BITS,
-            b.idc,
+            b.format.idc,
             WIDTH as u32,
             HEIGHT as u32,
             b.unit as u32,
@@ -75,18 +106,11 @@ pub fn time(table: &mut Table) {
     let rust = |cb: &[u16], cr: &[u16], b: &Block| call(cb, cr, geometry(b));
     let mut random = Random::new(8);
     let mut got = ReferencePair { no: 1, planes: [PlaneRows::ZERO; 2] };
-    for (what, idc, sub_w, sub_h) in [("4:2:0", 1, 2, 2), ("4:2:2", 2, 2, 1), ("4:4:4", 3, 1, 1)] {
-        let (width, height) = (WIDTH / sub_w, HEIGHT / sub_h);
+    for format in FORMATS {
+        let (width, height) = format.plane();
         let (cb, cr) = (plane(&mut random, width * height, BITS), plane(&mut random, width * height, BITS));
         for n in SIDES {
-            // the coding unit is as wide as the block; in 4:2:2 two blocks stand in it, one below the other
-            let side = n * sub_w;
-            let mut block = || {
-                let (row, col) = place(&mut random, height, width, n);
-                let (luma_row, luma_col) = (row * sub_h / side * side, col * sub_w);
-                Block { idc, sub_w, sub_h, n, unit: side.min(8), row, col, luma_row, luma_col }
-            };
-            let blocks: Vec<Block> = (0..PLACES).map(|_| block()).collect();
+            let blocks = blocks(&mut random, format, n);
             for b in &blocks {
                 proved(&cb, &cr, b, &mut got);
                 let [x, y] = &got.planes;
@@ -99,7 +123,7 @@ pub fn time(table: &mut Table) {
                 },
                 |b| proved(black_box(&cb), black_box(&cr), b, black_box(&mut got)),
             );
-            table.line(&format!("chroma pair gather, {what}"), n, times, 0.25);
+            table.line(&format!("chroma pair gather, {}", format.what), n, times, 0.25);
         }
     }
 }

@@ -4,7 +4,7 @@
 //! Either side costs one call that is not inlined: the Rust's function itself, through a pointer that the compiler cannot see
 //! through, and the entry with the whole door behind it. Functions that take rows are also timed built into one that knows the
 //! rows' lengths, and the better of both counts for the Rust. Buffers are lent again and again and not cleared between calls. Both sides' answers are compared
-//! before they are timed. `bench modes` adds a line for every angular mode and side.
+//! before they are timed. `bench bytes` times the entries on bytes alone; `bench modes` adds a line for every angular mode and side.
 //!
 //! A subject whose entries the probes do not have yet is left out; see build.rs.
 #[cfg(entry = "predict_angular_slices")]
@@ -12,6 +12,7 @@ mod angular;
 #[cfg(all(entry = "walk", entry = "replay"))]
 #[path = "../../differential/src/assembled.rs"]
 mod assembled;
+mod bytes;
 #[allow(dead_code)] // what subjects that are left out call
 mod entries;
 #[cfg(all(entry = "predict_planar_into", entry = "predict_dc_into"))]
@@ -66,9 +67,10 @@ const SUBJECTS: &[Subject] = &[
     gather_chroma::time,
     #[cfg(all(entry = "compute_residual_i32_into", entry = "reconstruct_into"))]
     residual::time,
-    // the last, for it has a table of its own
+    // the last two, for each has a table of its own
     #[cfg(all(entry = "walk", entry = "replay"))]
     walk::time,
+    bytes::time,
 ];
 
 /// What the archive has no entries for.
@@ -91,7 +93,8 @@ const MISSING: &[&str] = &[
 
 fn main() {
     let mut table = Table::new(std::env::args().any(|word| word == "modes"));
-    for subject in SUBJECTS {
+    let chosen = if std::env::args().any(|word| word == "bytes") { &SUBJECTS[SUBJECTS.len() - 1..] } else { SUBJECTS };
+    for subject in chosen {
         subject(&mut table);
     }
     table.finish(MISSING);

@@ -63,6 +63,19 @@ impl Table {
         );
     }
 
+    /// Begins the table of entries on bytes.
+    pub fn entries(&mut self) {
+        println!("\n| Entry | Side | Door, ns | On bytes, ns | Ratio | At most |");
+        println!("|---|--:|--:|--:|--:|--:|");
+    }
+
+    /// A line of it: mean times, and the mean of the ratios; a side of 0 is a whole still.
+    pub fn entry(&mut self, what: &str, side: usize, door: f64, bytes: f64, ratio: f64, most: f64) {
+        let sides = if side == 0 { String::new() } else { side.to_string() };
+        let ratio = self.held(&format!("{what}, on bytes,"), side, ratio, most);
+        println!("| {what} | {sides} | {door:.1} | {bytes:.1} | {ratio} | {most} |");
+    }
+
     /// Counts a target, and writes its ratio: bold where it is missed.
     fn held(&mut self, what: &str, side: usize, ratio: f64, most: f64) -> String {
         // a ratio is as many figures as are printed

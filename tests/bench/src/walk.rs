@@ -8,7 +8,7 @@ use crate::random::Random;
 use crate::table::Table;
 use std::hint::black_box;
 
-const BITS: u32 = 10;
+pub const BITS: u32 = 10;
 /// Sides of the pictures that show how the cost grows.
 const GROWING: [usize; 4] = [64, 256, 1024, 4096];
 
@@ -32,12 +32,12 @@ fn mixed_plan(frame: Frame) -> Vec<Block> {
 }
 
 /// A still with such a plan, and what the doors are lent.
-struct Still {
-    frame: Frame,
-    plan: Vec<Block>,
-    source: Vec<u16>,
-    work: Vec<u16>,
-    residuals: Vec<i32>,
+pub struct Still {
+    pub frame: Frame,
+    pub plan: Vec<Block>,
+    pub source: Vec<u16>,
+    pub work: Vec<u16>,
+    pub residuals: Vec<i32>,
     refs: [u16; 193],
     indices: [u32; 32],
     fractions: [u32; 32],
@@ -53,7 +53,7 @@ struct Spelt {
 }
 
 impl Still {
-    fn new(width: usize, height: usize) -> Still {
+    pub fn new(width: usize, height: usize) -> Still {
         let mut random = Random::new(31);
         let frame = Frame { width: width as u32, height: height as u32, ctu: 64 };
         let (plan, source) = (mixed_plan(frame), plane(&mut random, width * height, BITS));
@@ -76,7 +76,7 @@ impl Still {
     }
 
     /// A fresh walk of so many blocks. The lengths are those of the slices.
-    fn walk(&mut self, grant: u32) -> Step {
+    pub fn walk(&mut self, grant: u32) -> Step {
         let Frame { width, height, ctu } = self.frame;
         unsafe {
             salvrunde_probe_walk(
@@ -105,7 +105,7 @@ impl Still {
     }
 
     /// A fresh replay of so many blocks. The lengths are those of the slices.
-    fn replay(&mut self, grant: u32) -> Step {
+    pub fn replay(&mut self, grant: u32) -> Step {
         let Frame { width, height, ctu } = self.frame;
         unsafe {
             salvrunde_probe_replay(
