@@ -227,22 +227,6 @@ unsafe extern "C" {
         fractions_len: usize,
         grant: u32,
     ) -> Step;
-    pub fn salvrunde_replay(
-        done: u32,
-        bits: u32,
-        width: u32,
-        height: u32,
-        ctu: u32,
-        grant: u32,
-        plan: *const u8,
-        plan_len: usize,
-        residuals: *const u8,
-        residuals_len: usize,
-        plane: *mut u8,
-        plane_len: usize,
-        result: *mut u8,
-        result_len: usize,
-    ) -> u32;
 }
 
 // The entries of crate camera, as include/salvrunde.h declares them.

@@ -1,6 +1,6 @@
 //! Walk and replay of whole stills in one call, all checks included, beside the Rust's functions in a loop of the driver's.
 use crate::assembled::Job;
-use crate::entries::{Step, salvrunde_probe_replay, salvrunde_probe_walk, salvrunde_replay};
+use crate::entries::{Step, salvrunde_probe_replay, salvrunde_probe_walk};
 use crate::frame::{Block, Frame, quarters};
 use crate::inputs::{HEIGHT, WIDTH, plane};
 use crate::race::{Times, alone, race};
@@ -41,15 +41,6 @@ pub struct Still {
     refs: [u16; 193],
     indices: [u32; 32],
     fractions: [u32; 32],
-    spelt: Spelt,
-}
-
-/// What the camera's entry is lent: the plan, the residuals and the plane as bytes.
-#[derive(Default)]
-struct Spelt {
-    plan: Vec<u8>,
-    residuals: Vec<u8>,
-    plane: Vec<u8>,
 }
 
 impl Still {
@@ -58,17 +49,7 @@ impl Still {
         let frame = Frame { width: width as u32, height: height as u32, ctu: 64 };
         let (plan, source) = (mixed_plan(frame), plane(&mut random, width * height, BITS));
         let (work, residuals) = (vec![0; source.len()], vec![0; source.len()]);
-        Still {
-            frame,
-            plan,
-            source,
-            work,
-            residuals,
-            refs: [0; 193],
-            indices: [0; 32],
-            fractions: [0; 32],
-            spelt: Spelt::default(),
-        }
+        Still { frame, plan, source, work, residuals, refs: [0; 193], indices: [0; 32], fractions: [0; 32] }
     }
 
     fn job(&self) -> Job<'_> {
@@ -131,41 +112,6 @@ impl Still {
         }
     }
 
-    /// The same on bytes.
-    fn replay_bytes(&mut self, grant: u32) -> Step {
-        let Frame { width, height, ctu } = self.frame;
-        let (s, mut result) = (&mut self.spelt, [0; 8]);
-        let no = unsafe {
-            salvrunde_replay(
-                0,
-                BITS,
-                width,
-                height,
-                ctu,
-                grant,
-                s.plan.as_ptr(),
-                s.plan.len(),
-                s.residuals.as_ptr(),
-                s.residuals.len(),
-                s.plane.as_mut_ptr(),
-                s.plane.len(),
-                result.as_mut_ptr(),
-                result.len(),
-            )
-        };
-        let at = |i: usize| u32::from_le_bytes(result[i..i + 4].try_into().unwrap());
-        Step { no, block: at(0), did: at(4), done: at(4) }
-    }
-
-    /// The plan and the residuals as bytes, and a plane of as many.
-    fn spell(&mut self) {
-        let two = |v: u32| (v as u16).to_le_bytes();
-        let record = |&[row, col, side, mode]: &Block| [two(row), two(col), [side as u8, mode as u8]].concat();
-        self.spelt.plan = self.plan.iter().flat_map(record).collect();
-        self.spelt.residuals = self.residuals.iter().flat_map(|v| v.to_le_bytes()).collect();
-        self.spelt.plane = vec![1; 2 * self.source.len()];
-    }
-
     /// Both sides give the same residuals, and a replay of them the source.
     fn agree(&mut self) {
         let (mut work, mut residuals) = (self.work.clone(), self.residuals.clone());
@@ -175,20 +121,15 @@ impl Still {
         self.work.fill(1);
         let step = self.replay(u32::MAX);
         assert!((step.no, step.did) == (0, count) && self.work == self.source);
-        self.spell();
-        let step = self.replay_bytes(u32::MAX);
-        let back = self.source.iter().flat_map(|v| v.to_le_bytes());
-        assert!((step.no, step.did) == (0, count) && back.eq(self.spelt.plane.iter().copied()));
     }
 }
 
 type Proved = fn(&mut Still, u32) -> Step;
 type Rust = fn(&Still, &mut [u16], &mut [i32]);
 
-const CALLS: [(&str, Proved, Rust); 3] = [
+const CALLS: [(&str, Proved, Rust); 2] = [
     ("walk", Still::walk, |s, work, rs| s.job().walk(&s.source, work, rs)),
     ("replay", Still::replay, |s, work, rs| s.job().replay(rs, work)),
-    ("replay on bytes", Still::replay_bytes, |s, work, rs| s.job().replay(rs, work)),
 ];
 
 /// The proved call, and the share of its checks: the same call with a grant of 0.
