@@ -1,5 +1,5 @@
-//! Builds the Rust as tests/differential does, links the archive that `run` made (PROBES is its folder), and tells the
-//! driver which entries the archive has: `cfg(entry = "NAME")` for each `salvrunde_probe_NAME`.
+//! Builds the Rust as tests/differential does, links the archives that `run` made (PROBES is their folder), and tells the
+//! driver which entries the archive of `probes` has: `cfg(entry = "NAME")` for each `salvrunde_probe_NAME`.
 use std::{env, fs};
 
 #[path = "../differential/build.rs"]
@@ -13,6 +13,8 @@ fn main() {
     println!("cargo:rerun-if-changed={folder}/libprobes.a");
     println!("cargo:rustc-link-search=native={folder}");
     println!("cargo:rustc-link-lib=static=probes");
+    println!("cargo:rerun-if-changed={folder}/libcamera.a");
+    println!("cargo:rustc-link-lib=static=camera");
     println!("cargo:rustc-check-cfg=cfg(entry, values(any()))");
     let source = "../../crates/probes/src/lib.rt";
     println!("cargo:rerun-if-changed={source}");

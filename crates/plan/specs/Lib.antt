@@ -1,6 +1,8 @@
 -- Plan: when a plan is good, by what is covered. Check: the refusals, by a running count.
 pub mod Plan
 pub mod Check
+-- Records: a plan as bytes.
+pub mod Records
 -- Next: a plan's order in the document's own words.
 pub mod Next
 -- Verdict: what each verdict tells; its number is 0 exactly when the plan is good. It rests on the tests, and on Cover: the running

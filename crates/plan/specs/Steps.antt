@@ -77,10 +77,6 @@ running-end {f} {plan} {v} {count} {i} {covered} h l b e =
     ap (λ (x : Bool). record { no = cond x 0 10; block = 0 }) (sym e)
     ∙ ap (λ (m : ℕ). verdictFrom f plan m i covered) (let z : 0 ≡ count - i = omega (arith, h .within) in z) ∙ h .same
 
--- a list number is small
-pub running-small : {f : Frame} → Good (pictureOf f) → {plan : ℕ → Block} {v : Verdict} {count i covered : ℕ} → Running f plan v count i covered → i < 4294967296
-running-small g h = omega (arith, h .few, h .fits, area-small g)
-
 -- a turn: b is block i, and n its number
 module _ {f : Frame} (g : Good (pictureOf f)) {plan : ℕ → Block} {v : Verdict} {count i covered : ℕ} (h : Running f plan v count i covered) (l : i < count)
     (b : Block) (q : b ≡ plan i) (n : ℕ) (e : n ≡ blockNo f b covered) where

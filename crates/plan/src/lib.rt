@@ -1,5 +1,5 @@
 // Plans: which blocks, in which order, cover a still (document 01, 'Plan, walk, replay').
-// Rests on the decode order's definitions and on the domain's tests.
+// Rests on the decode order's definitions, on the domain's tests and on what bytes spell.
 ghost use mathlib.Core.Path.{_≡_};
 ghost use Prim.Native.Nat.{ℕ, min, _+_, _-_, _*_, _/_, _%_, _^_, _≤_, _<_};
 ghost use mathlib.Core.Bool.{_&&_};
@@ -10,7 +10,8 @@ ghost use Rattle.domain.specs.Facts.{Size, Ctu};
 ghost use Rattle.order.specs.Order.{pictureOk};
 ghost use Rattle.order.specs.Good.{Good};
 ghost use Rattle.plan.specs.Plan.{pictureOf, planOf, listed, In};
-ghost use Rattle.plan.specs.Check.{aheadBy, ahead, placedOk, blockNo, blocksVerdict, planVerdict};
+ghost use Rattle.plan.specs.Records.{recordAt, recordsOf, bytesVerdict};
+ghost use Rattle.plan.specs.Check.{aheadBy, ahead, placedOk, blockNo, planVerdict};
 ghost use Rattle.plan.specs.Standing.{Small, startOf, stepOf, endOf};
 
 // A still's luma sides and its CTU; its least unit is 4.
@@ -156,30 +157,6 @@ fn block_at(plan: &[[u32; 4]], i: usize) -> Block
     }
 }
 
-// The verdict on a good picture's blocks.
-fn check_blocks(f: Frame, plan: &[[u32; 4]]) -> Verdict
-    requires { ⌜ Good (pictureOf f) ⌝ }
-    ensures { λ r. ⌜ r ≡ blocksVerdict f (planOf (now (plan .entry))) ⌝ }
-{
-    let area = (f.height as usize) * (f.width as usize);
-    let count = plan.len();
-    let mut covered: usize = 0;
-    let mut i: usize = 0;
-    while i < count {
-        let b = block_at(plan, i);
-        let no = block_no(f, b, covered);
-        if no != 0 {
-            let block = i as u32;
-            return Verdict { no, block };
-        }
-        let n = b.side as usize;
-        covered += n * n;
-        i += 1;
-    }
-    let no = if covered == area { 0 } else { 10 };
-    Verdict { no, block: 0 }
-}
-
 // Number 4: whether the picture is not refused.
 fn picture_ok(f: Frame) -> bool
     ensures { λ r. ⌜ r ≡ pictureOk (pictureOf f) ⌝ }
@@ -187,17 +164,28 @@ fn picture_ok(f: Frame) -> bool
     domain::side_ok(f.width) & domain::side_ok(f.height) & domain::ctu_ok(f.ctu)
 }
 
-// The first rule that a plan breaks, its picture's first, then its blocks' in list order, then that they cover all.
-pub fn check_plan_numbers(frame: Frame, plan: &[[u32; 4]]) -> Verdict
-    ensures { λ r. ⌜ r ≡ planVerdict frame (planOf (now (plan .entry))) ⌝ }
+// Block i of a plan of bytes; zeros where there is none.
+pub fn record_at(plan: &[u8], i: usize) -> Block
+    ensures { λ r. ⌜ r ≡ recordAt (now (plan .entry)) i ⌝ }
 {
-    if !picture_ok(frame) {
-        return Verdict { no: 4, block: 0 };
+    if i >= plan.len() / 6 {
+        return Block {
+            row: 0,
+            col: 0,
+            side: 0,
+            mode: 0,
+        };
     }
-    check_blocks(frame, plan)
+    let at = 6 * i;
+    Block {
+        row: bytes::sample(plan[at], plan[at + 1]) as u32,
+        col: bytes::sample(plan[at + 2], plan[at + 3]) as u32,
+        side: plan[at + 4] as u32,
+        mode: plan[at + 5] as u32,
+    }
 }
 
-// Where the check of a plan's records stands: the first refusal, its block, and the samples covered before it.
+// Where the check of a plan stands: the first refusal, its block, and the samples covered before it.
 struct Checking {
     no: u32,
     block: u32,
@@ -255,6 +243,20 @@ fn check_end(f: Frame, t: Checking) -> Verdict
     Verdict { no, block: 0 }
 }
 
+// The first rule that a plan breaks, its picture's first, then its blocks' in list order, then that they cover all.
+pub fn check_plan_numbers(frame: Frame, plan: &[[u32; 4]]) -> Verdict
+    ensures { λ r. ⌜ r ≡ planVerdict frame (planOf (now (plan .entry))) ⌝ }
+{
+    let count = plan.len();
+    let mut t = check_start(frame);
+    let mut i: usize = 0;
+    while i < count {
+        t = check_step(frame, t, block_at(plan, i), i);
+        i += 1;
+    }
+    check_end(frame, t)
+}
+
 // The same of a list of block records.
 pub fn check_plan(frame: Frame, plan: &[Block]) -> Verdict
     ensures { λ r. ⌜ r ≡ planVerdict frame (listed (now (plan .entry))) ⌝ }
@@ -266,4 +268,31 @@ pub fn check_plan(frame: Frame, plan: &[Block]) -> Verdict
         i += 1;
     }
     check_end(frame, t)
+}
+
+// The same of the records that bytes spell.
+fn check_records(frame: Frame, plan: &[u8]) -> Verdict
+    ensures { λ r. ⌜ r ≡ planVerdict frame (recordsOf (now (plan .entry))) ⌝ }
+{
+    let count = plan.len() / 6;
+    let mut t = check_start(frame);
+    let mut i: usize = 0;
+    while i < count {
+        t = check_step(frame, t, record_at(plan, i), i);
+        i += 1;
+    }
+    check_end(frame, t)
+}
+
+// The plan check on bytes: also that they are whole records.
+pub fn check_plan_bytes(frame: Frame, plan: &[u8]) -> Verdict
+    ensures { λ r. ⌜ r ≡ bytesVerdict frame (now (plan .entry)) ⌝ }
+{
+    if !picture_ok(frame) {
+        return Verdict { no: 4, block: 0 };
+    }
+    if plan.len() % 6 != 0 {
+        return Verdict { no: 5, block: 0 };
+    }
+    check_records(frame, plan)
 }

@@ -28,6 +28,8 @@ use Rattle.refs.specs.Door as gather
 use Rattle.plan.specs.declared.Verdict.{Verdict}
 use Rattle.plan.specs.Plan.{planOf}
 use Rattle.plan.specs.Check.{planVerdict}
+use Rattle.walk.specs.declared.Still.{Still}
+use Rattle.walk.specs.declared.Stepped.{Stepped}
 use Rattle.probes.specs.declared.Answer.{Answer}
 use Rattle.probes.specs.declared.PairReferences.{PairReferences}
 use Rattle.probes.specs.declared.PlanAnswer.{PlanAnswer}
@@ -36,6 +38,7 @@ use Rattle.probes.specs.declared.FormatFigures.{FormatFigures}
 use Rattle.probes.specs.declared.Place.{Place}
 use Rattle.probes.specs.declared.TwoRows.{TwoRows}
 use Rattle.probes.specs.declared.References.{References}
+use Rattle.probes.specs.declared.StepAnswer.{StepAnswer}
 
 -- a depth's figures; a refusal is number 1 and zeros
 abbrev pub figuresOf : DepthFrom → DepthFigures
@@ -144,3 +147,10 @@ verdictOf v = record { no = v .no; block = v .block }
 
 abbrev pub planAnswer : ℕ → ℕ → ℕ → List (List ℕ) → PlanAnswer
 planAnswer width height ctu plan = verdictOf (planVerdict (record { width = width; height = height; ctu = ctu }) (planOf plan))
+
+-- a still as bare numbers, and what a call of walk or replay gives
+abbrev pub stillOf : ℕ → ℕ → ℕ → ℕ → Still
+stillOf bits width height ctu = record { bits = bits; frame = record { width = width; height = height; ctu = ctu } }
+
+abbrev pub stepOf : Stepped → StepAnswer
+stepOf a = record { no = a .no; block = a .block; did = a .did; done = a .next .done }

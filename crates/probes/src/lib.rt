@@ -22,6 +22,9 @@ ghost use Rattle.predict.specs.Door.{predictNo};
 ghost use Rattle.predict.specs.Contents.{chromaAt};
 ghost use Rattle.scratch.specs.Lent.{withScratch};
 ghost use Rattle.probes.specs.Probes.{pictureOf, substituteAnswer, gatherAnswer, pairAnswer, planAnswer};
+ghost use Rattle.plan.specs.Plan.{planOf};
+ghost use Rattle.walk.specs.Door.{steppedBy, walkVerdict, walkAfter, replayVerdict, replayAfter};
+ghost use Rattle.probes.specs.Probes.{stillOf, stepOf};
 use fmt::BitDepth;
 use fmt::ChromaCol;
 use fmt::ChromaFormat;
@@ -37,6 +40,8 @@ use refs::ChromaRefGeometry;
 use refs::Flags;
 use refs::LumaRefGeometry;
 use rows::Rows;
+use walk::Progress;
+use walk::Still;
 
 // A depth's figures, all 0 where the call is refused.
 #[repr(C)]
@@ -638,5 +643,90 @@ pub extern "C" fn salvrunde_probe_check_plan(
     PlanAnswer {
         no: a.no,
         block: a.block,
+    }
+}
+
+// What a call of walk or replay gives: its number and the block that it is about, how many blocks it did, and how many are done.
+#[repr(C)]
+pub struct StepAnswer {
+    pub no: u32,
+    pub block: u32,
+    pub did: u32,
+    pub done: u32,
+}
+
+#[no_mangle]
+pub extern "C" fn salvrunde_probe_walk(
+    done: u32,
+    bits: u32,
+    width: u32,
+    height: u32,
+    ctu: u32,
+    plan: &[[u32; 4]],
+    source: &[u16],
+    work: &mut [u16],
+    residuals: &mut [i32],
+    refs: &mut [u16],
+    indices: &mut [u32],
+    fractions: &mut [u32],
+    grant: u32,
+) -> StepAnswer
+    ensures { λ r. ⌜ (r ≡ stepOf (steppedBy (walkVerdict (stillOf bits width height ctu) (planOf (now (plan .entry))) (record { refs = length (now (refs .entry)); indices = length (now (indices .entry)); fractions = length (now (fractions .entry)) }) (record { done = done }) (now (source .entry)) (record { work = now (work .entry); residuals = now (residuals .entry) })) (planOf (now (plan .entry))) (record { done = done }) grant)) × ((record { work = now (work .exit); residuals = now (residuals .exit) } ≡ walkAfter (stillOf bits width height ctu) (planOf (now (plan .entry))) (record { refs = length (now (refs .entry)); indices = length (now (indices .entry)); fractions = length (now (fractions .entry)) }) (record { done = done }) grant (now (source .entry)) (record { work = now (work .entry); residuals = now (residuals .entry) })) × ((r .no ≡ 0 → ⊥) → (now (refs .exit) ≡ now (refs .entry)) × ((now (indices .exit) ≡ now (indices .entry)) × (now (fractions .exit) ≡ now (fractions .entry))))) ⌝ }
+{
+    let frame = Frame { width, height, ctu };
+    let p = Progress { done };
+    let a = p.walk_numbers(
+        Still { bits, frame },
+        plan,
+        source,
+        &mut *work,
+        &mut *residuals,
+        &mut *refs,
+        &mut *indices,
+        &mut *fractions,
+        grant,
+    );
+    StepAnswer {
+        no: a.no,
+        block: a.block,
+        did: a.did,
+        done: a.next.done,
+    }
+}
+
+#[no_mangle]
+pub extern "C" fn salvrunde_probe_replay(
+    done: u32,
+    bits: u32,
+    width: u32,
+    height: u32,
+    ctu: u32,
+    plan: &[[u32; 4]],
+    residuals: &[i32],
+    plane: &mut [u16],
+    refs: &mut [u16],
+    indices: &mut [u32],
+    fractions: &mut [u32],
+    grant: u32,
+) -> StepAnswer
+    ensures { λ r. ⌜ (r ≡ stepOf (steppedBy (replayVerdict (stillOf bits width height ctu) (planOf (now (plan .entry))) (record { refs = length (now (refs .entry)); indices = length (now (indices .entry)); fractions = length (now (fractions .entry)) }) (record { done = done }) (length (now (plane .entry))) (now (residuals .entry))) (planOf (now (plan .entry))) (record { done = done }) grant)) × ((now (plane .exit) ≡ replayAfter (stillOf bits width height ctu) (planOf (now (plan .entry))) (record { refs = length (now (refs .entry)); indices = length (now (indices .entry)); fractions = length (now (fractions .entry)) }) (record { done = done }) grant (now (residuals .entry)) (now (plane .entry))) × ((r .no ≡ 0 → ⊥) → (now (refs .exit) ≡ now (refs .entry)) × ((now (indices .exit) ≡ now (indices .entry)) × (now (fractions .exit) ≡ now (fractions .entry))))) ⌝ }
+{
+    let frame = Frame { width, height, ctu };
+    let p = Progress { done };
+    let a = p.replay_numbers(
+        Still { bits, frame },
+        plan,
+        residuals,
+        &mut *plane,
+        &mut *refs,
+        &mut *indices,
+        &mut *fractions,
+        grant,
+    );
+    StepAnswer {
+        no: a.no,
+        block: a.block,
+        did: a.did,
+        done: a.next.done,
     }
 }

@@ -3,6 +3,8 @@
 pub mod Calls
 pub mod Demand3
 pub mod Proof3
+-- OnBytes: the same for replays on bytes.
+pub mod OnBytes
 pub mod Example
 -- Chains: a chain of calls is one call. Accept: what it means that a call is not refused.
 pub mod Chains
@@ -12,3 +14,13 @@ pub mod Range
 pub mod Spots
 -- OneAnswer: at most one answer meets the contract of each public function.
 pub mod OneAnswer
+-- Exact: rows of document 01's table, and what it means that a number is given exactly when its row says.
+pub mod Exact
+-- Table: document 01's table of numbers at each door. TableWalk: the same for the plan check, walk and replay. TableBytes: for the camera's entries.
+pub mod Table
+pub mod TableWalk
+pub mod TableBytes
+-- Refused: what a refused call gives back, and that it leaves what is lent untouched.
+pub mod Refused
+-- Program: intrawalk prints a refusal, or all blocks and `same`.
+pub mod Program

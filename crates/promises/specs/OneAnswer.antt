@@ -17,12 +17,21 @@ use denote.Triple.Clauses.{Ended, AtExit, Clauses}
 use denote.Triple.Entry.{Args, Res}
 use Rattle.laws.specs.Choose.{served}
 use Rattle.walk.specs.Block.{World}
+use Rattle.byte_replay.specs.Door.{After}
+use Rattle.camera.specs.Entries.{Written, wrote}
+use Rattle.bytes.proofs.sample.Reads as bytes-sample
+use Rattle.bytes.proofs.residual.Reads as bytes-residual
+use Rattle.bytes.proofs.byte_0.Reads as bytes-byte-0
+use Rattle.bytes.proofs.byte_1.Reads as bytes-byte-1
+use Rattle.bytes.proofs.byte_2.Reads as bytes-byte-2
+use Rattle.bytes.proofs.byte_3.Reads as bytes-byte-3
 use Rattle.domain.proofs.depth_ok.Reads as domain-depth-ok
 use Rattle.domain.proofs.size_ok.Reads as domain-size-ok
 use Rattle.domain.proofs.mode_ok.Reads as domain-mode-ok
 use Rattle.domain.proofs.side_ok.Reads as domain-side-ok
 use Rattle.domain.proofs.ctu_ok.Reads as domain-ctu-ok
 use Rattle.domain.proofs.unit_ok.Reads as domain-unit-ok
+use Rattle.listing.proofs.word.Reads as listing-word
 use Rattle.fmt.proofs.BitDepth.from_bits.Reads as fmt-from-bits
 use Rattle.fmt.proofs.BitDepth.bits.Reads as fmt-bits
 use Rattle.fmt.proofs.BitDepth.max_val.Reads as fmt-max-val
@@ -49,9 +58,16 @@ use Rattle.smooth.proofs.filter_luma_refs.Reads as smooth-filter-luma-refs
 use Rattle.refs.proofs.substitute_refs.Reads as refs-substitute-refs
 use Rattle.refs.proofs.get_reference_samples.Reads as refs-get-reference-samples
 use Rattle.refs.proofs.get_reference_samples_chroma_pair.Reads as refs-get-reference-samples-chroma-pair
+use Rattle.refs.proofs.get_reference_samples_bytes.Reads as refs-get-reference-samples-bytes
+use Rattle.refs.proofs.get_reference_samples_chroma_pair_bytes.Reads as refs-get-reference-samples-chroma-pair-bytes
+use Rattle.plan.proofs.record_at.Reads as plan-record-at
+use Rattle.plan.proofs.check_plan_bytes.Reads as plan-check-plan-bytes
 use Rattle.plan.proofs.check_plan_numbers.Reads as plan-check-plan-numbers
 use Rattle.plan.proofs.check_plan as plan-check-plan
 use Rattle.walk.proofs.Progress.fresh.Reads as walk-fresh
+use Rattle.walk.proofs.geometry.Reads as walk-geometry
+use Rattle.walk.proofs.opening_no.Reads as walk-opening-no
+use Rattle.walk.proofs.residual_ok.Reads as walk-residual-ok
 use Rattle.probes.proofs.salvrunde_probe_depth.Reads as probes-salvrunde-probe-depth
 use Rattle.probes.proofs.salvrunde_probe_format.Reads as probes-salvrunde-probe-format
 use Rattle.probes.proofs.salvrunde_probe_on_luma.Reads as probes-salvrunde-probe-on-luma
@@ -89,6 +105,17 @@ use Rattle.probes.proofs.salvrunde_probe_predict_chroma_tb_scratch.Reads as pro
 use Rattle.probes.proofs.salvrunde_probe_predict_luma_tb_scratch.Reads as probes-salvrunde-probe-predict-luma-tb-scratch
 use Rattle.probes.proofs.salvrunde_probe_compute_residual_i32_into.Reads as probes-salvrunde-probe-compute-residual-i32-into
 use Rattle.probes.proofs.salvrunde_probe_reconstruct_into.Reads as probes-salvrunde-probe-reconstruct-into
+use Rattle.probes.proofs.salvrunde_probe_walk.Reads as probes-salvrunde-probe-walk
+use Rattle.probes.proofs.salvrunde_probe_replay.Reads as probes-salvrunde-probe-replay
+use Rattle.camera.proofs.salvrunde_luma_refs.Reads as camera-salvrunde-luma-refs
+use Rattle.camera.proofs.salvrunde_chroma_refs.Reads as camera-salvrunde-chroma-refs
+use Rattle.camera.proofs.salvrunde_planar.Reads as camera-salvrunde-planar
+use Rattle.camera.proofs.salvrunde_dc.Reads as camera-salvrunde-dc
+use Rattle.camera.proofs.salvrunde_angular.Reads as camera-salvrunde-angular
+use Rattle.camera.proofs.salvrunde_chroma_block.Reads as camera-salvrunde-chroma-block
+use Rattle.camera.proofs.salvrunde_replay.Reads as camera-salvrunde-replay
+use Rattle.byte_replay.proofs.replay.Reads as byte-replay-replay
+use Rattle.report.proofs.report.Reads as report-report
 use Rattle.walk.proofs.Progress.replay_numbers.Reads as walk-replay-numbers
 use Rattle.walk.proofs.Progress.walk_numbers.Reads as walk-walk-numbers
 use Rattle.walk.proofs.Progress.replay as walk-replay
@@ -105,6 +132,25 @@ OnceLeft {A} {X} {S} lent post = (a : A) (x y : X) (s t : S) → post a x s → 
 -- contents that go by the answer's number
 by-number : {L : Type 0} (work kept : L) {n x y : ℕ} {l m : L} → x ≡ n → y ≡ n → l ≡ served x work kept → m ≡ served y work kept → (x ≡ y) × (l ≡ m)
 by-number work kept p q u v = (p ∙ sym q, u ∙ ap (λ (k : ℕ). served k work kept) (p ∙ sym q) ∙ sym v)
+
+-- bytes
+bytes-sample-once : Once (bytes-sample.Post tt)
+bytes-sample-once a x y s t p q = p ∙ sym q
+
+bytes-residual-once : Once (bytes-residual.Post tt)
+bytes-residual-once a x y s t p q = p ∙ sym q
+
+bytes-byte-0-once : Once (bytes-byte-0.Post tt)
+bytes-byte-0-once a x y s t p q = p ∙ sym q
+
+bytes-byte-1-once : Once (bytes-byte-1.Post tt)
+bytes-byte-1-once a x y s t p q = p ∙ sym q
+
+bytes-byte-2-once : Once (bytes-byte-2.Post tt)
+bytes-byte-2-once a x y s t p q = p ∙ sym q
+
+bytes-byte-3-once : Once (bytes-byte-3.Post tt)
+bytes-byte-3-once a x y s t p q = p ∙ sym q
 
 -- domain
 domain-depth-ok-once : Once (domain-depth-ok.Post tt)
@@ -124,6 +170,10 @@ domain-ctu-ok-once a x y s t p q = p ∙ sym q
 
 domain-unit-ok-once : Once (domain-unit-ok.Post tt)
 domain-unit-ok-once a x y s t p q = p ∙ sym q
+
+-- listing
+listing-word-once : (κs : Lfts 1) → Once (listing-word.Post κs)
+listing-word-once κs a x y s t p q = p ∙ sym q
 
 -- fmt
 fmt-from-bits-once : Once (fmt-from-bits.Post tt)
@@ -209,13 +259,34 @@ refs-get-reference-samples-once κs a x y s t p q = p ∙ sym q
 refs-get-reference-samples-chroma-pair-once : (κs : Lfts 2) → Once (refs-get-reference-samples-chroma-pair.Post κs)
 refs-get-reference-samples-chroma-pair-once κs a x y s t p q = p ∙ sym q
 
+refs-get-reference-samples-bytes-once : (κs : Lfts 1) → Once (refs-get-reference-samples-bytes.Post κs)
+refs-get-reference-samples-bytes-once κs a x y s t p q = p ∙ sym q
+
+refs-get-reference-samples-chroma-pair-bytes-once : (κs : Lfts 2) → Once (refs-get-reference-samples-chroma-pair-bytes.Post κs)
+refs-get-reference-samples-chroma-pair-bytes-once κs a x y s t p q = p ∙ sym q
+
 -- plan
 plan-check-plan-numbers-once : (κs : Lfts 1) → Once (plan-check-plan-numbers.Post κs)
 plan-check-plan-numbers-once κs a x y s t p q = p ∙ sym q
 
+plan-record-at-once : (κs : Lfts 1) → Once (plan-record-at.Post κs)
+plan-record-at-once κs a x y s t p q = p ∙ sym q
+
+plan-check-plan-bytes-once : (κs : Lfts 1) → Once (plan-check-plan-bytes.Post κs)
+plan-check-plan-bytes-once κs a x y s t p q = p ∙ sym q
+
 -- walk
 walk-fresh-once : Once (walk-fresh.Post tt)
 walk-fresh-once a x y s t p q = p ∙ sym q
+
+walk-geometry-once : Once (walk-geometry.Post tt)
+walk-geometry-once a x y s t p q = p ∙ sym q
+
+walk-opening-no-once : Once (walk-opening-no.Post tt)
+walk-opening-no-once a x y s t p q = p ∙ sym q
+
+walk-residual-ok-once : Once (walk-residual-ok.Post tt)
+walk-residual-ok-once a x y s t p q = p ∙ sym q
 
 -- probes
 probes-salvrunde-probe-depth-once : Once (probes-salvrunde-probe-depth.Post tt)
@@ -326,12 +397,55 @@ probes-salvrunde-probe-compute-residual-i32-into-once κs a x y s t p q = (p .0 
 probes-salvrunde-probe-reconstruct-into-once : (κs : Lfts 3) → OnceLeft (λ s. now (s .1 .1 .1 .1 .0)) (probes-salvrunde-probe-reconstruct-into.Post κs)
 probes-salvrunde-probe-reconstruct-into-once κs a x y s t p q = (p .0 ∙ sym (q .0), p .1 ∙ sym (q .1))
 
+probes-salvrunde-probe-walk-once : (κs : Lfts 7) → OnceLeft {L = World} (λ s. record { work = now (s .1 .1 .1 .1 .1 .1 .1 .0); residuals = now (s .1 .1 .1 .1 .1 .1 .1 .1 .0) }) (probes-salvrunde-probe-walk.Post κs)
+probes-salvrunde-probe-walk-once κs a x y s t p q = (p .0 ∙ sym (q .0), p .1 .0 ∙ sym (q .1 .0))
+
+probes-salvrunde-probe-replay-once : (κs : Lfts 6) → OnceLeft (λ s. now (s .1 .1 .1 .1 .1 .1 .1 .0)) (probes-salvrunde-probe-replay.Post κs)
+probes-salvrunde-probe-replay-once κs a x y s t p q = (p .0 ∙ sym (q .0), p .1 .0 ∙ sym (q .1 .0))
+
+-- byte_replay
+by-after : {x y : ℕ} {d e f g : List ℕ} {a : After} → _≡_ {A = After} (record { number = x; plane = d; result = f }) a → _≡_ {A = After} (record { number = y; plane = e; result = g }) a
+    → (x ≡ y) × (_≡_ {A = List ℕ × List ℕ} (d, f) (e, g))
+by-after p q = (ap (λ (v : After). v .number) (p ∙ sym q), ap (λ (v : After). (v .plane, v .result)) (p ∙ sym q))
+
+byte-replay-replay-once : (κs : Lfts 4) → OnceLeft {L = List ℕ × List ℕ} (λ s. (now (s .1 .1 .1 .1 .0), now (s .1 .1 .1 .1 .1 .0))) (byte-replay-replay.Post κs)
+byte-replay-replay-once κs a x y s t p q = by-after p q
+
+-- camera
+by-written : {x y : ℕ} {l m : List ℕ} {w : Written} → wrote x l ≡ w → wrote y m ≡ w → (x ≡ y) × (l ≡ m)
+by-written p q = (ap (λ (v : Written). v .number) (p ∙ sym q), ap (λ (v : Written). v .bytes) (p ∙ sym q))
+
+camera-salvrunde-luma-refs-once : (κs : Lfts 2) → OnceLeft (λ s. now (s .1 .1 .1 .1 .1 .1 .1 .1 .1 .0)) (camera-salvrunde-luma-refs.Post κs)
+camera-salvrunde-luma-refs-once κs a x y s t p q = by-written p q
+
+camera-salvrunde-chroma-refs-once : (κs : Lfts 3) → OnceLeft (λ s. now (s .1 .1 .1 .1 .1 .1 .1 .1 .1 .1 .1 .1 .0)) (camera-salvrunde-chroma-refs.Post κs)
+camera-salvrunde-chroma-refs-once κs a x y s t p q = by-written p q
+
+camera-salvrunde-planar-once : (κs : Lfts 3) → OnceLeft (λ s. now (s .1 .1 .1 .0)) (camera-salvrunde-planar.Post κs)
+camera-salvrunde-planar-once κs a x y s t p q = by-written p q
+
+camera-salvrunde-dc-once : (κs : Lfts 3) → OnceLeft (λ s. now (s .1 .1 .1 .1 .0)) (camera-salvrunde-dc.Post κs)
+camera-salvrunde-dc-once κs a x y s t p q = by-written p q
+
+camera-salvrunde-angular-once : (κs : Lfts 3) → OnceLeft (λ s. now (s .1 .1 .1 .1 .1 .1 .1 .0)) (camera-salvrunde-angular.Post κs)
+camera-salvrunde-angular-once κs a x y s t p q = by-written p q
+
+camera-salvrunde-chroma-block-once : (κs : Lfts 3) → OnceLeft (λ s. now (s .1 .1 .1 .1 .1 .1 .0)) (camera-salvrunde-chroma-block.Post κs)
+camera-salvrunde-chroma-block-once κs a x y s t p q = by-written p q
+
+camera-salvrunde-replay-once : (κs : Lfts 4) → OnceLeft {L = List ℕ × List ℕ} (λ s. (now (s .1 .1 .1 .1 .1 .1 .1 .1 .0), now (s .1 .1 .1 .1 .1 .1 .1 .1 .1 .0))) (camera-salvrunde-replay.Post κs)
+camera-salvrunde-replay-once κs a x y s t p q = by-after p q
+
 -- walk
 walk-replay-numbers-once : (κs : Lfts 6) → OnceLeft (λ s. now (s .1 .1 .1 .1 .0)) (walk-replay-numbers.Post κs)
 walk-replay-numbers-once κs a x y s t p q = (p .0 ∙ sym (q .0), p .1 .0 ∙ sym (q .1 .0))
 
 walk-walk-numbers-once : (κs : Lfts 7) → OnceLeft {L = World} (λ s. record { work = now (s .1 .1 .1 .1 .0); residuals = now (s .1 .1 .1 .1 .1 .0) }) (walk-walk-numbers.Post κs)
 walk-walk-numbers-once κs a x y s t p q = (p .0 ∙ sym (q .0), p .1 .0 ∙ sym (q .1 .0))
+
+-- report
+report-report-once : (κs : Lfts 1) → Once (report-report.Post κs)
+report-report-once κs a x y s t p q = p ∙ sym q
 
 -- A function that is proved by hand has no such reading: its clause is an assertion of any model, and two answers that both meet it there are one.
 module _ {M : Type 1} (𝓤 : URA M) (H : Heap 𝓤) (A : Atoms 𝓤) (mem : Memory → SProp 𝓤) (run : Routine → Fun 𝓤) where

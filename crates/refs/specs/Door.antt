@@ -5,6 +5,7 @@ use mathlib.Core.List.{List, [], _∷_}
 use lib.Dec.{leb, eqb}
 use lib.ListN.{length}
 use Rattle.laws.specs.Choose.{_unless_, firstFail, served}
+use Rattle.bytes.specs.Bytes.{samplesOf}
 use Rattle.domain.specs.Domain.{depthOk, sizeOk}
 use Rattle.fmt.specs.declared.ChromaFormat.{ChromaFormat}
 use Rattle.fmt.specs.declared.ChromaFormat.the-variants.{Monochrome, Yuv420, Yuv422, Yuv444}
@@ -35,15 +36,22 @@ substituteDoor rows flags n bits =
     let k = substituteNo bits n in
     record { no = k; rows = served k (substituted n (neutralAt bits) flags rows) (levelRows 0) }
 
--- The luma gather refuses 1, 2, 4, 5, 6.
+-- The luma gather refuses 1, 2, 4, 5, 6; a plane of another length than the picture's is not whole.
 abbrev pub lumaBlock : LumaRefGeometry → LumaBlock
 lumaBlock g = record { picture = g .picture; row = g .«block_row»; col = g .«block_col»; n = g .n }
 
-unfoldable pub lumaNo : ℕ → LumaRefGeometry → ℕ
-lumaNo len g =
+abbrev pub lumaNumber : Bool → LumaRefGeometry → ℕ
+lumaNumber whole g =
     firstFail
-    ((1 unless depthOk (g .bits)) ∷ (2 unless sizeOk (g .n)) ∷ (4 unless pictureOk (g .picture))
-    ∷ (5 unless eqb len (g .picture .height * g .picture .width)) ∷ (6 unless lumaPlaceOk (lumaBlock g)) ∷ [])
+    ((1 unless depthOk (g .bits)) ∷ (2 unless sizeOk (g .n)) ∷ (4 unless pictureOk (g .picture)) ∷ (5 unless whole) ∷ (6 unless lumaPlaceOk (lumaBlock g))
+    ∷ [])
+
+-- a plane's count of luma samples
+abbrev pub lumaLength : LumaRefGeometry → ℕ
+lumaLength g = g .picture .height * g .picture .width
+
+unfoldable pub lumaNo : ℕ → LumaRefGeometry → ℕ
+lumaNo len g = lumaNumber (eqb len (lumaLength g)) g
 
 -- the rows of a luma block
 unfoldable pub lumaRows : List ℕ → LumaRefGeometry → Rows
@@ -52,6 +60,13 @@ lumaRows plane g =
 
 unfoldable pub lumaDoor : List ℕ → LumaRefGeometry → Gathered
 lumaDoor plane g = let k = lumaNo (length plane) g in record { no = k; rows = served k (lumaRows plane g) (levelRows 0) }
+
+-- The same over a plane of bytes, two a sample: number 5 counts bytes, and the rows are those of the samples that the bytes spell.
+unfoldable pub lumaBytesNo : ℕ → LumaRefGeometry → ℕ
+lumaBytesNo len g = lumaNumber (eqb len (2 * lumaLength g)) g
+
+unfoldable pub lumaBytesDoor : List ℕ → LumaRefGeometry → Gathered
+lumaBytesDoor b g = let k = lumaBytesNo (length b) g in record { no = k; rows = served k (lumaRows (samplesOf b) g) (levelRows 0) }
 
 -- The chroma pair gather refuses 1, 2, 4, 5, 6. Order is counted in CTUs of 64; formats go by chroma_format_idc.
 abbrev pub chromaCtu : ℕ
@@ -79,11 +94,14 @@ chromaBlock g =
 abbrev pub chromaLength : ChromaRefGeometry → ℕ
 chromaLength g = chromaHeight (chromaBlock g) * chromaWidth (chromaBlock g)
 
-unfoldable pub chromaNo : ℕ → ℕ → ChromaRefGeometry → ℕ
-chromaNo cb cr g =
+abbrev pub chromaNumber : Bool → ChromaRefGeometry → ℕ
+chromaNumber whole g =
     firstFail
     ((1 unless depthOk (g .bits)) ∷ (2 unless sizeOk (g .n)) ∷ (4 unless pictureOk (chromaPicture g) && leb 1 (g .format) && leb (g .format) 3)
-    ∷ (5 unless eqb cb (chromaLength g) && eqb cr (chromaLength g)) ∷ (6 unless chromaPlaceOk (chromaBlock g)) ∷ [])
+    ∷ (5 unless whole) ∷ (6 unless chromaPlaceOk (chromaBlock g)) ∷ [])
+
+unfoldable pub chromaNo : ℕ → ℕ → ChromaRefGeometry → ℕ
+chromaNo cb cr g = chromaNumber (eqb cb (chromaLength g) && eqb cr (chromaLength g)) g
 
 -- the rows of a chroma block in one plane
 unfoldable pub chromaRows : List ℕ → ChromaRefGeometry → Rows
@@ -95,3 +113,12 @@ unfoldable pub chromaDoor : List ℕ → List ℕ → ChromaRefGeometry → Gath
 chromaDoor cb cr g =
     let k = chromaNo (length cb) (length cr) g in
     record { no = k; planes = served k (chromaRows cb g ∷ chromaRows cr g ∷ []) (levelRows 0 ∷ levelRows 0 ∷ []) }
+
+-- The same over planes of bytes.
+unfoldable pub chromaBytesNo : ℕ → ℕ → ChromaRefGeometry → ℕ
+chromaBytesNo cb cr g = chromaNumber (eqb cb (2 * chromaLength g) && eqb cr (2 * chromaLength g)) g
+
+unfoldable pub chromaBytesDoor : List ℕ → List ℕ → ChromaRefGeometry → GatheredPair
+chromaBytesDoor cb cr g =
+    let k = chromaBytesNo (length cb) (length cr) g in
+    record { no = k; planes = served k (chromaRows (samplesOf cb) g ∷ chromaRows (samplesOf cr) g ∷ []) (levelRows 0 ∷ levelRows 0 ∷ []) }

@@ -166,9 +166,7 @@ module _ {has : ℤ → ℤ → Bool} {height width : ℕ} (rule : Rule has heig
       let a = leading-from-leads (aboveHas has row col) 0 (2 * n + 1) in
       let l = leading-from-leads (leftHas has row col) 0 (2 * n + 1) in
       record {
-        side = small;
-        above-few = omega (arith, a .most);
-        left-few = omega (arith, l .most);
+        few = record { side = small; above-few = omega (arith, a .most); left-few = omega (arith, l .most) };
         above-in =
             λ i h.
             let p = in-plane (pos row -ℤ pos 1) (pos (col + i)) (row - 1) (col + i) (back row) (inl refl) (a .hold i (omega arith) h) in

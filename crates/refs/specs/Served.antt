@@ -1,16 +1,16 @@
 -- A call's number from the number that the reach gives, and what a call that is not refused rests on. Assumes nothing.
 use mathlib.Core.Path.{_≡_, refl, sym, ap, ap₂, _∙_, subst}
 use mathlib.Core.Bool.{Bool, true, false, cond, _&&_, _||_, false≢true}
-use mathlib.Core.List.{List}
+use mathlib.Core.List.{List, [], _∷_}
 use mathlib.Core.Logic.{_⊎_, ⊎-elim}
-use Prim.Native.Nat.{ℕ, zero, suc, _-_, _*_, _≤_}
+use Prim.Native.Nat.{ℕ, zero, suc, _-_, _*_, _/_, _%_, _≤_}
 use native.Mathlib.Nat.{div-le-self}
 use native.Mathlib.Omega.{arith}
 use lib.Dec.{leb, eqb}
 use lib.IntN.{ℤ}
 use lib.ListN.{length}
-use borrow.Author.Tests.{ne-eqb, eqb-true, le-leb, lt-leb}
-use Rattle.laws.specs.Choose.{served, worked, unserved, passed, both-true}
+use borrow.Author.Tests.{eq-eqb, ne-eqb, eqb-true, eqb-false, le-leb, lt-leb}
+use Rattle.laws.specs.Choose.{served, worked, unserved, passed, both-true, both-same}
 use Rattle.domain.specs.Domain.{depthOk, sizeOk}
 use Rattle.domain.specs.Facts.{size-of, size-small}
 use Rattle.fmt.specs.Fmt.{subWidth, subHeight}
@@ -27,7 +27,7 @@ use Rattle.refs.specs.declared.Spot.{Spot}
 use Rattle.refs.specs.declared.LumaRefGeometry.{LumaRefGeometry}
 use Rattle.refs.specs.declared.ChromaRefGeometry.{ChromaRefGeometry}
 use Rattle.refs.specs.Gather.{gatheredBy, sampleOf}
-use Rattle.refs.specs.Door.{neutralAt, substituteNo, lumaBlock, lumaNo, formatOf, chromaPicture, chromaBlock, chromaLength, chromaNo}
+use Rattle.refs.specs.Door.{neutralAt, substituteNo, lumaBlock, lumaNumber, lumaLength, lumaNo, lumaRows, formatOf, chromaPicture, chromaBlock, chromaLength, chromaNumber, chromaNo, chromaRows}
 use Rattle.refs.specs.Line.{told}
 use Rattle.refs.specs.Counts.{Counted}
 use Rattle.refs.specs.Spots.{spotOf, planeRows, Reads, rows-are}
@@ -46,11 +46,10 @@ same-number true true true false = refl
 same-number true true false true = refl
 same-number true true false false = refl
 
-pub luma-no : (len : ℕ) (g : LumaRefGeometry) → lumaNo len g ≡ gatherNo (g .bits) (lumaReachNo (lumaBlock g)) (eqb len (g .picture .height * g .picture .width))
-unfolding lumaNo lumaReachNo
-luma-no len g =
-    ap (λ (k : ℕ). cond (depthOk (g .bits)) k 1)
-    (same-number (sizeOk (g .n)) (pictureOk (g .picture)) (lumaPlaceOk (lumaBlock g)) (eqb len (g .picture .height * g .picture .width)))
+pub luma-no : (whole : Bool) (g : LumaRefGeometry) → lumaNumber whole g ≡ gatherNo (g .bits) (lumaReachNo (lumaBlock g)) whole
+unfolding lumaReachNo
+luma-no whole g =
+    ap (λ (k : ℕ). cond (depthOk (g .bits)) k 1) (same-number (sizeOk (g .n)) (pictureOk (g .picture)) (lumaPlaceOk (lumaBlock g)) whole)
 
 -- a format with colour is 1, 2 or 3
 by-four : (P : ℕ → Type 0) → P 0 → P 1 → P 2 → P 3 → ((k : ℕ) → 4 ≤ k → P k) → (k : ℕ) → P k
@@ -68,14 +67,12 @@ coloured true = by-four (λ (f : ℕ). (leb 1 f && leb f 3) ≡ colour (formatOf
         simp (le-leb 1 k (omega arith), lt-leb k 3 (omega arith), ne-eqb k 1 (λ e. let q : k ≡ 1 = e in omega arith), ne-eqb k 2 (λ e. let q : k ≡ 2 = e in omega arith), ne-eqb k 3 (λ e. let q : k ≡ 3 = e in omega arith))
 coloured false = λ f. refl
 
-pub chroma-no : (cb cr : ℕ) (g : ChromaRefGeometry)
-    → chromaNo cb cr g ≡ gatherNo (g .bits) (chromaReachNo (chromaBlock g)) (eqb cb (chromaLength g) && eqb cr (chromaLength g))
-unfolding chromaNo chromaReachNo
-chroma-no cb cr g =
-    let w = eqb cb (chromaLength g) && eqb cr (chromaLength g) in
+pub chroma-no : (whole : Bool) (g : ChromaRefGeometry) → chromaNumber whole g ≡ gatherNo (g .bits) (chromaReachNo (chromaBlock g)) whole
+unfolding chromaReachNo
+chroma-no whole g =
     let q = chromaPlaceOk (chromaBlock g) in
-    ap (λ (p : Bool). cond (depthOk (g .bits)) (cond (sizeOk (g .n)) (cond p (cond w (cond q 0 6) 5) 4) 2) 1) (coloured (pictureOk (chromaPicture g)) (g .format))
-    ∙ ap (λ (k : ℕ). cond (depthOk (g .bits)) k 1) (same-number (sizeOk (g .n)) (pictureOk (chromaPicture g) && colour (formatOf (g .format))) q w)
+    ap (λ (p : Bool). cond (depthOk (g .bits)) (cond (sizeOk (g .n)) (cond p (cond whole (cond q 0 6) 5) 4) 2) 1) (coloured (pictureOk (chromaPicture g)) (g .format))
+    ∙ ap (λ (k : ℕ). cond (depthOk (g .bits)) k 1) (same-number (sizeOk (g .n)) (pictureOk (chromaPicture g) && colour (formatOf (g .format))) q whole)
 
 -- the number stands in the reach, and a reach of number 0 is the block's own
 reach-no : (k : ℕ) (r : Reach) → r .no ≡ 0 → served k r (noReach k) .no ≡ k
@@ -118,15 +115,15 @@ ready {has} {height} {width} rule r len row col n er el small hr hc tall wide =
 
 pub luma-ready : (len : ℕ) (g : LumaRefGeometry) (r : Reach) → r ≡ lumaReach (lumaBlock g) → lumaNo len g ≡ 0
     → (depthOk (g .bits) ≡ true) × Ready (lumaHas (lumaBlock g)) r len (g .picture .width) (g .«block_row» .0) (g .«block_col» .0) (g .n)
-unfolding lumaReach
+unfolding lumaReach lumaNo
 luma-ready len g r er e =
     let b = lumaBlock g in
-    let f = gather-fine (g .bits) (lumaReachNo b) (eqb len (g .picture .height * g .picture .width)) (sym (luma-no len g) ∙ e) in
+    let f = gather-fine (g .bits) (lumaReachNo b) (eqb len (lumaLength g)) (sym (luma-no (eqb len (lumaLength g)) g) ∙ e) in
     let w = luma-fine b (f .1) in (
       f .0,
       ready (luma-rule b (w .good)) r len (g .«block_row» .0) (g .«block_col» .0) (g .n)
           (er ∙ sym (worked (lumaReachNo b) (reachBy 0 (lumaHas b) (b .row .0) (b .col .0) (b .n)) (noReach (lumaReachNo b)) (f .1)))
-          (eqb-true len (g .picture .height * g .picture .width) (f .2)) (size-small (g .n) (w .size) .1)
+          (eqb-true len (lumaLength g) (f .2)) (size-small (g .n) (w .size) .1)
           (omega (arith, w .placed .row-in)) (omega (arith, w .placed .col-in)) (w .good .tall .high) (w .good .wide .high),
     )
 
@@ -134,10 +131,11 @@ pub chroma-ready : (cb cr : ℕ) (g : ChromaRefGeometry) (r : Reach) → r ≡ c
     → (depthOk (g .bits) ≡ true)
     × Ready (chromaHas (chromaBlock g)) r cb (chromaWidth (chromaBlock g)) (g .«block_row» .0) (g .«block_col» .0) (g .n)
     × Ready (chromaHas (chromaBlock g)) r cr (chromaWidth (chromaBlock g)) (g .«block_row» .0) (g .«block_col» .0) (g .n)
-unfolding chromaReach
+unfolding chromaReach chromaNo
 chroma-ready cb cr g r er e =
     let b = chromaBlock g in
-    let f = gather-fine (g .bits) (chromaReachNo b) (eqb cb (chromaLength g) && eqb cr (chromaLength g)) (sym (chroma-no cb cr g) ∙ e) in
+    let whole = eqb cb (chromaLength g) && eqb cr (chromaLength g) in
+    let f = gather-fine (g .bits) (chromaReachNo b) whole (sym (chroma-no whole g) ∙ e) in
     let w = chroma-fine b (f .1) in
     let l = both-true (eqb cb (chromaLength g)) (eqb cr (chromaLength g)) (f .2) in
     let one : (len : ℕ) → eqb len (chromaLength g) ≡ true → Ready (chromaHas b) r len (chromaWidth b) (g .«block_row» .0) (g .«block_col» .0) (g .n) =
@@ -171,30 +169,93 @@ gathered k v = record { no = k; rows = v }
 abbrev pub gatheredPair : ℕ → List Rows → GatheredPair
 gatheredPair k v = record { no = k; planes = v }
 
--- the number that the code gives is the call's
-pub luma-number : (len : ℕ) (g : LumaRefGeometry) {b : LumaBlock} {r : Reach} {k : ℕ} → b ≡ lumaBlock g → r ≡ lumaReach b
-    → k ≡ gatherNo (g .bits) (r .no) (eqb len (g .picture .height * g .picture .width)) → (r ≡ lumaReach (lumaBlock g)) × (k ≡ lumaNo len g)
-luma-number len g eb er ek =
+-- the number that the code gives is the call's, however its planes are told to be whole
+pub luma-number : (whole : Bool) (g : LumaRefGeometry) {b : LumaBlock} {r : Reach} {w : Bool} {k : ℕ} → b ≡ lumaBlock g → r ≡ lumaReach b → w ≡ whole
+    → k ≡ gatherNo (g .bits) (r .no) w → (r ≡ lumaReach (lumaBlock g)) × (k ≡ lumaNumber whole g)
+luma-number whole g eb er ew ek =
     let e = er ∙ ap lumaReach eb in
-    let w = eqb len (g .picture .height * g .picture .width) in
-    (e, ek ∙ ap (λ (x : ℕ). gatherNo (g .bits) x w) (ap (λ (q : Reach). q .no) e ∙ luma-reach-no g) ∙ sym (luma-no len g))
+    (e, ek ∙ ap₂ (gatherNo (g .bits)) (ap (λ (q : Reach). q .no) e ∙ luma-reach-no g) ew ∙ sym (luma-no whole g))
 
-pub chroma-number : (cb cr : ℕ) (g : ChromaRefGeometry) {b : ChromaBlock} {r : Reach} {len k : ℕ} → b ≡ chromaBlock g → r ≡ chromaReach b → len ≡ chromaLength g
-    → k ≡ gatherNo (g .bits) (r .no) (eqb cb len && eqb cr len) → (r ≡ chromaReach (chromaBlock g)) × (k ≡ chromaNo cb cr g)
-chroma-number cb cr g {r = r} eb er el ek =
-    let e = er ∙ ap chromaReach eb in (
-      e,
-      ek ∙ ap₂ (λ (x l : ℕ). gatherNo (g .bits) x (eqb cb l && eqb cr l)) (ap (λ (q : Reach). q .no) e ∙ chroma-reach-no g) el ∙ sym (chroma-no cb cr g),
-    )
+pub chroma-number : (whole : Bool) (g : ChromaRefGeometry) {b : ChromaBlock} {r : Reach} {w : Bool} {k : ℕ} → b ≡ chromaBlock g → r ≡ chromaReach b → w ≡ whole
+    → k ≡ gatherNo (g .bits) (r .no) w → (r ≡ chromaReach (chromaBlock g)) × (k ≡ chromaNumber whole g)
+chroma-number whole g eb er ew ek =
+    let e = er ∙ ap chromaReach eb in
+    (e, ek ∙ ap₂ (gatherNo (g .bits)) (ap (λ (q : Reach). q .no) e ∙ chroma-reach-no g) ew ∙ sym (chroma-no whole g))
+
+-- a plane of whole samples in bytes: as long as it should be, and so are its samples
+pub twice : (m k : ℕ) → eqb (2 * m) (2 * k) ≡ eqb m k
+twice m k =
+    ⊎-elim (λ e. eq-eqb (2 * m) (2 * k) (ap (λ (x : ℕ). 2 * x) (eqb-true m k e)) ∙ sym e)
+    (λ e. ne-eqb (2 * m) (2 * k) (λ q. eqb-false m k e (let w : 2 * m ≡ 2 * k = q in omega arith)) ∙ sym e)
+    (told (eqb m k))
+
+pub halved : (len k : ℕ) → (eqb (len % 2) 0 && eqb (len / 2) k) ≡ eqb len (2 * k)
+halved len k =
+    let both = eqb (len % 2) 0 && eqb (len / 2) k in
+    ⊎-elim
+    (λ e. let q = eqb-true len (2 * k) e in both-same (eq-eqb (len % 2) 0 (omega arith)) (eq-eqb (len / 2) k (omega arith)) ∙ sym e)
+    (λ e.
+    ⊎-elim
+    (λ t. let b = both-true (eqb (len % 2) 0) (eqb (len / 2) k) t in absurd (eqb-false len (2 * k) e (let p = eqb-true (len % 2) 0 (b .0) in let q = eqb-true (len / 2) k (b .1) in omega arith)))
+    (λ t. t ∙ sym e)
+    (told both))
+    (told (eqb len (2 * k)))
 
 -- the rows of a plane, from the parts that the code makes
 module _ {has : ℤ → ℤ → Bool} {r : Reach} (plane : List ℕ) (width row col n bits : ℕ) (y : Ready has r (length plane) width row col n) where
-  pub inside : {w : ℕ} {s : Spot} → w ≡ width → s ≡ spotOf w row col → Reads r s (length plane) n
+  inside : {w : ℕ} {s : Spot} → w ≡ width → s ≡ spotOf w row col → Reads r s (length plane) n
   inside e es = subst (λ (t : Spot). Reads r t (length plane) n) (sym (es ∙ ap (λ (x : ℕ). spotOf x row col) e)) (y .reads)
 
-  pub made : {w neutral : ℕ} {s : Spot} {v : Rows} → w ≡ width → s ≡ spotOf w row col → neutral ≡ neutralAt bits → v ≡ planeRows plane s r n neutral
+  made : {w neutral : ℕ} {s : Spot} {v : Rows} → w ≡ width → s ≡ spotOf w row col → neutral ≡ neutralAt bits → v ≡ planeRows plane s r n neutral
       → v ≡ gatheredBy has (sampleOf plane width) row col n (neutralAt bits)
   made e es en ev =
       ev
       ∙ ap₂ (λ (t : Spot) (k : ℕ). planeRows plane t r n k) (es ∙ ap (λ (x : ℕ). spotOf x row col) e) en
-      ∙ rows-are has plane width row col n (neutralAt bits) r (y .reads .side) (y .known)
+      ∙ rows-are has plane width row col n (neutralAt bits) r (y .reads .few .side) (y .known)
+
+-- the same for the two doors, whose calls are not refused
+module _ (plane : List ℕ) (g : LumaRefGeometry) (r : Reach) (er : r ≡ lumaReach (lumaBlock g)) (e : lumaNo (length plane) g ≡ 0) where
+  abbrev luma : Ready (lumaHas (lumaBlock g)) r (length plane) (g .picture .width) (g .«block_row» .0) (g .«block_col» .0) (g .n)
+  luma = luma-ready (length plane) g r er e .1
+
+  pub luma-depth : depthOk (g .bits) ≡ true
+  luma-depth = luma-ready (length plane) g r er e .0
+
+  pub luma-small : (g .picture .width ≤ 4096) × (g .«block_row» .0 ≤ 4096) × (g .«block_col» .0 ≤ 4096)
+  luma-small = (luma .width-few, luma .row-few, luma .col-few)
+
+  pub luma-inside : {s : Spot} → s ≡ spotOf (g .picture .width) (g .«block_row» .0) (g .«block_col» .0) → Reads r s (length plane) (g .n)
+  luma-inside es = inside plane (g .picture .width) (g .«block_row» .0) (g .«block_col» .0) (g .n) (g .bits) luma refl es
+
+  pub luma-made : {s : Spot} {neutral : ℕ} {v : Rows} → s ≡ spotOf (g .picture .width) (g .«block_row» .0) (g .«block_col» .0) → neutral ≡ neutralAt (g .bits)
+      → v ≡ planeRows plane s r (g .n) neutral → v ≡ lumaRows plane g
+  unfolding lumaRows
+  luma-made es en ev = made plane (g .picture .width) (g .«block_row» .0) (g .«block_col» .0) (g .n) (g .bits) luma refl es en ev
+
+module _ (cb cr : List ℕ) (g : ChromaRefGeometry) (r : Reach) (er : r ≡ chromaReach (chromaBlock g)) (e : chromaNo (length cb) (length cr) g ≡ 0) where
+  abbrev pub Chroma : List ℕ → Type 0
+  Chroma plane = Ready (chromaHas (chromaBlock g)) r (length plane) (chromaWidth (chromaBlock g)) (g .«block_row» .0) (g .«block_col» .0) (g .n)
+
+  abbrev fine : (depthOk (g .bits) ≡ true) × Chroma cb × Chroma cr
+  fine = chroma-ready (length cb) (length cr) g r er e
+
+  pub chroma-depth : depthOk (g .bits) ≡ true
+  chroma-depth = fine .0
+
+  pub chroma-small : {w : ℕ} → w ≡ chromaWidth (chromaBlock g) → (w ≤ 4096) × (g .«block_row» .0 ≤ 4096) × (g .«block_col» .0 ≤ 4096)
+  chroma-small ew = (omega (arith, fine .1 .width-few), fine .1 .row-few, fine .1 .col-few)
+
+  module _ {w : ℕ} {s : Spot} (ew : w ≡ chromaWidth (chromaBlock g)) (es : s ≡ spotOf w (g .«block_row» .0) (g .«block_col» .0)) where
+    one-inside : (plane : List ℕ) → Chroma plane → Reads r s (length plane) (g .n)
+    one-inside plane y = inside plane (chromaWidth (chromaBlock g)) (g .«block_row» .0) (g .«block_col» .0) (g .n) (g .bits) y ew es
+
+    pub chroma-inside : Reads r s (length cb) (g .n) × Reads r s (length cr) (g .n)
+    chroma-inside = (one-inside cb (fine .1), one-inside cr (fine .2))
+
+    one-made : (plane : List ℕ) → Chroma plane → {neutral : ℕ} {v : Rows} → neutral ≡ neutralAt (g .bits) → v ≡ planeRows plane s r (g .n) neutral → v ≡ chromaRows plane g
+    unfolding chromaRows
+    one-made plane y en ev = made plane (chromaWidth (chromaBlock g)) (g .«block_row» .0) (g .«block_col» .0) (g .n) (g .bits) y ew es en ev
+
+    pub chroma-made : {neutral : ℕ} {v u : Rows} → neutral ≡ neutralAt (g .bits) → v ≡ planeRows cb s r (g .n) neutral → u ≡ planeRows cr s r (g .n) neutral
+        → _≡_ {A = List Rows} (v ∷ u ∷ []) (chromaRows cb g ∷ chromaRows cr g ∷ [])
+    chroma-made en ev eu = ap₂ (λ (a b : Rows). a ∷ b ∷ []) (one-made cb (fine .1) en ev) (one-made cr (fine .2) en eu)

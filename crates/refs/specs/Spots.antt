@@ -40,19 +40,18 @@ leftOn plane s = onEdge plane (s .left) (s .width)
 abbrev pub planeRows : List ℕ → Spot → Reach → ℕ → ℕ → Rows
 planeRows plane s r n neutral = fromReach r (cornerOn plane s) (aboveOn plane s) (leftOn plane s) n neutral
 
--- every neighbour that is counted stands in a plane of len samples
-pub record Reads (r : Reach) (s : Spot) (len n : ℕ) : Type 0 where
+-- no edge has more than 2n + 1 entries
+pub record Few (r : Reach) (n : ℕ) : Type 0 where
   pub side : n ≤ 32
   pub above-few : r .above ≤ 2 * n + 1
   pub left-few : r .left ≤ 2 * n + 1
+
+-- every neighbour that is counted stands in a plane of len samples
+pub record Reads (r : Reach) (s : Spot) (len n : ℕ) : Type 0 where
+  pub few : Few r n
   pub above-in : (i : ℕ) → i < r .above → s .above + i * 1 < len
   pub left-in : (i : ℕ) → i < r .left → s .left + i * s .width < len
   pub corner-in : r .corner ≡ true → s .corner < len
-
--- and there is one
-pub record Some (r : Reach) (s : Spot) (len n : ℕ) : Type 0 where
-  pub reads : Reads r s len n
-  pub any : anyBy (r .corner) (r .above) (r .left) ≡ true
 
 -- the rows of a rule whose neighbours are counted
 pub rows-are : (has : ℤ → ℤ → Bool) (plane : List ℕ) (width row col n neutral : ℕ) (r : Reach) → n ≤ 32 → Counted has row col n r
@@ -66,38 +65,6 @@ rows-are has plane width row col n neutral r small known =
     left : leftAt (sampleOf plane width) row col ≡ leftOn plane (spotOf width row col)
     left = fun-ext (λ i. ap (λ (k : ℕ). getD plane k 0) (let q : (row + i) * width + (col - 1) ≡ row * width + (col - 1) + i * width = omega arith in q))
 
--- where neither the left column nor the corner has one, the row above has
-pub only-above : (r : Reach) → anyBy (r .corner) (r .above) (r .left) ≡ true → r .left ≤ 0 → r .corner ≡ false → 0 < r .above
-only-above r any l t = ltb-true 0 (r .above) (sym (ap₂ (λ (x y : Bool). x || y || ltb 0 (r .above)) (le-ltb 0 (r .left) l) t) ∙ any)
-
--- the first entry of an edge
-pub at-first : (plane : List ℕ) (at step : ℕ) → getD plane at 0 ≡ onEdge plane at step 0
-at-first plane at step = ap (λ (k : ℕ). getD plane k 0) (let q : at ≡ at + 0 * step = simp zero-mul (sym (add-zero at)) in q)
-
 -- rows and columns of a picture are small
 pub area : (row width : ℕ) → row ≤ 4096 → width ≤ 4096 → row * width ≤ 16777216
 area row width h k = mul-le-mul h k
-
--- the parts that the code makes are the rows
-module _ (plane : List ℕ) (s : Spot) (r : Reach) (n neutral : ℕ) where
-  pub no-rows : anyBy (r .corner) (r .above) (r .left) ≡ false → levelRows neutral ≡ planeRows plane s r n neutral
-  unfolding fromReach
-  no-rows gone = if-no (anyBy (r .corner) (r .above) (r .left)) _ (levelRows neutral) (levelRows neutral) gone refl
-
-  pub some-rows : {start corner rest : ℕ} {two : List (List ℕ)} → anyBy (r .corner) (r .above) (r .left) ≡ true
-      → start ≡ startOf r (cornerOn plane s) (aboveOn plane s) (leftOn plane s)
-      → corner ≡ cornerOf r (cornerOn plane s) (leftOn plane s) start
-      → rest ≡ restOf r (aboveOn plane s) corner
-      → two ≡ edgeOf (2 * n + 1) (r .above) (aboveOn plane s) rest ∷ edgeOf (2 * n + 1) (r .left) (leftOn plane s) start ∷ []
-      → _≡_ {A = Rows} (record { corner = corner; above = getD two 0 []; left = getD two 1 [] }) (planeRows plane s r n neutral)
-  unfolding fromReach
-  some-rows any p q w t =
-      let k = q ∙ ap (cornerOf r (cornerOn plane s) (leftOn plane s)) p in
-      let z = w ∙ ap (restOf r (aboveOn plane s)) k in
-      if-yes (anyBy (r .corner) (r .above) (r .left)) (reached r (cornerOn plane s) (aboveOn plane s) (leftOn plane s) n) (levelRows neutral) _ any
-      (λ i.
-      record {
-        corner = k i;
-        above = (ap (λ (l : List (List ℕ)). getD l 0 []) t ∙ ap (edgeOf (2 * n + 1) (r .above) (aboveOn plane s)) z) i;
-        left = (ap (λ (l : List (List ℕ)). getD l 1 []) t ∙ ap (edgeOf (2 * n + 1) (r .left) (leftOn plane s)) p) i;
-      })

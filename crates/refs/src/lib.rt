@@ -4,18 +4,20 @@ ghost use mathlib.Core.Path.{_≡_};
 ghost use mathlib.Core.List.{[], _∷_};
 ghost use Prim.Native.Nat.{ℕ, _+_, _-_, _*_, _/_, _≤_, _<_};
 ghost use mathlib.Core.Bool.{true, false, cond};
+ghost use lib.Dec.{eqb};
 ghost use lib.ListN.{length, getD, replicate};
 ghost use Rattle.laws.specs.Fill.{fill};
+ghost use Rattle.bytes.specs.Bytes.{samplesOf};
 ghost use Rattle.h265.specs.Substitution.{firstMarked, settled};
 ghost use Rattle.domain.specs.Domain.{depthOk};
 ghost use Rattle.order.specs.Edges.{Step};
-ghost use Rattle.order.specs.Reach.{lumaReach, chromaReach};
+ghost use Rattle.order.specs.Reach.{lumaReach, chromaReach, chromaWidth};
 ghost use Rattle.refs.specs.Substitution.{levelRows, substituted};
-ghost use Rattle.refs.specs.Door.{neutralAt, substituteNo, substituteDoor, lumaBlock, lumaNo, lumaRows, lumaDoor, formatOf, chromaBlock, chromaLength, chromaNo, chromaRows, chromaDoor};
+ghost use Rattle.refs.specs.Door.{neutralAt, substituteNo, substituteDoor, lumaBlock, lumaLength, lumaNo, lumaRows, lumaDoor, lumaBytesDoor, formatOf, chromaBlock, chromaLength, chromaNo, chromaRows, chromaDoor, chromaBytesDoor};
 ghost use Rattle.refs.specs.Served.{gatherNo};
-ghost use Rattle.refs.specs.Line.{lineOf};
-ghost use Rattle.refs.specs.Counts.{startOf, cornerOf, restOf, edgeOf};
-ghost use Rattle.refs.specs.Spots.{spotOf, onEdge, cornerOn, aboveOn, leftOn, planeRows, Reads, Some};
+ghost use Rattle.refs.specs.Line.{lineOf, restBy};
+ghost use Rattle.refs.specs.Spots.{spotOf, onEdge, cornerOn, aboveOn, leftOn, planeRows, Few, Reads};
+ghost use Rattle.refs.specs.Seen.{seenCorner, entry, padded, padRows};
 use fmt::ChromaCol;
 use fmt::ChromaFormat;
 use fmt::ChromaRow;
@@ -289,78 +291,103 @@ fn spot_of(width: usize, row: usize, col: usize) -> Spot
     }
 }
 
-// The first `count` entries of an edge: `have` of them out of the plane, each `step` samples further, the others `rest`; 0 past them.
-fn edge(plane: &[u16], at: usize, step: usize, have: usize, count: usize, rest: u16) -> [u16; 65]
-    requires { ⌜ (have ≤ count) × (count ≤ 65) × ((i : ℕ) → i < have → at + i * step < length (now plane)) ⌝ }
-    ensures { λ r. ⌜ r ≡ edgeOf count have (onEdge (now (plane .entry)) at step) rest ⌝ }
+// Reads the first `have` entries of an edge out of the plane, each `step` samples further.
+fn edge(plane: &[u16], at: usize, step: usize, have: usize, out: &mut [u16])
+    requires { ⌜ (have ≤ length (now out)) × ((i : ℕ) → i < have → at + i * step < length (now plane)) ⌝ }
+    ensures { λ _. ⌜ now (out .exit) ≡ fill (onEdge (now (plane .entry)) at step) have (now (out .entry)) ⌝ }
 {
-    let mut out = [0u16; 65];
     let mut i = 0;
     while i < have {
         out[i] = plane[at + i * step];
         i += 1;
     }
-    while i < count {
-        out[i] = rest;
+}
+
+// The corner where it is there, else 0.
+fn corner_seen(plane: &[u16], s: Spot, r: Reach, n: usize) -> u16
+    requires { ⌜ Reads r s (length (now plane)) n ⌝ }
+    ensures { λ v. ⌜ v ≡ seenCorner r (cornerOn (now (plane .entry)) s) ⌝ }
+{
+    let at = s.corner;
+    if r.corner { plane[at] } else { 0 }
+}
+
+// The sample at a place of a plane of bytes.
+fn sample_in(plane: &[u8], at: usize) -> u16
+    requires { ⌜ at < length (samplesOf (now plane)) ⌝ }
+    ensures { λ r. ⌜ r ≡ getD (samplesOf (now (plane .entry))) at 0 ⌝ }
+{
+    let low = 2 * at;
+    let high = low + 1;
+    bytes::sample(plane[low], plane[high])
+}
+
+// An edge and the corner out of a plane of bytes.
+fn edge_in(plane: &[u8], at: usize, step: usize, have: usize, out: &mut [u16])
+    requires { ⌜ (have ≤ length (now out)) × ((i : ℕ) → i < have → at + i * step < length (samplesOf (now plane))) ⌝ }
+    ensures { λ _. ⌜ now (out .exit) ≡ fill (onEdge (samplesOf (now (plane .entry))) at step) have (now (out .entry)) ⌝ }
+{
+    let mut i = 0;
+    while i < have {
+        out[i] = sample_in(plane, at + i * step);
         i += 1;
     }
-    out
 }
 
-fn sample(plane: &[u16], at: usize) -> u16
-    requires { ⌜ at < length (now plane) ⌝ }
-    ensures { λ r. ⌜ r ≡ getD (now (plane .entry)) at 0 ⌝ }
-{
-    plane[at]
-}
-
-// What stands before the first sample that is there: that sample.
-fn start_of(plane: &[u16], s: Spot, r: Reach, n: usize) -> u16
-    requires { ⌜ Some r s (length (now plane)) n ⌝ }
-    ensures { λ v. ⌜ v ≡ startOf r (cornerOn (now (plane .entry)) s) (aboveOn (now (plane .entry)) s) (leftOn (now (plane .entry)) s) ⌝ }
-{
-    if r.left > 0 {
-        return sample(plane, s.left + (r.left - 1) * s.width);
-    }
-    if r.corner {
-        return sample(plane, s.corner);
-    }
-    sample(plane, s.above)
-}
-
-// The corner, or left[0] where it is missing.
-fn corner_of(plane: &[u16], s: Spot, r: Reach, n: usize, start: u16) -> u16
-    requires { ⌜ Reads r s (length (now plane)) n ⌝ }
-    ensures { λ v. ⌜ v ≡ cornerOf r (cornerOn (now (plane .entry)) s) (leftOn (now (plane .entry)) s) start ⌝ }
+fn corner_seen_in(plane: &[u8], s: Spot, r: Reach, n: usize) -> u16
+    requires { ⌜ Reads r s (length (samplesOf (now plane))) n ⌝ }
+    ensures { λ v. ⌜ v ≡ seenCorner r (cornerOn (samplesOf (now (plane .entry))) s) ⌝ }
 {
     if r.corner {
-        return sample(plane, s.corner);
+        return sample_in(plane, s.corner);
     }
-    if r.left > 0 {
-        return sample(plane, s.left);
-    }
-    start
+    0
 }
 
-// What stands after the last sample of the row above: that sample, or the corner.
-fn rest_of(plane: &[u16], s: Spot, r: Reach, n: usize, corner: u16) -> u16
-    requires { ⌜ Reads r s (length (now plane)) n ⌝ }
-    ensures { λ v. ⌜ v ≡ restOf r (aboveOn (now (plane .entry)) s) corner ⌝ }
+// The last entry that is there, or another sample where none is.
+fn last_of(row: &[u16], have: usize, other: u16) -> u16
+    requires { ⌜ have ≤ length (now row) ⌝ }
+    ensures { λ v. ⌜ v ≡ restBy have (entry (now (row .entry))) other ⌝ }
 {
-    if r.above > 0 {
-        return sample(plane, s.above + (r.above - 1));
+    if have > 0 { row[have - 1] } else { other }
+}
+
+// Puts `rest` into a row's entries from `have` on, up to `count`.
+fn pad(row: &mut [u16], have: usize, count: usize, rest: u16)
+    requires { ⌜ (have ≤ count) × (count ≤ length (now row)) ⌝ }
+    ensures { λ _. ⌜ now (row .exit) ≡ padded count have rest (now (row .entry)) ⌝ }
+{
+    let more = count - have;
+    let mut i = 0;
+    while i < more {
+        row[have + i] = rest;
+        i += 1;
     }
+}
+
+// Completes the rows of what was read, where a neighbour is there, and gives the corner: what stands before the first sample that is
+// there is that sample, a missing corner takes left[0], and what stands after the last one of the row above is that one, or the corner.
+fn finish(above: &mut [u16], left: &mut [u16], seen: u16, r: Reach, n: usize) -> u16
+    requires { ⌜ Few r n × ((length (now above) ≡ 65) × (length (now left) ≡ 65)) ⌝ }
+    ensures { λ c. ⌜ (c ≡ padRows r seen (now (above .entry)) (now (left .entry)) n .corner) × ((now (above .exit) ≡ padRows r seen (now (above .entry)) (now (left .entry)) n .above) × (now (left .exit) ≡ padRows r seen (now (above .entry)) (now (left .entry)) n .left)) ⌝ }
+{
+    let start = last_of(&*left, r.left, choose(r.corner, seen, above[0]));
+    let corner = choose(r.corner, seen, choose(r.left > 0, left[0], start));
+    let rest = last_of(&*above, r.above, corner);
+    pad(&mut *above, r.above, 2 * n + 1, rest);
+    pad(&mut *left, r.left, 2 * n + 1, start);
     corner
 }
 
-// A plane's two rows, above and left.
-fn two_rows(plane: &[u16], s: Spot, r: Reach, n: usize, rest: u16, start: u16) -> [[u16; 65]; 2]
-    requires { ⌜ Reads r s (length (now plane)) n ⌝ }
-    ensures { λ v. ⌜ v ≡ edgeOf (2 * n + 1) (r .above) (aboveOn (now (plane .entry)) s) rest ∷ edgeOf (2 * n + 1) (r .left) (leftOn (now (plane .entry)) s) start ∷ [] ⌝ }
+// A plane's two rows, above and left, with their corner.
+fn with_corner(corner: u16, two: [[u16; 65]; 2]) -> Rows
+    ensures { λ v. ⌜ v ≡ record { corner = corner; above = getD two 0 []; left = getD two 1 [] } ⌝ }
 {
-    let above = edge(plane, s.above, 1, r.above, 2 * n + 1, rest);
-    let left = edge(plane, s.left, s.width, r.left, 2 * n + 1, start);
-    [above, left]
+    Rows {
+        corner,
+        above: two[0],
+        left: two[1],
+    }
 }
 
 // The rows of a plane, from how far the neighbours reach.
@@ -371,15 +398,37 @@ fn plane_rows(plane: &[u16], s: Spot, r: Reach, n: usize, neutral: u16) -> Rows
     if !((r.left > 0) | r.corner | (r.above > 0)) {
         return level_rows(neutral);
     }
-    let start = start_of(plane, s, r, n);
-    let corner = corner_of(plane, s, r, n, start);
-    let rest = rest_of(plane, s, r, n, corner);
-    let two = two_rows(plane, s, r, n, rest, start);
-    Rows {
-        corner,
-        above: two[0],
-        left: two[1],
+    let mut above = [0u16; 65];
+    let mut left = [0u16; 65];
+    edge(plane, s.above, 1, r.above, &mut above);
+    edge(plane, s.left, s.width, r.left, &mut left);
+    let seen = corner_seen(plane, s, r, n);
+    let corner = finish(&mut above, &mut left, seen, r, n);
+    with_corner(corner, [above, left])
+}
+
+// The same out of a plane of bytes.
+fn plane_rows_in(plane: &[u8], s: Spot, r: Reach, n: usize, neutral: u16) -> Rows
+    requires { ⌜ Reads r s (length (samplesOf (now plane))) n ⌝ }
+    ensures { λ v. ⌜ v ≡ planeRows (samplesOf (now (plane .entry))) s r n neutral ⌝ }
+{
+    if !((r.left > 0) | r.corner | (r.above > 0)) {
+        return level_rows(neutral);
     }
+    let mut above = [0u16; 65];
+    let mut left = [0u16; 65];
+    edge_in(plane, s.above, 1, r.above, &mut above);
+    edge_in(plane, s.left, s.width, r.left, &mut left);
+    let seen = corner_seen_in(plane, s, r, n);
+    let corner = finish(&mut above, &mut left, seen, r, n);
+    with_corner(corner, [above, left])
+}
+
+// Whether bytes are as many as a plane of so many samples has. No product can pass the type's end.
+fn whole_in(bytes: usize, samples: usize) -> bool
+    ensures { λ r. ⌜ r ≡ eqb bytes (2 * samples) ⌝ }
+{
+    (bytes % 2 == 0) & (bytes / 2 == samples)
 }
 
 // The number that refuses a gather, or 0: the depth's, then the reach's 2 or 4, then the planes', then the reach's 6.
@@ -418,12 +467,19 @@ fn luma_rows(plane: &[u16], geo: LumaRefGeometry, reach: Reach) -> Rows
     plane_rows(plane, s, reach, geo.n, neutral_of(geo.bits))
 }
 
+// A plane's count of luma samples.
+fn luma_length(geo: LumaRefGeometry) -> usize
+    ensures { λ r. ⌜ r ≡ lumaLength geo ⌝ }
+{
+    (geo.picture.height as usize) * (geo.picture.width as usize)
+}
+
 // The reference rows of a luma block (document 01, module 4).
 pub fn get_reference_samples(plane: &[u16], geo: LumaRefGeometry) -> Gathered
     ensures { λ r. ⌜ r ≡ lumaDoor (now (plane .entry)) geo ⌝ }
 {
     let reach = order::luma_reach(luma_block(geo));
-    let whole = plane.len() == (geo.picture.height as usize) * (geo.picture.width as usize);
+    let whole = plane.len() == luma_length(geo);
     let no = gather_no(geo.bits, reach.no, whole);
     if no != 0 {
         return Gathered {
@@ -434,6 +490,33 @@ pub fn get_reference_samples(plane: &[u16], geo: LumaRefGeometry) -> Gathered
     Gathered {
         no: 0,
         rows: luma_rows(plane, geo, reach),
+    }
+}
+
+fn luma_rows_in(plane: &[u8], geo: LumaRefGeometry, reach: Reach) -> Rows
+    requires { ⌜ (reach ≡ lumaReach (lumaBlock geo)) × (lumaNo (length (samplesOf (now plane))) geo ≡ 0) ⌝ }
+    ensures { λ r. ⌜ r ≡ lumaRows (samplesOf (now (plane .entry))) geo ⌝ }
+{
+    let width = geo.picture.width as usize;
+    let s = spot_of(width, geo.block_row.0 as usize, geo.block_col.0 as usize);
+    plane_rows_in(plane, s, reach, geo.n, neutral_of(geo.bits))
+}
+
+// The same out of a plane of bytes: two a sample, the lower first.
+pub fn get_reference_samples_bytes(plane: &[u8], geo: LumaRefGeometry) -> Gathered
+    ensures { λ r. ⌜ r ≡ lumaBytesDoor (now (plane .entry)) geo ⌝ }
+{
+    let reach = order::luma_reach(luma_block(geo));
+    let no = gather_no(geo.bits, reach.no, whole_in(plane.len(), luma_length(geo)));
+    if no != 0 {
+        return Gathered {
+            no,
+            rows: level_rows(0),
+        };
+    }
+    Gathered {
+        no: 0,
+        rows: luma_rows_in(plane, geo, reach),
     }
 }
 
@@ -485,6 +568,13 @@ fn over(side: u32, sub: usize) -> usize
     side as usize
 }
 
+// A chroma plane's width.
+fn chroma_width(geo: ChromaRefGeometry) -> usize
+    ensures { λ r. ⌜ (r ≡ chromaWidth (chromaBlock geo)) × (r ≤ 4294967295) ⌝ }
+{
+    over(geo.luma_w, format_of(geo.format).sub_w())
+}
+
 // The rows of Cb and of Cr: one reach for both.
 fn chroma_rows(
     plane_cb: &[u16],
@@ -495,8 +585,11 @@ fn chroma_rows(
     requires { ⌜ (reach ≡ chromaReach (chromaBlock geo)) × (chromaNo (length (now «plane_cb»)) (length (now «plane_cr»)) geo ≡ 0) ⌝ }
     ensures { λ r. ⌜ r ≡ chromaRows (now («plane_cb» .entry)) geo ∷ chromaRows (now («plane_cr» .entry)) geo ∷ [] ⌝ }
 {
-    let width = over(geo.luma_w, format_of(geo.format).sub_w());
-    let s = spot_of(width, geo.block_row.0 as usize, geo.block_col.0 as usize);
+    let s = spot_of(
+        chroma_width(geo),
+        geo.block_row.0 as usize,
+        geo.block_col.0 as usize,
+    );
     let neutral = neutral_of(geo.bits);
     let n = geo.n;
     let cb = plane_rows(plane_cb, s, reach, n, neutral);
@@ -504,12 +597,32 @@ fn chroma_rows(
     [cb, cr]
 }
 
+fn chroma_rows_in(
+    plane_cb: &[u8],
+    plane_cr: &[u8],
+    geo: ChromaRefGeometry,
+    reach: Reach,
+) -> [Rows; 2]
+    requires { ⌜ (reach ≡ chromaReach (chromaBlock geo)) × (chromaNo (length (samplesOf (now «plane_cb»))) (length (samplesOf (now «plane_cr»))) geo ≡ 0) ⌝ }
+    ensures { λ r. ⌜ r ≡ chromaRows (samplesOf (now («plane_cb» .entry))) geo ∷ chromaRows (samplesOf (now («plane_cr» .entry))) geo ∷ [] ⌝ }
+{
+    let s = spot_of(
+        chroma_width(geo),
+        geo.block_row.0 as usize,
+        geo.block_col.0 as usize,
+    );
+    let neutral = neutral_of(geo.bits);
+    let n = geo.n;
+    let cb = plane_rows_in(plane_cb, s, reach, n, neutral);
+    let cr = plane_rows_in(plane_cr, s, reach, n, neutral);
+    [cb, cr]
+}
+
 // A plane's count of chroma samples.
 fn chroma_length(geo: ChromaRefGeometry) -> usize
     ensures { λ r. ⌜ r ≡ chromaLength geo ⌝ }
 {
-    let f = format_of(geo.format);
-    over(geo.luma_h, f.sub_h()) * over(geo.luma_w, f.sub_w())
+    over(geo.luma_h, format_of(geo.format).sub_h()) * chroma_width(geo)
 }
 
 // The reference rows of a chroma block in both planes, by one pass over its neighbours (document 01, module 4).
@@ -534,5 +647,30 @@ pub fn get_reference_samples_chroma_pair(
     GatheredPair {
         no: 0,
         planes: chroma_rows(plane_cb, plane_cr, geo, reach),
+    }
+}
+
+// The same out of planes of bytes.
+pub fn get_reference_samples_chroma_pair_bytes(
+    plane_cb: &[u8],
+    plane_cr: &[u8],
+    geo: ChromaRefGeometry,
+) -> GatheredPair
+    ensures { λ r. ⌜ r ≡ chromaBytesDoor (now («plane_cb» .entry)) (now («plane_cr» .entry)) geo ⌝ }
+{
+    let reach = order::chroma_reach(chroma_block(geo));
+    let len = chroma_length(geo);
+    let whole = whole_in(plane_cb.len(), len) & whole_in(plane_cr.len(), len);
+    let no = gather_no(geo.bits, reach.no, whole);
+    if no != 0 {
+        let none = level_rows(0);
+        return GatheredPair {
+            no,
+            planes: [none, none],
+        };
+    }
+    GatheredPair {
+        no: 0,
+        planes: chroma_rows_in(plane_cb, plane_cr, geo, reach),
     }
 }

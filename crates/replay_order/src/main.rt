@@ -3,8 +3,7 @@
 //
 // The list is made by `tests/differential/run list`. A line is eleven words of eight hex digits: the kind of the call, what
 // it is given, what it is to answer, and zeros. A line that opens with # and eight spaces is a comment, as long as the others.
-ghost use Prim.Native.Nat.{_+_, _*_, _≤_, _<_};
-ghost use lib.ListN.{length};
+ghost use Prim.Native.Nat.{_+_, _≤_, _<_};
 use fmt::BitDepth;
 use fmt::ChromaFormat;
 use fmt::DepthFrom;
@@ -14,45 +13,24 @@ use fmt::LumaRow;
 use order::LumaNeighbour;
 use order::Picture;
 
-fn digit(b: u8) -> u32
-    ensures { λ r. ⌜ r < 16 ⌝ }
-{
-    match b {
-        48..=57 => (b - 48) as u32,
-        97..=102 => (b - 87) as u32,
-        _ => 0,
-    }
-}
-
-fn octet(list: &[u8], at: usize) -> u32
-    requires { ⌜ at + 2 ≤ length (now list) ⌝ }
-    ensures { λ r. ⌜ r < 256 ⌝ }
-{
-    16 * digit(list[at]) + digit(list[at + 1])
-}
-
-fn word(list: &[u8], at: usize) -> u32
-    requires { ⌜ at + 8 ≤ length (now list) ⌝ }
-{
-    let high = 256 * octet(list, at) + octet(list, at + 2);
-    65536 * high + 256 * octet(list, at + 4) + octet(list, at + 6)
+// A line's word of a number, counted from 0.
+fn word(list: &[u8], line: u16, number: u8) -> u32 {
+    listing::word(list, 11 * (line as u32) + (number as u32))
 }
 
 // What a line gives a call and wants of it.
-fn call_of(list: &[u8], at: usize) -> [u32; 10]
-    requires { ⌜ at + 99 ≤ length (now list) ⌝ }
-{
+fn call_of(list: &[u8], line: u16) -> [u32; 10] {
     let mut call = [0u32; 10];
-    call[0] = word(list, at + 9);
-    call[1] = word(list, at + 18);
-    call[2] = word(list, at + 27);
-    call[3] = word(list, at + 36);
-    call[4] = word(list, at + 45);
-    call[5] = word(list, at + 54);
-    call[6] = word(list, at + 63);
-    call[7] = word(list, at + 72);
-    call[8] = word(list, at + 81);
-    call[9] = word(list, at + 90);
+    call[0] = word(list, line, 1);
+    call[1] = word(list, line, 2);
+    call[2] = word(list, line, 3);
+    call[3] = word(list, line, 4);
+    call[4] = word(list, line, 5);
+    call[5] = word(list, line, 6);
+    call[6] = word(list, line, 7);
+    call[7] = word(list, line, 8);
+    call[8] = word(list, line, 9);
+    call[9] = word(list, line, 10);
     call
 }
 
@@ -127,14 +105,14 @@ struct Count {
 
 impl Count {
     // The count with one call more.
-    fn with(self, kind: u32, list: &[u8], at: usize) -> Count
-        requires { ⌜ (at + 99 ≤ length (now list)) × (self .calls + 1 < 4294967296) × (self .differ + 1 < 4294967296) ⌝ }
+    fn with(self, kind: u32, list: &[u8], line: u16) -> Count
+        requires { ⌜ (self .calls + 1 < 4294967296) × (self .differ + 1 < 4294967296) ⌝ }
         ensures { λ r. ⌜ (r .calls ≤ self .calls + 1) × (r .differ ≤ self .differ + 1) ⌝ }
     {
-        if word(list, at) != kind {
+        if word(list, line, 0) != kind {
             return self;
         }
-        if differs(kind, call_of(list, at)) {
+        if differs(kind, call_of(list, line)) {
             return Count {
                 calls: self.calls + 1,
                 differ: self.differ + 1,
@@ -149,7 +127,7 @@ impl Count {
 
 // Whole lines, 4096 at most.
 fn lines_in(len: usize) -> usize
-    ensures { λ r. ⌜ (99 * r ≤ len) × (r ≤ 4096) ⌝ }
+    ensures { λ r. ⌜ r ≤ 4096 ⌝ }
 {
     let lines = len / 99;
     if lines > 4096 {
@@ -165,7 +143,7 @@ fn replay(list: &[u8], kind: u32) -> Count {
         differ: 0,
     };
     for line in 0..lines_in(list.len()) {
-        count = count.with(kind, list, 99 * line);
+        count = count.with(kind, list, line as u16);
     }
     count
 }

@@ -1,5 +1,5 @@
-// Replays the Rust's answers on the doors of smoothing, prediction and residuals: the list is standard input, the file stdin,
-// and what is printed is tested against the file stdout. Rests on the doors' contracts for its safety.
+// Replays the Rust's answers on the doors of smoothing, prediction, residuals and whole blocks: the list is standard input, the
+// file stdin, and what is printed is tested against the file stdout. Rests on the doors' contracts for its safety.
 //
 // The list is made by `tests/differential/run list`. A line is 43 words of eight hex digits: the kind of the call, its side,
 // mode, edge and depth, the seed and the largest of its samples, the entries of the row on the left, the place of the window,
@@ -12,30 +12,7 @@
 ghost use Prim.Native.Nat.{_+_, _≤_, _<_};
 ghost use lib.ListN.{length};
 ghost use mathlib.Core.Path.{_≡_};
-
-fn digit(b: u8) -> u32
-    ensures { λ r. ⌜ r < 16 ⌝ }
-{
-    match b {
-        48..=57 => (b - 48) as u32,
-        97..=102 => (b - 87) as u32,
-        _ => 0,
-    }
-}
-
-fn octet(line: &[u8], at: usize) -> u32
-    requires { ⌜ at + 2 ≤ length (now line) ⌝ }
-    ensures { λ r. ⌜ r < 256 ⌝ }
-{
-    16 * digit(line[at]) + digit(line[at + 1])
-}
-
-fn word(line: &[u8], at: usize) -> u32
-    requires { ⌜ at + 8 ≤ length (now line) ⌝ }
-{
-    let high = 256 * octet(line, at) + octet(line, at + 2);
-    65536 * high + 256 * octet(line, at + 4) + octet(line, at + 6)
-}
+use rows::Rows;
 
 // What a line gives a call, and the number and the value that it wants.
 struct Call {
@@ -60,20 +37,18 @@ fn at_most(entries: usize, most: usize) -> usize
     entries
 }
 
-fn call_of(line: &[u8]) -> Call
-    requires { ⌜ 387 ≤ length (now line) ⌝ }
-{
+fn call_of(line: &[u8]) -> Call {
     Call {
-        n: word(line, 9) as usize,
-        mode: (word(line, 18) % 256) as u8,
-        edge: word(line, 27) == 1,
-        bits: word(line, 36),
-        seed: word(line, 45),
-        top: word(line, 54),
-        entries: word(line, 63) as usize,
-        place: word(line, 72) as usize,
-        no: word(line, 81),
-        value: word(line, 90),
+        n: listing::word(line, 1) as usize,
+        mode: (listing::word(line, 2) % 256) as u8,
+        edge: listing::word(line, 3) == 1,
+        bits: listing::word(line, 4),
+        seed: listing::word(line, 5),
+        top: listing::word(line, 6),
+        entries: listing::word(line, 7) as usize,
+        place: listing::word(line, 8) as usize,
+        no: listing::word(line, 9),
+        value: listing::word(line, 10),
     }
 }
 
@@ -136,12 +111,12 @@ fn is(wanted: u32, sample: u16) -> bool {
 
 // Whether the 32 entries from a place on are those of the line.
 fn same(line: &[u8], written: &[u16], place: usize) -> bool
-    requires { ⌜ (387 ≤ length (now line)) × (32 ≤ length (now written)) ⌝ }
+    requires { ⌜ 32 ≤ length (now written) ⌝ }
 {
     let from = within(place, written.len());
     let mut all = true;
     for i in 0..32 {
-        all = all & is(word(line, 99 + 9 * i), written[from + i]);
+        all = all & is(listing::word(line, 11 + (i as u32)), written[from + i]);
     }
     all
 }
@@ -155,19 +130,17 @@ fn is_residual(wanted: u32, residual: i32) -> bool {
 }
 
 fn same_residuals(line: &[u8], written: &[i32], place: usize) -> bool
-    requires { ⌜ (387 ≤ length (now line)) × (32 ≤ length (now written)) ⌝ }
+    requires { ⌜ 32 ≤ length (now written) ⌝ }
 {
     let from = within(place, written.len());
     let mut all = true;
     for i in 0..32 {
-        all = all & is_residual(word(line, 99 + 9 * i), written[from + i]);
+        all = all & is_residual(listing::word(line, 11 + (i as u32)), written[from + i]);
     }
     all
 }
 
-fn row_same(line: &[u8], row: [u16; 65], place: usize) -> bool
-    requires { ⌜ 387 ≤ length (now line) ⌝ }
-{
+fn row_same(line: &[u8], row: [u16; 65], place: usize) -> bool {
     same(line, &row, place)
 }
 
@@ -177,9 +150,7 @@ fn rule_same(call: Call) -> bool {
 }
 
 // The row above, or where the edge is asked for the row on the left.
-fn weak_same(line: &[u8], call: Call, above: &[u16], left: &[u16]) -> bool
-    requires { ⌜ 387 ≤ length (now line) ⌝ }
-{
+fn weak_same(line: &[u8], call: Call, above: &[u16], left: &[u16]) -> bool {
     let answer = smooth::filter_references(sample(call.seed, call.top), above, left, call.n);
     let up = answer.above;
     let side = answer.left;
@@ -190,9 +161,7 @@ fn weak_same(line: &[u8], call: Call, above: &[u16], left: &[u16]) -> bool
     number & row_same(line, up, call.place)
 }
 
-fn luma_same(line: &[u8], call: Call, above: &[u16], left: &[u16]) -> bool
-    requires { ⌜ 387 ≤ length (now line) ⌝ }
-{
+fn luma_same(line: &[u8], call: Call, above: &[u16], left: &[u16]) -> bool {
     let corner = sample(call.seed, call.top);
     let answer = smooth::filter_luma_refs(corner, above, left, call.n, call.bits);
     let up = answer.rows.above;
@@ -204,25 +173,19 @@ fn luma_same(line: &[u8], call: Call, above: &[u16], left: &[u16]) -> bool
     number & row_same(line, up, call.place)
 }
 
-fn planar_same(line: &[u8], call: Call, above: &[u16], left: &[u16]) -> bool
-    requires { ⌜ 387 ≤ length (now line) ⌝ }
-{
+fn planar_same(line: &[u8], call: Call, above: &[u16], left: &[u16]) -> bool {
     let mut pred = [4660u16; 1024];
     let no = flat::predict_planar_into(above, left, call.n, &mut pred);
     (no == call.no) & same(line, &pred, call.place)
 }
 
-fn dc_same(line: &[u8], call: Call, above: &[u16], left: &[u16]) -> bool
-    requires { ⌜ 387 ≤ length (now line) ⌝ }
-{
+fn dc_same(line: &[u8], call: Call, above: &[u16], left: &[u16]) -> bool {
     let mut pred = [4660u16; 1024];
     let no = flat::predict_dc_into(above, left, call.n, call.edge, &mut pred);
     (no == call.no) & same(line, &pred, call.place)
 }
 
-fn angular_same(line: &[u8], call: Call, above: &[u16], left: &[u16]) -> bool
-    requires { ⌜ 387 ≤ length (now line) ⌝ }
-{
+fn angular_same(line: &[u8], call: Call, above: &[u16], left: &[u16]) -> bool {
     let mut pred = [4660u16; 1024];
     let mut refs = [4660u16; 193];
     let mut indices = [4660u32; 32];
@@ -244,9 +207,7 @@ fn angular_same(line: &[u8], call: Call, above: &[u16], left: &[u16]) -> bool
 }
 
 // The residual of the two blocks.
-fn residual_same(line: &[u8], call: Call) -> bool
-    requires { ⌜ 387 ≤ length (now line) ⌝ }
-{
+fn residual_same(line: &[u8], call: Call) -> bool {
     let pred = block_of(call.seed, call.top);
     let orig = block_of(other(call.seed), call.top);
     let mut residual = [4660i32; 1024];
@@ -255,9 +216,7 @@ fn residual_same(line: &[u8], call: Call) -> bool
 }
 
 // The residual of the two blocks, added to the first: the number is that of the second call, the value that of the first.
-fn rebuilt_same(line: &[u8], call: Call) -> bool
-    requires { ⌜ 387 ≤ length (now line) ⌝ }
-{
+fn rebuilt_same(line: &[u8], call: Call) -> bool {
     let pred = block_of(call.seed, call.top);
     let orig = block_of(other(call.seed), call.top);
     let mut residual = [0i32; 1024];
@@ -267,10 +226,52 @@ fn rebuilt_same(line: &[u8], call: Call) -> bool
     (first == call.value) & (no == call.no) & same(line, &out, call.place)
 }
 
-// Whether a door gives what the line has. Kinds 1 to 8; others never do.
-fn agrees(line: &[u8], kind: u32) -> bool
-    requires { ⌜ 387 ≤ length (now line) ⌝ }
-{
+fn chroma_block_same(line: &[u8], call: Call, above: &[u16], left: &[u16]) -> bool {
+    let mut pred = [4660u16; 1024];
+    let mut refs = [4660u16; 193];
+    let mut indices = [4660u32; 32];
+    let mut fractions = [4660u32; 32];
+    let no = predict::predict_chroma_tb_slices(
+        call.mode,
+        sample(call.seed, call.top),
+        above,
+        left,
+        call.n,
+        call.bits,
+        &mut pred,
+        &mut refs,
+        &mut indices,
+        &mut fractions,
+    );
+    (no == call.no) & same(line, &pred, call.place)
+}
+
+// A luma block's rows are whole by their type.
+fn luma_block_same(line: &[u8], call: Call) -> bool {
+    let rows = Rows {
+        corner: sample(call.seed, call.top),
+        above: row_of(call.seed, call.top),
+        left: row_of(other(call.seed), call.top),
+    };
+    let mut pred = [4660u16; 1024];
+    let mut refs = [4660u16; 193];
+    let mut indices = [4660u32; 32];
+    let mut fractions = [4660u32; 32];
+    let no = predict::predict_luma_tb_slices(
+        call.mode,
+        rows,
+        call.n,
+        call.bits,
+        &mut pred,
+        &mut refs,
+        &mut indices,
+        &mut fractions,
+    );
+    (no == call.no) & same(line, &pred, call.place)
+}
+
+// Whether a door gives what the line has. Kinds 1 to 10; others never do.
+fn agrees(line: &[u8], kind: u32) -> bool {
     let call = call_of(line);
     let above = row_of(call.seed, call.top);
     let row = row_of(other(call.seed), call.top);
@@ -284,6 +285,8 @@ fn agrees(line: &[u8], kind: u32) -> bool
         6 => angular_same(line, call, &above, left),
         7 => residual_same(line, call),
         8 => rebuilt_same(line, call),
+        9 => chroma_block_same(line, call, &above, left),
+        10 => luma_block_same(line, call),
         _ => false,
     }
 }
@@ -296,13 +299,13 @@ struct Count {
 impl Count {
     // The count with one line more, of which so many bytes were read.
     fn with(self, line: &[u8], read: usize) -> Count
-        requires { ⌜ (387 ≤ length (now line)) × ((self .calls + 1 < 4294967296) × (self .differ + 1 < 4294967296)) ⌝ }
+        requires { ⌜ (1 ≤ length (now line)) × ((self .calls + 1 < 4294967296) × (self .differ + 1 < 4294967296)) ⌝ }
         ensures { λ r. ⌜ (r .calls ≤ self .calls + 1) × (r .differ ≤ self .differ + 1) ⌝ }
     {
         if (read != 387) | (line[0] == 35) {
             return self;
         }
-        if agrees(line, word(line, 0)) {
+        if agrees(line, listing::word(line, 0)) {
             return Count {
                 calls: self.calls + 1,
                 differ: self.differ,

@@ -24,30 +24,6 @@ use refs::Flags;
 use refs::LumaRefGeometry;
 use rows::Rows;
 
-fn digit(b: u8) -> u32
-    ensures { λ r. ⌜ r < 16 ⌝ }
-{
-    match b {
-        48..=57 => (b - 48) as u32,
-        97..=102 => (b - 87) as u32,
-        _ => 0,
-    }
-}
-
-fn octet(line: &[u8], at: usize) -> u32
-    requires { ⌜ at + 2 ≤ length (now line) ⌝ }
-    ensures { λ r. ⌜ r < 256 ⌝ }
-{
-    16 * digit(line[at]) + digit(line[at + 1])
-}
-
-fn word(line: &[u8], at: usize) -> u32
-    requires { ⌜ at + 8 ≤ length (now line) ⌝ }
-{
-    let high = 256 * octet(line, at) + octet(line, at + 2);
-    65536 * high + 256 * octet(line, at + 4) + octet(line, at + 6)
-}
-
 // What a line gives a call, which entries it compares, and the number and the corner that it wants.
 struct Call {
     bits: u32,
@@ -78,27 +54,25 @@ fn at_most(entries: usize, most: usize) -> usize
     entries
 }
 
-fn call_of(line: &[u8]) -> Call
-    requires { ⌜ 450 ≤ length (now line) ⌝ }
-{
+fn call_of(line: &[u8]) -> Call {
     Call {
-        bits: word(line, 9),
-        ctu: word(line, 18),
-        width: word(line, 27),
-        height: word(line, 36),
-        unit: word(line, 45),
-        row: word(line, 54),
-        col: word(line, 63),
-        n: word(line, 72) as usize,
-        cur_row: word(line, 81),
-        cur_col: word(line, 90),
-        seed: word(line, 99),
-        top: word(line, 108),
-        entries: word(line, 117) as usize,
-        which: word(line, 126),
-        place: word(line, 135) as usize,
-        no: word(line, 144),
-        corner: word(line, 153),
+        bits: listing::word(line, 1),
+        ctu: listing::word(line, 2),
+        width: listing::word(line, 3),
+        height: listing::word(line, 4),
+        unit: listing::word(line, 5),
+        row: listing::word(line, 6),
+        col: listing::word(line, 7),
+        n: listing::word(line, 8) as usize,
+        cur_row: listing::word(line, 9),
+        cur_col: listing::word(line, 10),
+        seed: listing::word(line, 11),
+        top: listing::word(line, 12),
+        entries: listing::word(line, 13) as usize,
+        which: listing::word(line, 14),
+        place: listing::word(line, 15) as usize,
+        no: listing::word(line, 16),
+        corner: listing::word(line, 17),
     }
 }
 
@@ -169,26 +143,22 @@ fn is(wanted: u32, sample: u16) -> bool {
 
 // Whether the 32 entries from a place on are those of the line.
 fn same(line: &[u8], row: &[u16], place: usize) -> bool
-    requires { ⌜ (450 ≤ length (now line)) × (32 ≤ length (now row)) ⌝ }
+    requires { ⌜ 32 ≤ length (now row) ⌝ }
 {
     let from = within(place, row.len());
     let mut all = true;
     for i in 0..32 {
-        all = all & is(word(line, 162 + 9 * i), row[from + i]);
+        all = all & is(listing::word(line, 18 + (i as u32)), row[from + i]);
     }
     all
 }
 
-fn row_same(line: &[u8], row: [u16; 65], place: usize) -> bool
-    requires { ⌜ 450 ≤ length (now line) ⌝ }
-{
+fn row_same(line: &[u8], row: [u16; 65], place: usize) -> bool {
     same(line, &row, place)
 }
 
 // Whether an answer's number, corner and row are those of the line.
-fn rows_same(line: &[u8], call: Call, no: u32, rows: Rows) -> bool
-    requires { ⌜ 450 ≤ length (now line) ⌝ }
-{
+fn rows_same(line: &[u8], call: Call, no: u32, rows: Rows) -> bool {
     let above = rows.above;
     let left = rows.left;
     let number = (no == call.no) & ((rows.corner as u32) == call.corner);
@@ -198,9 +168,7 @@ fn rows_same(line: &[u8], call: Call, no: u32, rows: Rows) -> bool
     number & row_same(line, above, call.place)
 }
 
-fn substitution_same(line: &[u8], call: Call) -> bool
-    requires { ⌜ 450 ≤ length (now line) ⌝ }
-{
+fn substitution_same(line: &[u8], call: Call) -> bool {
     let rows = Rows {
         corner: sample(call.seed, call.top),
         above: row_of(call.seed, call.top),
@@ -215,9 +183,7 @@ fn substitution_same(line: &[u8], call: Call) -> bool
     rows_same(line, call, answer.no, answer.rows)
 }
 
-fn luma_same(line: &[u8], call: Call, plane: &[u16]) -> bool
-    requires { ⌜ 450 ≤ length (now line) ⌝ }
-{
+fn luma_same(line: &[u8], call: Call, plane: &[u16]) -> bool {
     let picture = Picture {
         width: call.width,
         height: call.height,
@@ -235,9 +201,7 @@ fn luma_same(line: &[u8], call: Call, plane: &[u16]) -> bool
     rows_same(line, call, answer.no, answer.rows)
 }
 
-fn chroma_same(line: &[u8], call: Call, cb: &[u16], cr: &[u16]) -> bool
-    requires { ⌜ 450 ≤ length (now line) ⌝ }
-{
+fn chroma_same(line: &[u8], call: Call, cb: &[u16], cr: &[u16]) -> bool {
     let geo = ChromaRefGeometry {
         bits: call.bits,
         format: call.ctu,
@@ -258,9 +222,7 @@ fn chroma_same(line: &[u8], call: Call, cb: &[u16], cr: &[u16]) -> bool
 }
 
 // Whether a door gives what the line has. Kinds 1 to 3; others never do.
-fn agrees(line: &[u8], kind: u32) -> bool
-    requires { ⌜ 450 ≤ length (now line) ⌝ }
-{
+fn agrees(line: &[u8], kind: u32) -> bool {
     let call = call_of(line);
     let first = plane_of(call.seed, call.top);
     let second = plane_of(other(call.seed), call.top);
@@ -283,13 +245,13 @@ struct Count {
 impl Count {
     // The count with one line more, of which so many bytes were read.
     fn with(self, line: &[u8], read: usize) -> Count
-        requires { ⌜ (450 ≤ length (now line)) × ((self .calls + 1 < 4294967296) × (self .differ + 1 < 4294967296)) ⌝ }
+        requires { ⌜ (1 ≤ length (now line)) × ((self .calls + 1 < 4294967296) × (self .differ + 1 < 4294967296)) ⌝ }
         ensures { λ r. ⌜ (r .calls ≤ self .calls + 1) × (r .differ ≤ self .differ + 1) ⌝ }
     {
         if (read != 450) | (line[0] == 35) {
             return self;
         }
-        if agrees(line, word(line, 0)) {
+        if agrees(line, listing::word(line, 0)) {
             return Count {
                 calls: self.calls + 1,
                 differ: self.differ,

@@ -1,5 +1,6 @@
 // Residual and reconstruction. Rests on the standard's clip, the domain's tests and the helpers.
 ghost use mathlib.Core.Path.{_≡_};
+ghost use mathlib.Core.Bool.{true};
 ghost use Prim.Native.Nat.{ℕ, _+_, _-_, _*_, _^_, _≤_, _<_};
 ghost use lib.ListN.{length, getD, replicate};
 ghost use lib.IntN.{pos, natAbs, _+ℤ_, _-ℤ_};
@@ -7,7 +8,7 @@ ghost use Rattle.laws.specs.Fill.{fill, run};
 ghost use Rattle.h265.specs.Notation.{clipTo};
 ghost use Rattle.domain.specs.Facts.{Depth, Size};
 ghost use Rattle.residual.specs.Residual.{residualAt, rebuiltTo, inRange, allInRange, residualNo, reconstructNo, residualsAfter, reconstructed};
-ghost use Rattle.residual.specs.Laws.{Fits};
+ghost use Rattle.residual.specs.Laws.{Fits, raise};
 
 // How many runs of 16 samples a block of side n has.
 fn runs_of(n: usize) -> usize
@@ -123,6 +124,43 @@ fn all_in_range(residual: &[i32], runs: usize) -> bool
     ok
 }
 
+// A number raised by 2^31, after which it is not below 0.
+fn raised(r: i32) -> u32
+    ensures { λ u. ⌜ u ≡ raise r ⌝ }
+{
+    ((r as i64) + 2147483648) as u32
+}
+
+// What r + 32768 has above its 16 low bits: 0 where r fits an i16, and then it is in range.
+fn high_part(r: i32) -> u16
+    ensures { λ h. ⌜ (h ≡ 0 → inRange r ≡ true) ⌝ }
+{
+    (std::num::wrapping_add_u32(raised(r), 2147516416) / 65536) as u16
+}
+
+// The high parts of so many runs of residuals, one laid over the other.
+fn high_parts(residual: &[i32], runs: usize) -> u16
+    requires { ⌜ (runs * 16 ≤ length (now residual)) × (runs ≤ 64) ⌝ }
+    ensures { λ h. ⌜ (h ≡ 0 → allInRange (now (residual .entry)) (runs * 16) ≡ true) ⌝ }
+{
+    let mut parts = 0u16;
+    for i in 0..runs * 16 {
+        parts = parts | high_part(residual[i]);
+    }
+    parts
+}
+
+// Whether so many runs of residuals are in range. Most often all fit an i16, which is sooner told.
+fn runs_in_range(residual: &[i32], runs: usize) -> bool
+    requires { ⌜ (runs * 16 ≤ length (now residual)) × (runs ≤ 64) ⌝ }
+    ensures { λ b. ⌜ b ≡ allInRange (now (residual .entry)) (runs * 16) ⌝ }
+{
+    if high_parts(residual, runs) == 0 {
+        return true;
+    }
+    all_in_range(residual, runs)
+}
+
 // Number 1 before those of the buffers, and 8 after them.
 fn reconstruct_no(bits: u32, n: usize, pred: usize, residual: &[i32], out: usize) -> u32
     ensures { λ r. ⌜ r ≡ reconstructNo bits n pred (now (residual .entry)) out ⌝ }
@@ -134,7 +172,7 @@ fn reconstruct_no(bits: u32, n: usize, pred: usize, residual: &[i32], out: usize
     if no != 0 {
         return no;
     }
-    if !all_in_range(residual, runs_of(n)) {
+    if !runs_in_range(residual, runs_of(n)) {
         return 8;
     }
     0

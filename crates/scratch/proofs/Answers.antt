@@ -21,5 +21,5 @@ module _ (number : Lent → ℕ) (above left : ℕ) (work before : List ℕ) (h 
   pub ends : Long (h .refs) (h .indices) (h .fractions) → Said → Ends
   ends long e = (
     e .0 ∙ (λ i. number (record { above = above; left = left; pred = length before; refs = long .0 i; indices = long .1 .0 i; fractions = long .1 .1 i })),
-    (e .1 .0, λ some. λ i. record { refs = e .1 .1 some .0 i; indices = e .1 .1 some .1 .0 i; fractions = e .1 .1 some .1 .1 i }),
+    (e .1 .0, λ refused. λ i. record { refs = e .1 .1 refused .0 i; indices = e .1 .1 refused .1 .0 i; fractions = e .1 .1 refused .1 .1 i }),
   )

@@ -30,6 +30,14 @@ pub record LocalLoan : Type 0 where
   pub life : ℕ
   pub name : GName
 
+module _ {M : Type 1} (𝓤 : URA M) where
+  -- the token of a loan of the local b, and the lender's part
+  abbrev pub Token : LocalLoan → Item 𝓤
+  Token l = ‵ (flft (l .life ∷ []) fullShare)
+
+  abbrev pub Lender : ℕ → LocalLoan → Item 𝓤
+  Lender b l = ‵ (flent (l .life ∷ []) (Body (mem T.the-row) b 0 (l .name)))
+
 module _ {M : Type 1} (𝓤 : URA M) (H : Heap 𝓤) (A : Atoms 𝓤) (W : Given 𝓤 H A) where
   -- a scratch whose machine value lies in a cell is a scratch in memory
   lies-in : (h : AngularScratch) (w : Val) (b o : ℕ) → ent 𝓤 (sep 𝓤 (sem 𝓤 H A (cellAt fullShare (T.the-row .mir) (w ∷ []) b o)) (sem 𝓤 H A (T.the-row .own h (w ∷ [])))) (sem 𝓤 H A (partAt T.the-row fullShare h b o))
@@ -45,22 +53,15 @@ module _ {M : Type 1} (𝓤 : URA M) (H : Heap 𝓤) (A : Atoms 𝓤) (W : Given
       use1 W (‵ (fat fullShare T′.mir b o (LL.tuple-val T.the-type T′.the-laws (T.the-type .to h)))) (W .laws .raw-at fullShare T′.mir b o (LL.tuple-val T.the-type T′.the-laws (T.the-type .to h))) $ keep ! (0 ∷ []) $
       use1 W (‵ (froom T′.mir b o)) (W .laws .at-room T′.mir b o (LL.tuple-val T.the-type T′.the-laws (T.the-type .to h))) $ done !)
 
-  -- the token of a loan of the local b, and the lender's part
-  abbrev pub Token : LocalLoan → Item 𝓤
-  Token l = ‵ (flft (l .life ∷ []) fullShare)
-
-  abbrev pub Lender : ℕ → LocalLoan → Item 𝓤
-  Lender b l = ‵ (flent (l .life ∷ []) (Body (mem T.the-row) b 0 (l .name)))
-
   pub lend-local : (h : AngularScratch) (w : Val) (b : ℕ) → ent 𝓤 (mean 𝓤 H A (‵ (fat fullShare T′.mir b 0 w) ⊛ ‵ (T.the-row .own h (w ∷ []))))
-      (mean 𝓤 H A (later (some (λ (l : LocalLoan). Token l ⊛ (Holds 𝓤 H A b 0 (named 0) (l .life ∷ []) (l .name) h ⊛ Lender b l)))))
+      (mean 𝓤 H A (later (some (λ (l : LocalLoan). Token 𝓤 l ⊛ (Holds 𝓤 H A b 0 (named 0) (l .life ∷ []) (l .name) h ⊛ Lender 𝓤 b l)))))
   lend-local h w b =
       qed W ((‵ (fat fullShare T′.mir b 0 w) ⊛ ‵ (T.the-row .own h (w ∷ []))) ∷ []) ∵ updating ! $ split ! $
       use1 W (‵ (cellAt fullShare (T.the-row .mir) (w ∷ []) b 0)) (W .laws .at-raw fullShare T′.mir b 0 w) $ use2 W (‵ (partAt T.the-row fullShare h b 0)) (lies-in h w b 0) $ lft-new ! tt (λ α. move ! (1 ∷ []) $
       use1 W (later (some (λ (δ : GName). Holds 𝓤 H A b 0 (named 0) (α ∷ []) δ h ⊛ ‵ (flent (α ∷ []) (Body (mem T.the-row) b 0 δ))))) (lends-ref 𝓤 H A W T.the-row (named 0) (α ∷ []) h b 0) $ await ! tt $ pick ! (λ δ. split ! $ at-once ! $
-      show ! (λ (l : LocalLoan). mean 𝓤 H A (Token l ⊛ (Holds 𝓤 H A b 0 (named 0) (l .life ∷ []) (l .name) h ⊛ Lender b l))) (record { life = α; name = δ }) $ move ! (2 ∷ 0 ∷ 1 ∷ []) $ frame ! $ frame ! $ done !))
+      show ! (λ (l : LocalLoan). mean 𝓤 H A (Token 𝓤 l ⊛ (Holds 𝓤 H A b 0 (named 0) (l .life ∷ []) (l .name) h ⊛ Lender 𝓤 b l))) (record { life = α; name = δ }) $ move ! (2 ∷ 0 ∷ 1 ∷ []) $ frame ! $ frame ! $ done !))
 
-  pub local-back : (l : LocalLoan) (h : AngularScratch) (b : ℕ) → ent 𝓤 (mean 𝓤 H A (Token l ⊛ (‵ (fres (l .name) (T.the-row .coded .code h)) ⊛ Lender b l))) (mean 𝓤 H A (later (‵ (froom T′.mir b 0))))
+  pub local-back : (l : LocalLoan) (h : AngularScratch) (b : ℕ) → ent 𝓤 (mean 𝓤 H A (Token 𝓤 l ⊛ (‵ (fres (l .name) (T.the-row .coded .code h)) ⊛ Lender 𝓤 b l))) (mean 𝓤 H A (later (‵ (froom T′.mir b 0))))
   local-back l h b =
-      qed W ((Token l ⊛ (‵ (fres (l .name) (T.the-row .coded .code h)) ⊛ Lender b l)) ∷ []) ∵ updating ! $ split ! $ lft-end ! tt $ move ! (1 ∷ []) $ split ! $ move ! (2 ∷ 1 ∷ 0 ∷ []) $
+      qed W ((Token 𝓤 l ⊛ (‵ (fres (l .name) (T.the-row .coded .code h)) ⊛ Lender 𝓤 b l)) ∷ []) ∵ updating ! $ split ! $ lft-end ! tt $ move ! (1 ∷ []) $ split ! $ move ! (2 ∷ 1 ∷ 0 ∷ []) $
       use3 W (later (‵ (partAt T.the-row fullShare h b 0))) (ref-back 𝓤 H A W T.the-row (l .life ∷ []) (l .name) h b 0) $ await ! tt $ use1 W (‵ (froom T′.mir b 0)) (roomy h b 0) $ at-once ! $ done !

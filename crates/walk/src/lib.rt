@@ -121,7 +121,7 @@ fn rebuild_rows(
 }
 
 // A block as the gather takes it.
-fn geometry(s: Still, b: Block) -> LumaRefGeometry
+pub fn geometry(s: Still, b: Block) -> LumaRefGeometry
     ensures { λ r. ⌜ r ≡ geoOf s b ⌝ }
 {
     let picture = Picture {
@@ -282,7 +282,7 @@ fn is_roomy(refs: usize, indices: usize, fractions: usize) -> bool
 }
 
 // Numbers 1, 4, 5; fit says whether all that is lent is long enough.
-fn opening_no(s: Still, fit: bool) -> u32
+pub fn opening_no(s: Still, fit: bool) -> u32
     ensures { λ r. ⌜ r ≡ openingNo s fit ⌝ }
 {
     if !domain::depth_ok(s.bits) {
@@ -297,7 +297,8 @@ fn opening_no(s: Still, fit: bool) -> u32
     0
 }
 
-fn residual_ok(r: i32) -> bool
+// Number 8: whether a residual is in range.
+pub fn residual_ok(r: i32) -> bool
     ensures { λ b. ⌜ b ≡ residualOk r ⌝ }
 {
     helpers::abs(r) <= 65535

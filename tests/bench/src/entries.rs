@@ -40,6 +40,15 @@ impl PlaneRows {
     }
 }
 
+/// What a call of walk or replay gives: its number and the block that it is about, how many blocks it did, how many are done.
+#[repr(C)]
+pub struct Step {
+    pub no: u32,
+    pub block: u32,
+    pub did: u32,
+    pub done: u32,
+}
+
 unsafe extern "C" {
     pub fn salvrunde_probe_predict_planar_into(
         above: *const u16,
@@ -154,5 +163,65 @@ unsafe extern "C" {
         bits: u32,
         out: *mut u16,
         out_len: usize,
+    ) -> u32;
+
+    pub fn salvrunde_probe_walk(
+        done: u32,
+        bits: u32,
+        width: u32,
+        height: u32,
+        ctu: u32,
+        plan: *const [u32; 4],
+        plan_len: usize,
+        source: *const u16,
+        source_len: usize,
+        work: *mut u16,
+        work_len: usize,
+        residuals: *mut i32,
+        residuals_len: usize,
+        refs: *mut u16,
+        refs_len: usize,
+        indices: *mut u32,
+        indices_len: usize,
+        fractions: *mut u32,
+        fractions_len: usize,
+        grant: u32,
+    ) -> Step;
+
+    pub fn salvrunde_probe_replay(
+        done: u32,
+        bits: u32,
+        width: u32,
+        height: u32,
+        ctu: u32,
+        plan: *const [u32; 4],
+        plan_len: usize,
+        residuals: *const i32,
+        residuals_len: usize,
+        plane: *mut u16,
+        plane_len: usize,
+        refs: *mut u16,
+        refs_len: usize,
+        indices: *mut u32,
+        indices_len: usize,
+        fractions: *mut u32,
+        fractions_len: usize,
+        grant: u32,
+    ) -> Step;
+    pub fn salvrunde_replay(
+        done: u32,
+        bits: u32,
+        width: u32,
+        height: u32,
+        ctu: u32,
+        grant: u32,
+        plan: *const u8,
+        plan_len: usize,
+        residuals: *const u8,
+        residuals_len: usize,
+        plane: *mut u8,
+        plane_len: usize,
+        result: *mut u8,
+        result_len: usize,
     ) -> u32;
 }

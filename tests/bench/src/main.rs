@@ -9,10 +9,16 @@
 //! A subject whose entries the probes do not have yet is left out; see build.rs.
 #[cfg(entry = "predict_angular_slices")]
 mod angular;
+#[cfg(all(entry = "walk", entry = "replay"))]
+#[path = "../../differential/src/assembled.rs"]
+mod assembled;
 #[allow(dead_code)] // what subjects that are left out call
 mod entries;
 #[cfg(all(entry = "predict_planar_into", entry = "predict_dc_into"))]
 mod flat;
+#[allow(dead_code)] // what subjects that are left out call
+#[path = "../../differential/src/frame.rs"]
+mod frame;
 #[cfg(entry = "get_reference_samples")]
 mod gather;
 #[cfg(entry = "get_reference_samples_chroma_pair")]
@@ -28,6 +34,8 @@ mod residual;
 mod smooth;
 #[allow(dead_code)] // what subjects that are left out call
 mod table;
+#[cfg(all(entry = "walk", entry = "replay"))]
+mod walk;
 
 /// The Rust of docs/src, unchanged; see tests/differential/build.rs.
 #[allow(dead_code)]
@@ -58,6 +66,9 @@ const SUBJECTS: &[Subject] = &[
     gather_chroma::time,
     #[cfg(all(entry = "compute_residual_i32_into", entry = "reconstruct_into"))]
     residual::time,
+    // the last, for it has a table of its own
+    #[cfg(all(entry = "walk", entry = "replay"))]
+    walk::time,
 ];
 
 /// What the archive has no entries for.
@@ -74,6 +85,8 @@ const MISSING: &[&str] = &[
     "chroma pair gather",
     #[cfg(not(all(entry = "compute_residual_i32_into", entry = "reconstruct_into")))]
     "residual and reconstruction",
+    #[cfg(not(all(entry = "walk", entry = "replay")))]
+    "walk and replay",
 ];
 
 fn main() {

@@ -43,6 +43,26 @@ impl Table {
         println!("| {what} | {sides} | | | | {to_called:.2} | {ratio} | {most} |");
     }
 
+    /// Begins the table of whole stills.
+    pub fn stills(&mut self) {
+        println!("\n| Call | Picture | Rust, ns a sample | Proved, ns a sample | of it the checks | Ratio | At most |");
+        println!("|---|--:|--:|--:|--:|--:|--:|");
+    }
+
+    /// A line of it; the Rust has no number where it was not timed.
+    pub fn still(&mut self, what: &str, sides: (usize, usize), times: Times, checks: f64, most: Option<f64>) {
+        let area = (sides.0 * sides.1) as f64;
+        let rust = if times.rust.is_nan() { String::new() } else { format!("{:.2}", times.rust / area) };
+        let target = most.map_or("|".into(), |most| format!("{} | {most}", self.held(what, sides.0, times.ratio(), most)));
+        println!(
+            "| {what} | {} × {} | {rust} | {:.2} | {:.2} | {target} |",
+            sides.0,
+            sides.1,
+            times.rattle / area,
+            checks / area
+        );
+    }
+
     /// Counts a target, and writes its ratio: bold where it is missed.
     fn held(&mut self, what: &str, side: usize, ratio: f64, most: f64) -> String {
         // a ratio is as many figures as are printed

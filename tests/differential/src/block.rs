@@ -1,6 +1,7 @@
 //! A chroma block against the Rust's predict_chroma_tb_into, and a luma block against its parts: should_filter_refs,
-//! filter_luma_refs and the three predictors with edges filtered, put together here as H.265 8.4.4.2.1 does.
+//! filter_luma_refs and the three predictors with edges filtered, put together as H.265 8.4.4.2.1 does (assembled.rs).
 //! Outside document 01's domain the Rust is not asked: what is wanted there is the table's number and nothing written.
+use crate::assembled;
 use crate::host::Arg::{Lent, Number, Read};
 use crate::oracle::intra::{self, AngularScratch};
 use crate::random::Random;
@@ -10,18 +11,18 @@ use crate::tally::{Tally, Want};
 
 /// What either door is given. Luma's rows have 65 entries by their type.
 #[derive(Clone)]
-struct Block {
-    luma: bool,
-    mode: u8,
-    bits: u32,
-    corner: u16,
-    above: Vec<u16>,
-    left: Vec<u16>,
-    n: usize,
-    pred: Vec<u16>,
-    refs: usize,
-    indices: usize,
-    fractions: usize,
+pub struct Block {
+    pub luma: bool,
+    pub mode: u8,
+    pub bits: u32,
+    pub corner: u16,
+    pub above: Vec<u16>,
+    pub left: Vec<u16>,
+    pub n: usize,
+    pub pred: Vec<u16>,
+    pub refs: usize,
+    pub indices: usize,
+    pub fractions: usize,
 }
 
 impl Block {
@@ -31,33 +32,15 @@ impl Block {
     }
 
     /// The number, and the block's buffer afterwards, with tables that are long enough or not.
-    fn answer(&self, tables: bool, scratch: &mut AngularScratch) -> (u32, Vec<u16>) {
+    pub fn answer(&self, tables: bool, scratch: &mut AngularScratch) -> (u32, Vec<u16>) {
         let (no, mut pred) = (self.number(tables), self.pred.clone());
         if no == 0 && self.luma {
-            self.luma_into(&mut pred, scratch);
+            assembled::predict(self.mode, self.bits, (self.corner, &self.above, &self.left), self.n, &mut pred, scratch);
         } else if no == 0 {
             let (above, left, top) = (&self.above, &self.left, largest(self.bits) as i32);
             intra::predict_chroma_tb_into(self.mode, self.corner, above, left, self.n, top, &mut pred, scratch);
         }
         (no, pred)
-    }
-
-    fn luma_into(&self, pred: &mut [u16], scratch: &mut AngularScratch) {
-        let (n, mode) = (self.n, self.mode);
-        let (corner, above, left) = if intra::should_filter_refs(mode, n) {
-            let (c, a, l) = intra::filter_luma_refs(self.corner, &self.above, &self.left, n, self.bits);
-            (c, a.to_vec(), l.to_vec())
-        } else {
-            (self.corner, self.above.clone(), self.left.clone())
-        };
-        match mode {
-            0 => intra::predict_planar_into(&above, &left, n, pred),
-            1 => intra::predict_dc_into(&above, &left, n, true, pred),
-            _ => {
-                let top = largest(self.bits) as i32;
-                intra::predict_angular_into(corner, &above, &left, n, mode, true, top, pred, scratch);
-            }
-        }
     }
 
     fn any(luma: bool, n: usize, mode: u8, bits: u32, kinds: [u64; 2], random: &mut Random) -> Block {

@@ -74,15 +74,6 @@ impl Host {
         self.answers.read_exact(&mut answers).expect("the host answers");
         answers
     }
-
-    /// Makes one call that lends nothing, and gives the two words of its answer.
-    pub fn ask(&mut self, name: &str, numbers: &[u64]) -> [u64; 2] {
-        let mut batch = Vec::new();
-        let args: Vec<Arg> = numbers.iter().map(|&n| Arg::Number(n)).collect();
-        put(&mut batch, entry(name), &args);
-        let answer = self.call(&batch, 16);
-        [0, 8].map(|at| u64::from_le_bytes(answer[at..at + 8].try_into().unwrap()))
-    }
 }
 
 impl Drop for Host {

@@ -1,5 +1,6 @@
-//! The fixed list of the Rust's answers to smoothing, prediction and residuals, crates/replay_predict/stdin, which a proved
+//! The fixed list of the Rust's answers to smoothing, prediction, residuals and whole blocks, crates/replay_predict/stdin, which a proved
 //! program replays with no Rust at hand. crates/replay_predict/src/main.rt says how a line is read and what a seed gives.
+use crate::block::Block;
 use crate::list::{comment_of, line_of};
 use crate::oracle::intra::AngularScratch;
 use crate::predict::{Angular, Flat};
@@ -97,12 +98,33 @@ impl Call {
                 let (no, after) = residual_answer(&orig, &pred, rows.n, &[DIRT as i32; 1024]);
                 (no, 0, after.iter().map(|&r| 65536 * r.max(0) as u32 + (-r).max(0) as u32).collect())
             }
-            _ => {
+            8 => {
                 let (pred, orig) = blocks();
                 let (first, residual) = residual_answer(&orig, &pred, rows.n, &[0; 1024]);
                 let (no, after) = rebuilt_answer(&pred, &residual, rows.n, self.bits, &[DIRT; 1024]);
                 (no, first, wide(&after))
             }
+            _ => {
+                let (no, after) = self.block(rows).answer(true, &mut AngularScratch::new());
+                (no, 0, wide(&after))
+            }
+        }
+    }
+
+    /// A chroma block, or a luma block, whose rows are whole.
+    fn block(self, rows: Flat) -> Block {
+        Block {
+            luma: self.kind == 10,
+            mode: self.mode as u8,
+            bits: self.bits,
+            corner: self.corner(),
+            above: rows.above,
+            left: rows.left,
+            n: rows.n,
+            pred: rows.pred,
+            refs: 193,
+            indices: 32,
+            fractions: 32,
         }
     }
 
@@ -231,6 +253,30 @@ pub fn write() {
                 list += &Call { kind: 8, n, mode: 0, edge: false, bits, seed: seed(), top, entries: 65 }.lines(places(n));
             }
         }
+    }
+    list += &comment("9: a chroma block in any mode");
+    list += &comment("10: a luma block in any mode, its references smoothed by the rule");
+    for kind in [9, 10] {
+        for n in [4, 8, 16, 32] {
+            for mode in [0, 1, 2, 3, 6, 9, 10, 11, 14, 17, 18, 19, 22, 25, 26, 27, 30, 34] {
+                let (bits, top) = [(8, 255), (12, 4095), (10, 65535)][(mode as usize + n as usize / 4) % 3];
+                let places = if n == 4 { &[0][..] } else { &[0, n as usize * n as usize - 32] };
+                list += &Call { kind, n, mode, edge: false, bits, seed: seed(), top, entries: 65 }.lines(places);
+            }
+        }
+        for (n, mode, bits) in [(5, 0, 8), (4, 35, 8), (8, 255, 10), (4, 2, 9), (64, 35, 0), (5, 35, 12), (32, 26, 16)] {
+            list += &Call { kind, n, mode, edge: false, bits, seed: seed(), top: 65535, entries: 65 }.lines(&[0]);
+        }
+    }
+    for (n, mode, bits, entries) in [(4, 0, 8, 64), (32, 34, 12, 0), (4, 1, 8, 9), (5, 2, 8, 64), (4, 35, 8, 64), (4, 2, 9, 64)] {
+        list += &Call { kind: 9, n, mode, edge: false, bits, seed: seed(), top: 65535, entries }.lines(&[0]);
+    }
+    let strong = (0..65537)
+        .map(|seed| Call { kind: 10, n: 32, mode: 2, edge: false, bits: 12, seed, top: 255, entries: 65 })
+        .find(|c| c.is_strong())
+        .expect("some seed's rows are straight");
+    for mode in [0, 2, 18, 34] {
+        list += &Call { mode, ..strong }.lines(&[0, 992]);
     }
     let lines = list.lines().filter(|l| !l.starts_with('#')).count();
     let folder = concat!(env!("CARGO_MANIFEST_DIR"), "/../../crates/replay_predict");

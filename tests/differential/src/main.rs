@@ -3,14 +3,14 @@
 //! `differential -- HOST..` runs every subject and ends with status 1 where an answer differs.
 //! `differential NAME.. -- HOST..` runs the subjects of those names alone.
 //! `differential list -- HOST..` writes the fixed lists of the Rust's answers that the replay crates hold.
-//! `differential demo -- HOST..` prints the decode order of a small picture.
 //!
 //! A subject is a module with one function that makes calls through a `Tally`. To add one: write src/NAME.rs, add its line
 //! to SUBJECTS, and add the entries that it calls to entries.txt.
+mod assembled;
 mod block;
-mod demo;
 mod differences;
 mod fmt;
+mod frame;
 mod host;
 mod list;
 mod list_predict;
@@ -24,8 +24,10 @@ mod residual;
 mod samples;
 mod smooth;
 mod standard;
+mod step;
 mod table;
 mod tally;
+mod walk;
 
 /// The Rust of docs/src, unchanged; see build.rs.
 mod oracle {
@@ -58,12 +60,15 @@ const SUBJECTS: &[(&str, Subject)] = &[
     ("chroma block", block::chroma),
     ("luma block", block::luma),
     ("plan check", plan::check),
+    ("walk", walk::walk),
+    ("replay", walk::replay),
+    ("walk and replay refused", walk::refused),
     ("differences in references", standard::differences),
 ];
 
 fn main() -> ExitCode {
     let words: Vec<String> = std::env::args().skip(1).collect();
-    let cut = words.iter().position(|w| w == "--").expect("usage: differential [list | demo | NAME..] -- HOST..");
+    let cut = words.iter().position(|w| w == "--").expect("usage: differential [list | NAME..] -- HOST..");
     let mut host = Host::start(&words[cut + 1..]);
     match words[..cut].first().map(String::as_str) {
         Some("list") => {
@@ -71,7 +76,6 @@ fn main() -> ExitCode {
             list_predict::write();
             list_refs::write();
         }
-        Some("demo") => demo::print(&mut host),
         _ => return compare(&mut host, &words[..cut]),
     }
     ExitCode::SUCCESS

@@ -1,83 +1,13 @@
 //! The plan check against a plain simulation of document 01's words: the picture's 4×4 cells in decode order, and which of
 //! them are covered. The Rust has no plans.
+use crate::frame::{Block, CELL, Frame, quarters};
 use crate::host::Arg::{Number, Read};
 use crate::random::Random;
 use crate::samples::bytes_32;
 use crate::table::{self, Picture};
 use crate::tally::{Tally, Want};
 
-/// Row, column, side, mode.
-type Block = [u32; 4];
-
-const CELL: u32 = 4;
-
-#[derive(Clone, Copy)]
-struct Frame {
-    width: u32,
-    height: u32,
-    ctu: u32,
-}
-
-/// The four quarters of a square, in decode order.
-fn quarters(row: u32, col: u32, side: u32) -> [(u32, u32); 4] {
-    let half = side / 2;
-    [(row, col), (row, col + half), (row + half, col), (row + half, col + half)]
-}
-
 impl Frame {
-    fn holds(self, row: u32, col: u32) -> bool {
-        row < self.height && col < self.width
-    }
-
-    fn ctus(self) -> impl Iterator<Item = (u32, u32)> {
-        let step = self.ctu as usize;
-        (0..self.height).step_by(step).flat_map(move |row| (0..self.width).step_by(step).map(move |col| (row, col)))
-    }
-
-    /// Adds the cells of a square that are in the picture, in decode order.
-    fn add_cells(self, row: u32, col: u32, side: u32, cells: &mut Vec<(u32, u32)>) {
-        if !self.holds(row, col) {
-            return;
-        }
-        if side == CELL {
-            return cells.push((row, col));
-        }
-        for (r, c) in quarters(row, col, side) {
-            self.add_cells(r, c, side / 2, cells);
-        }
-    }
-
-    /// The picture's cells in decode order.
-    fn cells(self) -> Vec<(u32, u32)> {
-        let mut cells = Vec::new();
-        for (row, col) in self.ctus() {
-            self.add_cells(row, col, self.ctu, &mut cells);
-        }
-        cells
-    }
-
-    /// A square as blocks of a good plan: whole where it may be, else its quarters.
-    fn add_blocks(self, row: u32, col: u32, side: u32, random: &mut Random, plan: &mut Vec<Block>) {
-        if !self.holds(row, col) {
-            return;
-        }
-        let whole = row + side <= self.height && col + side <= self.width && side <= 32;
-        if side == CELL || whole && random.below(2) == 0 {
-            return plan.push([row, col, side, random.below(35) as u32]);
-        }
-        for (r, c) in quarters(row, col, side) {
-            self.add_blocks(r, c, side / 2, random, plan);
-        }
-    }
-
-    fn good_plan(self, random: &mut Random) -> Vec<Block> {
-        let mut plan = Vec::new();
-        for (row, col) in self.ctus() {
-            self.add_blocks(row, col, self.ctu, random, &mut plan);
-        }
-        plan
-    }
-
     /// Number 6 of a block whose side is one.
     fn places(self, [row, col, side, _]: Block) -> bool {
         let fits = |at: u32, most: u32| at.is_multiple_of(side) && at as u64 + side as u64 <= most as u64;
@@ -85,16 +15,20 @@ impl Frame {
     }
 
     /// The verdict: its number, and the block's list number with 2, 3, 6 and 9.
-    fn verdict(self, plan: &[Block]) -> [u32; 2] {
+    pub fn verdict(self, plan: &[Block]) -> [u32; 2] {
         if !Picture::new(self.width, self.height, self.ctu, 4).sides_and_ctu() {
             return [4, 0];
         }
-        let cells = self.cells();
+        let (cells, mut first) = (self.squares(CELL), 0);
         let mut covered = vec![false; (self.width * self.height / 16) as usize];
         let at = |row: u32, col: u32| (row / CELL * (self.width / CELL) + col / CELL) as usize;
         for (i, &block) in plan.iter().enumerate() {
             let [row, col, side, mode] = block;
-            let next = cells.iter().find(|&&(r, c)| !covered[at(r, c)]);
+            // the next uncovered cell: what is covered stays so
+            while cells.get(first).is_some_and(|&(r, c)| covered[at(r, c)]) {
+                first += 1;
+            }
+            let next = cells.get(first);
             let size = table::size(side as usize);
             let starts = next == Some(&(row, col));
             let no = table::first(&[(2, size), (3, mode <= 34), (6, size && self.places(block)), (9, starts)]);
@@ -121,7 +55,7 @@ fn ask(t: &mut Tally, f: Frame, plan: &[Block]) -> u32 {
 }
 
 /// One change to a plan. Some leave it good.
-fn change(f: Frame, plan: &mut Vec<Block>, random: &mut Random) {
+pub fn change(f: Frame, plan: &mut Vec<Block>, random: &mut Random) {
     if plan.is_empty() {
         return plan.push([0, 0, 8, 1]);
     }

@@ -7,6 +7,8 @@ pub struct Want {
     words: [u64; 2],
     masks: [u64; 2],
     lent: Vec<Vec<u8>>,
+    /// How many bytes at the start of each may be anything.
+    open: Vec<usize>,
 }
 
 /// Two fields of 32 bits, as a struct of two u32 comes back.
@@ -17,7 +19,7 @@ pub fn pair(a: u32, b: u32) -> u64 {
 impl Want {
     /// A result of one word of which the mask's bits count.
     pub fn word(word: u64, mask: u64) -> Want {
-        Want { words: [word, 0], masks: [mask, 0], lent: Vec::new() }
+        Want { words: [word, 0], masks: [mask, 0], lent: Vec::new(), open: Vec::new() }
     }
 
     /// A struct of up to four u32.
@@ -30,12 +32,19 @@ impl Want {
             words: [pair(all[0], all[1]), pair(all[2], all[3])],
             masks: [pair(mask[0], mask[1]), pair(mask[2], mask[3])],
             lent: Vec::new(),
+            open: Vec::new(),
         }
     }
 
     /// With the later contents of the next buffer that the call lends.
-    pub fn then(mut self, bytes: Vec<u8>) -> Want {
+    pub fn then(self, bytes: Vec<u8>) -> Want {
+        self.then_past(0, bytes)
+    }
+
+    /// The same, where the buffer's first bytes may be anything.
+    pub fn then_past(mut self, open: usize, bytes: Vec<u8>) -> Want {
         self.lent.push(bytes);
+        self.open.push(open);
         self
     }
 
@@ -101,8 +110,8 @@ impl<'h> Tally<'h> {
             let words = [word(0) & call.want.masks[0], word(1) & call.want.masks[1]];
             let mut lent = Vec::new();
             let mut next = at + 16;
-            for b in &call.want.lent {
-                lent.push(answers[next..next + b.len()].to_vec());
+            for (b, &open) in call.want.lent.iter().zip(&call.want.open) {
+                lent.push([&b[..open], &answers[next + open..next + b.len()]].concat());
                 next += b.len().next_multiple_of(8);
             }
             at = next;

@@ -1,29 +1,46 @@
--- `plan::check_plan_numbers` meets its contract.
-use mathlib.Core.Path.{refl, sym, _∙_}
+-- `plan::check_plan_numbers` meets its contract: each turn is a step of the check. Rests on `check_step`.
+use mathlib.Core.Path.{_≡_, _∙_, sym, subst}
+use Prim.Native.Nat.{_-_, _≤_}
+use lib.ListN.{length}
 use borrow.Author.Needs.{needs}
-use borrow.Author.Tests.{not-true, not-false}
-use Rattle.laws.specs.Choose.{if-yes, if-no}
-use Rattle.order.specs.Order.{pictureOk}
-use Rattle.plan.specs.Plan.{pictureOf}
-use Rattle.plan.specs.Check.{planVerdict}
-use Rattle.plan.specs.Tests.{picture-good}
+use Rattle.plan.specs.Plan.{planOf}
+use Rattle.plan.specs.Standing.{Standing, startOf, endOf, standing-small, standing-none, standing-more, standing-end}
 use Rattle.plan.proofs.check_plan_numbers.Statement.{statement}
 use Rattle.plan.proofs.check_plan_numbers.Tie as tie
 
-picture-ok-requires : tie.Need-picture-ok-requires
-picture-ok-requires c κs = search needs
+abbrev Inv-loop : tie.InvT-loop
+Inv-loop frame plan count t₀ i₀ t i = (i ≤ length plan) × Standing frame (planOf plan) i t
 
-returns : tie.Need-returns
-unfolding planVerdict
-returns c = if-no (pictureOk (pictureOf (c .before .before .args .frame))) _ _ _ (sym (c .before .picture-ok .ensures) ∙ not-true _ (c .if1 .taken)) refl
+abbrev μ-loop : tie.MeasureT-loop
+μ-loop frame plan count t₀ i₀ t i = length plan - i
 
-check-blocks-requires : tie.Need-check-blocks-requires
-check-blocks-requires c κs = picture-good _ (sym (c .before .picture-ok .ensures) ∙ not-false _ (c .if1 .left))
+check-start-requires : tie.Need-check-start-requires Inv-loop μ-loop
+check-start-requires c κs = search needs
 
-returns-2 : tie.Need-returns-2
-unfolding planVerdict
-returns-2 c = if-yes (pictureOk (pictureOf (c .before .before .before .args .frame))) _ _ _ (sym (c .before .before .picture-ok .ensures) ∙ not-false _ (c .before .if1 .left)) (c .check-blocks .ensures)
+loop-holds : tie.Need-loop-holds Inv-loop μ-loop
+loop-holds c = (search needs, subst (Standing _ _ 0) (sym (c .check-start .ensures)) (standing-none _ _))
+
+block-at-requires : tie.Need-block-at-requires Inv-loop μ-loop
+block-at-requires c κs = search needs
+
+check-step-requires : tie.Need-check-step-requires Inv-loop μ-loop
+check-step-requires c κs = standing-small (c .before .before .loop .inv .1)
+
+add-i : tie.Need-add-i Inv-loop μ-loop
+add-i c = search needs
+
+loop-less : tie.Need-loop-less Inv-loop μ-loop
+loop-less c = search needs
+
+loop-again : tie.Need-loop-again Inv-loop μ-loop
+loop-again c = (search needs, subst (Standing _ _ _) (sym (c .check-step .ensures)) (standing-more (c .before .before .before .loop .inv .1) (c .before .before .loop-test .taken) (c .before .block-at .result) (c .before .block-at .ensures)))
+
+check-end-requires : tie.Need-check-end-requires Inv-loop μ-loop
+check-end-requires c κs = search needs
+
+returns : tie.Need-returns Inv-loop μ-loop
+returns c = c .check-end .ensures ∙ standing-end (c .before .before .loop .inv .1) (c .before .loop-test .left)
 
 pub check-plan-numbers-spec : {M : Type 1} → statement M
 check-plan-numbers-spec =
-    tie.close (tie.spec picture-ok-requires returns check-blocks-requires returns-2)
+    tie.close (tie.spec Inv-loop μ-loop check-start-requires loop-holds block-at-requires check-step-requires add-i loop-less loop-again check-end-requires returns)

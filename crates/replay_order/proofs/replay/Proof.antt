@@ -1,13 +1,12 @@
--- `replay_order::replay` meets its contract: the lines read lie in the list, and there are no more calls than lines.
-use Prim.Native.Nat.{_-_, _*_, _≤_}
-use lib.ListN.{length}
+-- `replay_order::replay` meets its contract: there are no more calls than lines, and few lines.
+use Prim.Native.Nat.{_-_, _≤_}
 use borrow.Author.Needs.{needs}
 use Rattle.replay_order.proofs.replay.Statement.{statement}
 use Rattle.replay_order.proofs.replay.Tie as tie
 
 abbrev Inv-loop : tie.InvT-loop
 Inv-loop list kind count₀ line₀ line-end count line =
-    (99 * line-end ≤ length list) × (line-end ≤ 4096) × (line ≤ line-end) × (count .calls ≤ line) × (count .differ ≤ line)
+    (line-end ≤ 4096) × (line ≤ line-end) × (count .calls ≤ line) × (count .differ ≤ line)
 
 abbrev μ-loop : tie.MeasureT-loop
 μ-loop list kind count₀ line₀ line-end count line = line-end - line
@@ -18,8 +17,8 @@ lines-in-requires c κs = search needs
 loop-holds : tie.Need-loop-holds Inv-loop μ-loop
 loop-holds c = search needs
 
-mul-with : tie.Need-mul-with Inv-loop μ-loop
-mul-with c = search needs
+cast-with : tie.Need-cast-with Inv-loop μ-loop
+cast-with c = search needs
 
 with-requires : tie.Need-with-requires Inv-loop μ-loop
 with-requires c κs = search needs
@@ -44,7 +43,7 @@ replay-spec =
     μ-loop
     lines-in-requires
     loop-holds
-    mul-with
+    cast-with
     with-requires
     add-line
     loop-less

@@ -66,6 +66,15 @@ residual-same-requires c κs = search needs
 rebuilt-same-requires : tie.Need-rebuilt-same-requires
 rebuilt-same-requires c κs = search needs
 
+slice-aggregate-chroma-block-same : tie.Need-slice-aggregate-chroma-block-same
+slice-aggregate-chroma-block-same c = search needs
+
+chroma-block-same-requires : tie.Need-chroma-block-same-requires
+chroma-block-same-requires c κs = search needs
+
+luma-block-same-requires : tie.Need-luma-block-same-requires
+luma-block-same-requires c κs = search needs
+
 returns : tie.Need-returns
 returns c = search needs
 
@@ -93,6 +102,12 @@ returns-8 c = search needs
 returns-9 : tie.Need-returns-9
 returns-9 c = search needs
 
+returns-10 : tie.Need-returns-10
+returns-10 c = search needs
+
+returns-11 : tie.Need-returns-11
+returns-11 c = search needs
+
 pub agrees-spec : {M : Type 1} → statement M
 agrees-spec =
     tie.close
@@ -117,6 +132,9 @@ agrees-spec =
     angular-same-requires
     residual-same-requires
     rebuilt-same-requires
+    slice-aggregate-chroma-block-same
+    chroma-block-same-requires
+    luma-block-same-requires
     returns
     returns-2
     returns-3
@@ -125,4 +143,6 @@ agrees-spec =
     returns-6
     returns-7
     returns-8
-    returns-9)
+    returns-9
+    returns-10
+    returns-11)

@@ -1,4 +1,4 @@
--- `replay_predict::same` meets its contract. The words are read in the line, the entries in what was written.
+-- `replay_predict::same` meets its contract. The entries are read in what was written.
 use Prim.Native.Nat.{_+_, _-_, _≤_}
 use lib.ListN.{length}
 use borrow.Author.Needs.{needs}
@@ -17,8 +17,8 @@ within-requires c κs = search needs
 loop-holds : tie.Need-loop-holds Inv-loop μ-loop
 loop-holds c = search needs
 
-mul-word : tie.Need-mul-word Inv-loop μ-loop
-mul-word c = search needs
+cast-word : tie.Need-cast-word Inv-loop μ-loop
+cast-word c = search needs
 
 add-word : tie.Need-add-word Inv-loop μ-loop
 add-word c = search needs
@@ -58,7 +58,7 @@ same-spec =
     μ-loop
     within-requires
     loop-holds
-    mul-word
+    cast-word
     add-word
     word-requires
     add-is

@@ -33,8 +33,8 @@ returns-2 c =
 runs-of-requires : tie.Need-runs-of-requires
 runs-of-requires c κs = size-fits _ _ _ _ (sym (c .before .residual-no .ensures) ∙ c .if2 .left)
 
-all-in-range-requires : tie.Need-all-in-range-requires
-all-in-range-requires c κs =
+runs-in-range-requires : tie.Need-runs-in-range-requires
+runs-in-range-requires c κs =
     let a = c .before .before .before .before .before .args in
     let f = runs-fit (a .n) (a .pred) (length (a .residual .now)) (a .out) (sym (c .before .before .residual-no .ensures) ∙ c .before .if2 .left) (c .runs-of .result) (c .runs-of .ensures .0) (c .runs-of .ensures .1) in
     (f .second, f .few)
@@ -46,7 +46,7 @@ returns-3 c =
     let more = (8 unless allInRange (a .residual .now) (a .n * a .n)) ∷ [] in
     let len = length (a .residual .now) in
     let z = sym (c .before .before .before .before .residual-no .ensures) ∙ c .before .before .before .if2 .left in
-    let e = sym (rw (c .before .before .runs-of .ensures .0) at (c .before .all-in-range .ensures)) ∙ not-true _ (c .if3 .taken) in
+    let e = sym (rw (c .before .before .runs-of .ensures .0) at (c .before .runs-in-range .ensures)) ∙ not-true _ (c .if3 .taken) in
     rw (sym (c .before .before .before .before .before .before .depth-ok .ensures) ∙ not-false _ (c .before .before .before .before .before .if1 .left)) (if-no (allInRange (a .residual .now) (a .n * a .n)) 0 8 8 e refl ∙ first-goes (a .n) (a .pred) len (a .out) more z)
 
 returns-4 : tie.Need-returns-4
@@ -56,7 +56,7 @@ returns-4 c =
     let more = (8 unless allInRange (a .residual .now) (a .n * a .n)) ∷ [] in
     let len = length (a .residual .now) in
     let z = sym (c .before .before .before .before .residual-no .ensures) ∙ c .before .before .before .if2 .left in
-    let e = sym (rw (c .before .before .runs-of .ensures .0) at (c .before .all-in-range .ensures)) ∙ not-false _ (c .if3 .left) in
+    let e = sym (rw (c .before .before .runs-of .ensures .0) at (c .before .runs-in-range .ensures)) ∙ not-false _ (c .if3 .left) in
     rw (sym (c .before .before .before .before .before .before .depth-ok .ensures) ∙ not-false _ (c .before .before .before .before .before .if1 .left)) (if-yes (allInRange (a .residual .now) (a .n * a .n)) 0 8 0 e refl ∙ first-goes (a .n) (a .pred) len (a .out) more z)
 
 pub reconstruct-no-spec : {M : Type 1} → statement M
@@ -68,6 +68,6 @@ reconstruct-no-spec =
     residual-no-requires
     returns-2
     runs-of-requires
-    all-in-range-requires
+    runs-in-range-requires
     returns-3
     returns-4)

@@ -115,8 +115,13 @@ module _ {M : Type 1} (𝓤 : URA M) (H : Heap 𝓤) (A : Atoms 𝓤) (W : Given
 
   goes : (l : Loan) → ent 𝓤 (⋆ 𝓤 H A (Handed l)) (Slices 𝓤 H A mem run .pre (to l))
   goes l =
-      qed W (Handed l) ∵ move ! (3 ∷ []) $ split ! $ move ! (1 ∷ []) $ split ! $ nothing ! $ move ! (2 ∷ 0 ∷ []) $ join ! $ move ! (1 ∷ 0 ∷ []) $ join ! $ move ! (1 ∷ 0 ∷ []) $ join ! $ move ! (3 ∷ 0 ∷ []) $ join ! $ move ! (2 ∷ 0 ∷ []) $ join ! $ move ! (1 ∷ 0 ∷ []) $ join ! $ move ! (1 ∷ []) $ split ! $ move ! (1 ∷ []) $ split ! $
-      nothing ! $ move ! (2 ∷ 0 ∷ []) $ fjoin ! $ move ! (1 ∷ 0 ∷ []) $ fjoin ! $ move ! (1 ∷ 0 ∷ []) $ fjoin ! $ move ! (4 ∷ 0 ∷ []) $ fjoin ! $ owned ! u32 (Is u32) (uint-makes 𝓤 H A W w32) bits _ (refl, bits-fits) $ fjoin ! $ owned ! bool (Is bool) (bool-makes 𝓤 H A W) edge _ refl $ fjoin ! $ owned ! u8 (Is u8) (uint-makes 𝓤 H A W w8) mode _ (refl, mode-fits) $ fjoin ! $ owned ! usize (Is usize) (uint-makes 𝓤 H A W w64) n _ (refl, n-fits) $ fjoin ! $ move ! (3 ∷ 0 ∷ []) $ fjoin ! $ move ! (2 ∷ 0 ∷ []) $ fjoin ! $ owned ! u16 (Is u16) (uint-makes 𝓤 H A W w16) corner _ (refl, corner-fits) $ fjoin ! $ move ! (1 ∷ 0 ∷ []) $ join ! $ frame ! $ done !
+      qed W (Handed l) ∵ move ! (3 ∷ []) $ split ! $ move ! (1 ∷ []) $ split ! $ nothing ! $ move ! (2 ∷ 0 ∷ []) $ join ! $ move ! (1 ∷ 0 ∷ []) $ join ! $ move ! (1 ∷ 0 ∷ []) $ join ! $ move ! (3 ∷ 0 ∷ []) $ join ! $
+      move ! (2 ∷ 0 ∷ []) $ join ! $ move ! (1 ∷ 0 ∷ []) $ join ! $ move ! (1 ∷ []) $ split ! $ move ! (1 ∷ []) $ split ! $
+      nothing ! $ move ! (2 ∷ 0 ∷ []) $ fjoin ! $ move ! (1 ∷ 0 ∷ []) $ fjoin ! $
+      move ! (1 ∷ 0 ∷ []) $ fjoin ! $ move ! (4 ∷ 0 ∷ []) $ fjoin ! $ owned ! u32 (Is u32) (uint-makes 𝓤 H A W w32) bits _ (refl, bits-fits) $ fjoin ! $
+      owned ! bool (Is bool) (bool-makes 𝓤 H A W) edge _ refl $ fjoin ! $ owned ! u8 (Is u8) (uint-makes 𝓤 H A W w8) mode _ (refl, mode-fits) $ fjoin ! $
+      owned ! usize (Is usize) (uint-makes 𝓤 H A W w64) n _ (refl, n-fits) $ fjoin ! $ move ! (3 ∷ 0 ∷ []) $ fjoin ! $ move ! (2 ∷ 0 ∷ []) $ fjoin ! $
+      owned ! u16 (Is u16) (uint-makes 𝓤 H A W w16) corner _ (refl, corner-fits) $ fjoin ! $ move ! (1 ∷ 0 ∷ []) $ join ! $ frame ! $ done !
 
   -- the work of a call that is served
   abbrev work : List ℕ
@@ -136,37 +141,71 @@ module _ {M : Type 1} (𝓤 : URA M) (H : Heap 𝓤) (A : Atoms 𝓤) (W : Given
   exits : (r : ℕ) (w : Val) (h′ : AngularScratch) (zs : List ℕ) → Ends number (length aboves) (length lefts) work preds h r h′ zs → length zs ≡ length preds → ent 𝓤 (⋆ 𝓤 H A (Left r w h′ zs)) (Post w)
   exits r w h′ zs said e =
       qed W (Left r w h′ zs) ∵ suffices ! _ (ends-at 𝓤 H A f.ended stayed (f.clauses 𝓤 H A mem run) W (((κ₀, (κ₁, (κ₂, (κ₃, tt)))), (q₀, (q₁, (q₂, (q₃, tt)))), tt, a, vals), tt) w r (tt, (tt, (tt, (tt, (tt, (tt, (tt, (zs, (h′, tt))))))))) (tt, (tt, (tt, (tt, (tt, (tt, (tt, (e, (tt, tt)))))))))) $ says ! said $
-      nothing ! $ move ! (5 ∷ 0 ∷ []) $ join ! $ move ! (4 ∷ 0 ∷ []) $ join ! $ move ! (3 ∷ 0 ∷ []) $ join ! $ move ! (2 ∷ 0 ∷ []) $ join ! $ frame ! $ nothing ! $ move ! (1 ∷ 0 ∷ []) $ fjoin ! $ move ! (2 ∷ 0 ∷ []) $ fjoin ! $ owned ! u32 (Is u32) (uint-makes 𝓤 H A W w32) bits _ (refl, bits-fits) $ fjoin ! $ owned ! bool (Is bool) (bool-makes 𝓤 H A W) edge _ refl $ fjoin ! $ owned ! u8 (Is u8) (uint-makes 𝓤 H A W w8) mode _ (refl, mode-fits) $ fjoin ! $ owned ! usize (Is usize) (uint-makes 𝓤 H A W w64) n _ (refl, n-fits) $ fjoin ! $ move ! (3 ∷ 0 ∷ []) $ fjoin ! $ move ! (2 ∷ 0 ∷ []) $ fjoin ! $ owned ! u16 (Is u16) (uint-makes 𝓤 H A W w16) corner _ (refl, corner-fits) $ fjoin ! $ done !
+      nothing ! $ move ! (5 ∷ 0 ∷ []) $ join ! $ move ! (4 ∷ 0 ∷ []) $ join ! $ move ! (3 ∷ 0 ∷ []) $ join ! $ move ! (2 ∷ 0 ∷ []) $ join ! $ frame ! $ nothing ! $ move ! (1 ∷ 0 ∷ []) $ fjoin ! $
+      move ! (2 ∷ 0 ∷ []) $ fjoin ! $ owned ! u32 (Is u32) (uint-makes 𝓤 H A W w32) bits _ (refl, bits-fits) $ fjoin ! $ owned ! bool (Is bool) (bool-makes 𝓤 H A W) edge _ refl $ fjoin ! $
+      owned ! u8 (Is u8) (uint-makes 𝓤 H A W w8) mode _ (refl, mode-fits) $ fjoin ! $ owned ! usize (Is usize) (uint-makes 𝓤 H A W w64) n _ (refl, n-fits) $ fjoin ! $ move ! (3 ∷ 0 ∷ []) $ fjoin ! $
+      move ! (2 ∷ 0 ∷ []) $ fjoin ! $ owned ! u16 (Is u16) (uint-makes 𝓤 H A W w16) corner _ (refl, corner-fits) $ fjoin ! $ done !
 
   module _ (C : Calls 𝓤 H) (Λ : Loops 𝓤 H) (fm : FmC 𝓤 H (W .laws) C) (known : Triple 𝓤 (C #callee) (Slices 𝓤 H A mem run)) where
     walk : ent 𝓤 (onEntry 𝓤 H A f.signature (κ₀, (κ₁, (κ₂, (κ₃, tt)))) (q₀, (q₁, (q₂, (q₃, tt)))) a vals) (WpFn 𝓤 H C Λ code.function (vint w16 corner ∷ above-val ∷ left-val ∷ vint w64 n ∷ vint w8 mode ∷ vbool edge ∷ vint w32 bits ∷ pred-val ∷ vptr b o ∷ []) Post)
     walk =
         qed W ((‵ (flft κ₀ q₀) ⊛ (‵ (flft κ₁ q₁) ⊛ (‵ (flft κ₂ q₂) ⊛ (‵ (flft κ₃ q₃) ⊛ ‵ ftrue)))) ∷ ‵ (owns (u16 ∷ ShrSlice (named 0) κ₀ u16 ∷ ShrSlice (named 1) κ₁ u16 ∷ usize ∷ u8 ∷ bool ∷ u32 ∷ MutSlice (named 2) κ₂ u16 ∷ MutRef (named 3) κ₃ T.the-row ∷ []) a vals) ∷ []) ∵
         enter ! C Λ code.function (vint w16 corner ∷ above-val ∷ left-val ∷ vint w64 n ∷ vint w8 mode ∷ vbool edge ∷ vint w32 bits ∷ pred-val ∷ vptr b o ∷ []) _ $
-        alloc1 ! (λ l₀. alloc1 ! (λ l₁. alloc1 ! (λ l₂. alloc1 ! (λ l₃. alloc1 ! (λ l₄. alloc1 ! (λ l₅. alloc1 ! (λ l₆. alloc1 ! (λ l₇. alloc1 ! (λ l₈. alloc1 ! (λ l₉. alloc1 ! (λ l₁₀. alloc1 ! (λ l₁₁. alloc1 ! (λ l₁₂. alloc1 ! (λ l₁₃. alloc1 ! (λ l₁₄. alloc1 ! (λ l₁₅. alloc1 ! (λ l₁₆. alloc1 ! (λ l₁₇. alloc0 ! $ params1 ! $
-        pass1 ! (init ! 32 refl (tt, record { fits = corner-fits })) $ pass1 ! (init ! 30 refl (tt, (tt, (record { fits = above-room .0 }, tt)))) $ pass1 ! (init ! 28 refl (tt, (tt, (record { fits = left-room .0 }, tt)))) $ pass1 ! (init ! 26 refl (tt, record { fits = n-fits })) $ pass1 ! (init ! 24 refl (tt, record { fits = mode-fits })) $ pass1 ! (init ! 22 refl (tt, tt)) $ pass1 ! (init ! 20 refl (tt, record { fits = bits-fits })) $ pass1 ! (init ! 18 refl (tt, (tt, (record { fits = pred-room .0 }, tt)))) $ pass1 ! (init ! 16 refl (tt, tt)) $ pass0 ! $
+        alloc1 ! (λ l₀. alloc1 ! (λ l₁. alloc1 ! (λ l₂. alloc1 ! (λ l₃. alloc1 ! (λ l₄. alloc1 ! (λ l₅. alloc1 ! (λ l₆. alloc1 ! (λ l₇. alloc1 ! (λ l₈. alloc1 ! (λ l₉. alloc1 ! (λ l₁₀. alloc1 ! (λ l₁₁. alloc1 ! (λ l₁₂. alloc1 ! (λ l₁₃. alloc1 ! (λ l₁₄. alloc1 ! (λ l₁₅. alloc1 ! (λ l₁₆. alloc1 ! (λ l₁₇. alloc0 ! $
+        params1 ! $
+        pass1 ! (init ! 32 refl (tt, record { fits = corner-fits })) $ pass1 ! (init ! 30 refl (tt, (tt, (record { fits = above-room .0 }, tt)))) $
+        pass1 ! (init ! 28 refl (tt, (tt, (record { fits = left-room .0 }, tt)))) $ pass1 ! (init ! 26 refl (tt, record { fits = n-fits })) $ pass1 ! (init ! 24 refl (tt, record { fits = mode-fits })) $
+        pass1 ! (init ! 22 refl (tt, tt)) $ pass1 ! (init ! 20 refl (tt, record { fits = bits-fits })) $ pass1 ! (init ! 18 refl (tt, (tt, (record { fits = pred-room .0 }, tt)))) $
+        pass1 ! (init ! 16 refl (tt, tt)) $ pass0 ! $
+        -- [_17; …; _0; the tokens; what the parameters own]
         -- the block is passed on, and each table is made a slice
-        assigns ! (addr ! (from ! (fld ! refl (hop ! (look-in ! 18 (sub ! 0 refl (whole !))) (stop !))))) (from ! (stop !)) (init ! 14 refl (tt, tt)) $ assigns ! (agg ! (and-then ! (load ! (from ! (stop !)) (look ! 14 refl)) (and-then ! (load ! (from ! (fld ! refl (stop !))) (look-in ! 18 (sub ! 1 refl (whole !)))) (no-more !)))) (from ! (stop !)) (init ! 12 refl (tt, (tt, (record { fits = pred-room .0 }, tt)))) $
-        assigns ! (addr ! (from ! (hop ! (look ! 16 refl) (fld ! refl (stop !))))) (from ! (stop !)) (init ! 10 refl (tt, tt)) $ assigns ! (agg ! (and-then ! (load ! (from ! (stop !)) (look ! 10 refl)) (and-then ! (lit ! tt) (no-more !)))) (from ! (stop !)) (init ! 8 refl (tt, (tt, (record { fits = lit< tt }, tt)))) $
-        assigns ! (addr ! (from ! (hop ! (look ! 16 refl) (fld ! refl (stop !))))) (from ! (stop !)) (init ! 6 refl (tt, tt)) $ assigns ! (agg ! (and-then ! (load ! (from ! (stop !)) (look ! 6 refl)) (and-then ! (lit ! tt) (no-more !)))) (from ! (stop !)) (init ! 4 refl (tt, (tt, (record { fits = lit< tt }, tt)))) $
-        assigns ! (addr ! (from ! (hop ! (look ! 16 refl) (fld ! refl (stop !))))) (from ! (stop !)) (init ! 2 refl (tt, tt)) $ assigns ! (agg ! (and-then ! (load ! (from ! (stop !)) (look ! 2 refl)) (and-then ! (lit ! tt) (no-more !)))) (from ! (stop !)) (init ! 0 refl (tt, (tt, (record { fits = lit< tt }, tt)))) $
-        move ! (37 ∷ []) $ fsplit ! $ drop ! $ fsplit ! $ use1 W (‵ (ShrSlice (named 0) κ₀ u16 .own above (above-val ∷ [])) ⊛ ‵ (ShrSlice (named 0) κ₀ u16 .own above (above-val ∷ []))) (shr-slice-copy 𝓤 H A W (named 0) κ₀ u16 .twice above (above-val ∷ [])) $ split ! $ move ! (2 ∷ []) $ fsplit ! $ use1 W (‵ (ShrSlice (named 1) κ₁ u16 .own left (left-val ∷ [])) ⊛ ‵ (ShrSlice (named 1) κ₁ u16 .own left (left-val ∷ []))) (shr-slice-copy 𝓤 H A W (named 1) κ₁ u16 .twice left (left-val ∷ [])) $ split ! $ move ! (2 ∷ []) $ fsplit ! $ drop ! $ fsplit ! $ drop ! $ fsplit ! $ drop ! $ fsplit ! $ drop ! $ fsplit ! $ move ! (1 ∷ []) $ fsplit ! $ move ! (1 ∷ []) $ drop ! $
+        assigns ! (addr ! (from ! (fld ! refl (hop ! (look-in ! 18 (sub ! 0 refl (whole !))) (stop !))))) (from ! (stop !)) (init ! 14 refl (tt, tt)) $
+        assigns ! (agg ! (and-then ! (load ! (from ! (stop !)) (look ! 14 refl)) (and-then ! (load ! (from ! (fld ! refl (stop !))) (look-in ! 18 (sub ! 1 refl (whole !)))) (no-more !)))) (from ! (stop !)) (init ! 12 refl (tt, (tt, (record { fits = pred-room .0 }, tt)))) $
+        assigns ! (addr ! (from ! (hop ! (look ! 16 refl) (fld ! refl (stop !))))) (from ! (stop !)) (init ! 10 refl (tt, tt)) $
+        assigns ! (agg ! (and-then ! (load ! (from ! (stop !)) (look ! 10 refl)) (and-then ! (lit ! tt) (no-more !)))) (from ! (stop !)) (init ! 8 refl (tt, (tt, (record { fits = lit< tt }, tt)))) $
+        assigns ! (addr ! (from ! (hop ! (look ! 16 refl) (fld ! refl (stop !))))) (from ! (stop !)) (init ! 6 refl (tt, tt)) $
+        assigns ! (agg ! (and-then ! (load ! (from ! (stop !)) (look ! 6 refl)) (and-then ! (lit ! tt) (no-more !)))) (from ! (stop !)) (init ! 4 refl (tt, (tt, (record { fits = lit< tt }, tt)))) $
+        assigns ! (addr ! (from ! (hop ! (look ! 16 refl) (fld ! refl (stop !))))) (from ! (stop !)) (init ! 2 refl (tt, tt)) $
+        assigns ! (agg ! (and-then ! (load ! (from ! (stop !)) (look ! 2 refl)) (and-then ! (lit ! tt) (no-more !)))) (from ! (stop !)) (init ! 0 refl (tt, (tt, (record { fits = lit< tt }, tt)))) $
+        move ! (37 ∷ []) $ fsplit ! $ drop ! $ fsplit ! $
+        use1 W (‵ (ShrSlice (named 0) κ₀ u16 .own above (above-val ∷ [])) ⊛ ‵ (ShrSlice (named 0) κ₀ u16 .own above (above-val ∷ []))) (shr-slice-copy 𝓤 H A W (named 0) κ₀ u16 .twice above (above-val ∷ [])) $
+        split ! $ move ! (2 ∷ []) $ fsplit ! $
+        use1 W (‵ (ShrSlice (named 1) κ₁ u16 .own left (left-val ∷ [])) ⊛ ‵ (ShrSlice (named 1) κ₁ u16 .own left (left-val ∷ []))) (shr-slice-copy 𝓤 H A W (named 1) κ₁ u16 .twice left (left-val ∷ [])) $
+        split ! $ move ! (2 ∷ []) $ fsplit ! $ drop ! $ fsplit ! $ drop ! $ fsplit ! $ drop ! $ fsplit ! $ drop ! $ fsplit ! $ move ! (1 ∷ []) $ fsplit ! $ move ! (1 ∷ []) $ drop ! $
         move ! (42 ∷ []) $ split ! $ move ! (1 ∷ []) $ split ! $ move ! (1 ∷ []) $ split ! $ move ! (1 ∷ []) $ split ! $ move ! (1 ∷ []) $ drop ! $
+        -- [κ₃; κ₂; κ₁; κ₀; the scratch; the block; left; left again; above; above again; _17; …; _0]
         -- the tables are lent
-        move ! (4 ∷ 0 ∷ []) $ use2 W (later (some (λ (l : Loan). given (Long (h .refs) (h .indices) (h .fractions)) (Tokens 𝓤 H A b o l ⊛ (Lent 𝓤 H A b o l h ⊛ Kept 𝓤 H A b o κ₃ q₃ γ l h))))) (lend 𝓤 H A W b o (named 3) κ₃ q₃ γ h) $ await ! tt $ pick ! (λ l. learn ! (λ long. split ! $ move ! (1 ∷ []) $ split ! $
+        move ! (4 ∷ 0 ∷ []) $
+        use2 W (later (some (λ (l : Loan). given (Long (h .refs) (h .indices) (h .fractions)) (Tokens 𝓤 H A b o l ⊛ (Lent 𝓤 H A b o l h ⊛ Kept 𝓤 H A b o κ₃ q₃ γ l h))))) (lend 𝓤 H A W b o (named 3) κ₃ q₃ γ h) $
+        await ! tt $ pick ! (λ l. learn ! (λ long. split ! $ move ! (1 ∷ []) $ split ! $
+        -- [the tables lent; what is kept; the loan's tokens; κ₂; κ₁; κ₀; the block; left; left again; above; above again; _17; …; _0]
         move ! (5 ∷ 4 ∷ 3 ∷ 2 ∷ 0 ∷ 9 ∷ 7 ∷ 6 ∷ []) $ group ! 8 $ use1 W (raw (Slices 𝓤 H A mem run .pre (to l))) (goes l) $
         calls-at ! fm (Slices 𝓤 H A mem run) known (to l) (and-then ! (load ! (from ! (stop !)) (look ! 36 refl)) (and-then ! (load ! (from ! (stop !)) (look ! 34 refl)) (and-then ! (load ! (from ! (stop !)) (look ! 32 refl)) (and-then ! (load ! (from ! (stop !)) (look ! 30 refl)) (and-then ! (load ! (from ! (stop !)) (look ! 28 refl)) (and-then ! (load ! (from ! (stop !)) (look ! 26 refl)) (and-then ! (load ! (from ! (stop !)) (look ! 24 refl)) (and-then ! (load ! (from ! (stop !)) (look ! 16 refl)) (and-then ! (load ! (from ! (stop !)) (look ! 12 refl)) (and-then ! (load ! (from ! (stop !)) (look ! 8 refl)) (and-then ! (load ! (from ! (stop !)) (look ! 4 refl)) (no-more !)))))))))))) (λ w.
-        use1 W (later (some (λ (r : ℕ). ((‵ (flft κ₀ q₀) ⊛ (‵ (flft κ₁ q₁) ⊛ (‵ (flft κ₂ q₂) ⊛ (‵ (flft (l .life₁ ∷ []) fullShare) ⊛ (‵ (flft (l .life₂ ∷ []) fullShare) ⊛ (‵ (flft (l .life₃ ∷ []) fullShare) ⊛ ‵ ftrue)))))) ⊛ ‵ (u32 .own r (w ∷ []))) ⊛ raw (ensured 𝓤 H A slices.ended (slices.clauses 𝓤 H A mem run) (κ₀, (κ₁, (κ₂, (l .life₁ ∷ [], (l .life₂ ∷ [], (l .life₃ ∷ [], tt)))))) (args l) tt r)))) (id⊢ 𝓤 _) $ await ! tt $ pick ! (λ r.
-        split ! $ move ! (1 ∷ []) $ use1 W (some (λ (zs : Lasts). ‵ (lasts slices.ended (κ₀, (κ₁, (κ₂, (l .life₁ ∷ [], (l .life₂ ∷ [], (l .life₃ ∷ [], tt)))))) (args l) zs) ⊛ raw (fact 𝓤 (Said number (length aboves) (length lefts) work preds h r (after zs) (zs .1 .1 .1 .1 .1 .1 .1 .0))))) (id⊢ 𝓤 _) $ pick ! (λ zs. split ! $
+        use1 W (later (some (λ (r : ℕ). ((‵ (flft κ₀ q₀) ⊛ (‵ (flft κ₁ q₁) ⊛ (‵ (flft κ₂ q₂) ⊛ (‵ (flft (l .life₁ ∷ []) fullShare) ⊛ (‵ (flft (l .life₂ ∷ []) fullShare) ⊛ (‵ (flft (l .life₃ ∷ []) fullShare) ⊛ ‵ ftrue)))))) ⊛ ‵ (u32 .own r (w ∷ []))) ⊛ raw (ensured 𝓤 H A slices.ended (slices.clauses 𝓤 H A mem run) (κ₀, (κ₁, (κ₂, (l .life₁ ∷ [], (l .life₂ ∷ [], (l .life₃ ∷ [], tt)))))) (args l) tt r)))) (id⊢ 𝓤 _) $
+        await ! tt $ pick ! (λ r.
+        split ! $ move ! (1 ∷ []) $
+        use1 W (some (λ (zs : Lasts). ‵ (lasts slices.ended (κ₀, (κ₁, (κ₂, (l .life₁ ∷ [], (l .life₂ ∷ [], (l .life₃ ∷ [], tt)))))) (args l) zs) ⊛ raw (fact 𝓤 (Said number (length aboves) (length lefts) work preds h r (after zs) (zs .1 .1 .1 .1 .1 .1 .1 .0))))) (id⊢ 𝓤 _) $
+        pick ! (λ zs. split ! $
         move ! (1 ∷ []) $ heard ! (Said number (length aboves) (length lefts) work preds h r (after zs) (zs .1 .1 .1 .1 .1 .1 .1 .0)) (λ said.
-        fsplit ! $ drop ! $ fsplit ! $ drop ! $ fsplit ! $ drop ! $ fsplit ! $ drop ! $ fsplit ! $ drop ! $ fsplit ! $ drop ! $ fsplit ! $ drop ! $ fsplit ! $ fsplit ! $ move ! (1 ∷ []) $ feqL ! (λ e. move ! (1 ∷ []) $ fsplit ! $ fsplit ! $ move ! (1 ∷ []) $ feqL ! (λ e₁. move ! (1 ∷ []) $ fsplit ! $ fsplit ! $ move ! (1 ∷ []) $ feqL ! (λ e₂. move ! (1 ∷ []) $ fsplit ! $ fsplit ! $ move ! (1 ∷ []) $ feqL ! (λ e₃. move ! (1 ∷ []) $ drop ! $
+        fsplit ! $ drop ! $ fsplit ! $ drop ! $ fsplit ! $ drop ! $ fsplit ! $ drop ! $ fsplit ! $ drop ! $ fsplit ! $ drop ! $ fsplit ! $ drop ! $ fsplit ! $ fsplit ! $ move ! (1 ∷ []) $
+        feqL ! (λ e. move ! (1 ∷ []) $ fsplit ! $ fsplit ! $ move ! (1 ∷ []) $ feqL ! (λ e₁. move ! (1 ∷ []) $ fsplit ! $ fsplit ! $ move ! (1 ∷ []) $ feqL ! (λ e₂. move ! (1 ∷ []) $ fsplit ! $ fsplit ! $
+        move ! (1 ∷ []) $ feqL ! (λ e₃. move ! (1 ∷ []) $ drop ! $
+        -- [last fractions; last indices; last refs; the block's last list; the tokens and the result; what is kept; left2; above2; _17; …; _0]
         move ! (4 ∷ []) $ split ! $ move ! (1 ∷ []) $ peeks ! u32 (Is u32) (shows 𝓤 H A u32) r (w ∷ []) (λ is. land ! (from ! (stop !)) (init ! 43 refl (uint-lawful 𝓤 H A W w32 .typed r _ is .0)) $
         -- and taken back
-        move ! (1 ∷ []) $ split ! $ move ! (1 ∷ []) $ split ! $ move ! (1 ∷ []) $ split ! $ move ! (1 ∷ []) $ split ! $ move ! (1 ∷ []) $ split ! $ move ! (1 ∷ []) $ split ! $ move ! (1 ∷ []) $ drop ! $ move ! (2 ∷ 1 ∷ 0 ∷ []) $ group ! 3 $ move ! (7 ∷ 6 ∷ 5 ∷ []) $ group ! 3 $ move ! (1 ∷ 0 ∷ 7 ∷ []) $ group ! 3 $
-        use1 W (later (Holds 𝓤 H A b o (named 3) κ₃ γ (after zs) ⊛ ‵ (flft κ₃ q₃))) (regain 𝓤 H A W b o (named 3) κ₃ q₃ γ l h (after zs) (e₁ ∙ long .0, (e₂ ∙ long .1 .0, e₃ ∙ long .1 .1))) $ await ! tt $ split ! $
-        returns ! (look ! 43 refl) $ forget ! 9 refl $ forget ! 11 refl $ forget ! 13 refl $ forget ! 15 refl $ forget ! 17 refl $ forget ! 19 refl $ forget ! 21 refl $ forget ! 23 refl $ forget ! 25 refl $ forget ! 27 refl $ forget ! 29 refl $ forget ! 31 refl $ forget ! 33 refl $ forget ! 35 refl $ forget ! 37 refl $ forget ! 39 refl $ forget ! 41 refl $ forget ! 43 refl $
-        move ! (43 ∷ 44 ∷ []) $ free1 ! $ move ! (41 ∷ 42 ∷ []) $ free1 ! $ move ! (39 ∷ 40 ∷ []) $ free1 ! $ move ! (37 ∷ 38 ∷ []) $ free1 ! $ move ! (35 ∷ 36 ∷ []) $ free1 ! $ move ! (33 ∷ 34 ∷ []) $ free1 ! $ move ! (31 ∷ 32 ∷ []) $ free1 ! $ move ! (29 ∷ 30 ∷ []) $ free1 ! $ move ! (27 ∷ 28 ∷ []) $ free1 ! $ move ! (25 ∷ 26 ∷ []) $ free1 ! $ move ! (23 ∷ 24 ∷ []) $ free1 ! $ move ! (21 ∷ 22 ∷ []) $ free1 ! $ move ! (19 ∷ 20 ∷ []) $ free1 ! $ move ! (17 ∷ 18 ∷ []) $ free1 ! $ move ! (15 ∷ 16 ∷ []) $ free1 ! $ move ! (13 ∷ 14 ∷ []) $ free1 ! $ move ! (11 ∷ 12 ∷ []) $ free1 ! $ move ! (9 ∷ 10 ∷ []) $ free1 ! $ free0 ! $
-        keep ! (0 ∷ 4 ∷ 3 ∷ 2 ∷ 1 ∷ 5 ∷ 6 ∷ 8 ∷ 7 ∷ []) $ by ! (exits r w (after zs) (zs .1 .1 .1 .1 .1 .1 .1 .0) (ends number (length aboves) (length lefts) work preds h r (after zs) (zs .1 .1 .1 .1 .1 .1 .1 .0) long said) e))))))))))))))))))))))))))))))
+        move ! (1 ∷ []) $ split ! $ move ! (1 ∷ []) $ split ! $ move ! (1 ∷ []) $ split ! $ move ! (1 ∷ []) $ split ! $ move ! (1 ∷ []) $ split ! $ move ! (1 ∷ []) $ split ! $ move ! (1 ∷ []) $ drop ! $
+        move ! (2 ∷ 1 ∷ 0 ∷ []) $ group ! 3 $ move ! (7 ∷ 6 ∷ 5 ∷ []) $ group ! 3 $ move ! (1 ∷ 0 ∷ 7 ∷ []) $ group ! 3 $
+        use1 W (later (Holds 𝓤 H A b o (named 3) κ₃ γ (after zs) ⊛ ‵ (flft κ₃ q₃))) (regain 𝓤 H A W b o (named 3) κ₃ q₃ γ l h (after zs) (e₁ ∙ long .0, (e₂ ∙ long .1 .0, e₃ ∙ long .1 .1))) $ await ! tt $
+        split ! $
+        -- [the scratch; κ₃; κ₂; κ₁; κ₀; the result; the block's last list; left2; above2; _17; …; _0]
+        returns ! (look ! 43 refl) $ forget ! 9 refl $ forget ! 11 refl $ forget ! 13 refl $ forget ! 15 refl $ forget ! 17 refl $ forget ! 19 refl $ forget ! 21 refl $ forget ! 23 refl $ forget ! 25 refl $
+        forget ! 27 refl $ forget ! 29 refl $ forget ! 31 refl $ forget ! 33 refl $ forget ! 35 refl $ forget ! 37 refl $ forget ! 39 refl $ forget ! 41 refl $ forget ! 43 refl $
+        move ! (43 ∷ 44 ∷ []) $ free1 ! $ move ! (41 ∷ 42 ∷ []) $ free1 ! $ move ! (39 ∷ 40 ∷ []) $ free1 ! $ move ! (37 ∷ 38 ∷ []) $ free1 ! $ move ! (35 ∷ 36 ∷ []) $ free1 ! $ move ! (33 ∷ 34 ∷ []) $
+        free1 ! $ move ! (31 ∷ 32 ∷ []) $ free1 ! $ move ! (29 ∷ 30 ∷ []) $ free1 ! $ move ! (27 ∷ 28 ∷ []) $ free1 ! $ move ! (25 ∷ 26 ∷ []) $ free1 ! $ move ! (23 ∷ 24 ∷ []) $ free1 ! $
+        move ! (21 ∷ 22 ∷ []) $ free1 ! $ move ! (19 ∷ 20 ∷ []) $ free1 ! $ move ! (17 ∷ 18 ∷ []) $ free1 ! $ move ! (15 ∷ 16 ∷ []) $ free1 ! $ move ! (13 ∷ 14 ∷ []) $ free1 ! $ move ! (11 ∷ 12 ∷ []) $
+        free1 ! $ move ! (9 ∷ 10 ∷ []) $ free1 ! $ free0 ! $
+        keep ! (0 ∷ 4 ∷ 3 ∷ 2 ∷ 1 ∷ 5 ∷ 6 ∷ 8 ∷ 7 ∷ []) $
+        by ! (exits r w (after zs) (zs .1 .1 .1 .1 .1 .1 .1 .0) (ends number (length aboves) (length lefts) work preds h r (after zs) (zs .1 .1 .1 .1 .1 .1 .1 .0) long said) e))))))))))))))))))))))))))))))
 
 module _ {M : Type 1} (𝓤 : URA M) (H : Heap 𝓤) (A : Atoms 𝓤) (W : Given 𝓤 H A) (mem : Memory → SProp 𝓤) (run : Routine → Fun 𝓤) where
   walks : (C : Calls 𝓤 H) (Λ : Loops 𝓤 H) → FmC 𝓤 H (W .laws) C → Triple 𝓤 (C #callee) (Slices 𝓤 H A mem run) → Walks 𝓤 H A f.ended stayed (WpFn 𝓤 H C Λ code.function) (f.clauses 𝓤 H A mem run)

@@ -129,12 +129,15 @@ module _ {M : Type 1} (𝓤 : URA M) (H : Heap 𝓤) (A : Atoms 𝓤) (W : Given
   to b l h = (((κ₀, (κ₁, (κ₂, (l .life ∷ [], tt)))), (q₀, (q₁, (q₂, (fullShare, tt)))), tt, args b l h, (vint w8 mode ∷ [], (vint w16 corner ∷ [], (above-val ∷ [], (left-val ∷ [], (vint w64 n ∷ [], (vint w32 bits ∷ [], (pred-val ∷ [], (vptr b 0 ∷ [], tt))))))))), tt)
 
   abbrev Handed : ℕ → LocalLoan → AngularScratch → List (Item 𝓤)
-  Handed b l h = ‵ (flft κ₀ q₀) ∷ ‵ (flft κ₁ q₁) ∷ ‵ (flft κ₂ q₂) ∷ Token 𝓤 H A W l ∷ Holds 𝓤 H A b 0 (named 0) (l .life ∷ []) (l .name) h ∷ ‵ (ShrSlice (named 0) κ₀ u16 .own above (above-val ∷ [])) ∷ ‵ (ShrSlice (named 1) κ₁ u16 .own left (left-val ∷ [])) ∷ ‵ (MutSlice (named 2) κ₂ u16 .own pred (pred-val ∷ [])) ∷ []
+  Handed b l h = ‵ (flft κ₀ q₀) ∷ ‵ (flft κ₁ q₁) ∷ ‵ (flft κ₂ q₂) ∷ Token 𝓤 l ∷ Holds 𝓤 H A b 0 (named 0) (l .life ∷ []) (l .name) h ∷ ‵ (ShrSlice (named 0) κ₀ u16 .own above (above-val ∷ [])) ∷ ‵ (ShrSlice (named 1) κ₁ u16 .own left (left-val ∷ [])) ∷ ‵ (MutSlice (named 2) κ₂ u16 .own pred (pred-val ∷ [])) ∷ []
 
   goes : (b : ℕ) (l : LocalLoan) (h : AngularScratch) → ent 𝓤 (⋆ 𝓤 H A (Handed b l h)) (Into 𝓤 H A mem run .pre (to b l h))
   goes b l h =
       qed W (Handed b l h) ∵ nothing ! $ move ! (4 ∷ 0 ∷ []) $ join ! $ move ! (3 ∷ 0 ∷ []) $ join ! $ move ! (2 ∷ 0 ∷ []) $ join ! $ move ! (1 ∷ 0 ∷ []) $ join ! $
-      nothing ! $ move ! (2 ∷ 0 ∷ []) $ fjoin ! $ move ! (4 ∷ 0 ∷ []) $ fjoin ! $ owned ! u32 (Is u32) (uint-makes 𝓤 H A W w32) bits _ (refl, bits-fits) $ fjoin ! $ owned ! usize (Is usize) (uint-makes 𝓤 H A W w64) n _ (refl, n-fits) $ fjoin ! $ move ! (3 ∷ 0 ∷ []) $ fjoin ! $ move ! (2 ∷ 0 ∷ []) $ fjoin ! $ owned ! u16 (Is u16) (uint-makes 𝓤 H A W w16) corner _ (refl, corner-fits) $ fjoin ! $ owned ! u8 (Is u8) (uint-makes 𝓤 H A W w8) mode _ (refl, mode-fits) $ fjoin ! $ move ! (1 ∷ 0 ∷ []) $ join ! $ frame ! $ done !
+      nothing ! $ move ! (2 ∷ 0 ∷ []) $ fjoin ! $
+      move ! (4 ∷ 0 ∷ []) $ fjoin ! $ owned ! u32 (Is u32) (uint-makes 𝓤 H A W w32) bits _ (refl, bits-fits) $ fjoin ! $ owned ! usize (Is usize) (uint-makes 𝓤 H A W w64) n _ (refl, n-fits) $ fjoin ! $
+      move ! (3 ∷ 0 ∷ []) $ fjoin ! $ move ! (2 ∷ 0 ∷ []) $ fjoin ! $ owned ! u16 (Is u16) (uint-makes 𝓤 H A W w16) corner _ (refl, corner-fits) $ fjoin ! $
+      owned ! u8 (Is u8) (uint-makes 𝓤 H A W w8) mode _ (refl, mode-fits) $ fjoin ! $ move ! (1 ∷ 0 ∷ []) $ join ! $ frame ! $ done !
 
   -- the work of a call that is served
   abbrev work : List ℕ
@@ -150,36 +153,61 @@ module _ {M : Type 1} (𝓤 : URA M) (H : Heap 𝓤) (A : Atoms 𝓤) (W : Given
   exits : (r : ℕ) (w : Val) (h h′ : AngularScratch) (zs : List ℕ) → Ends number (length aboves) (length lefts) work preds h r h′ zs → length zs ≡ length preds → ent 𝓤 (⋆ 𝓤 H A (Left r w zs)) (Post w)
   exits r w h h′ zs said e =
       qed W (Left r w zs) ∵ suffices ! _ (ends-at 𝓤 H A f.ended stayed (f.clauses 𝓤 H A mem run) W (((κ₀, (κ₁, (κ₂, tt))), (q₀, (q₁, (q₂, tt))), tt, a, vals), tt) w r (tt, (tt, (tt, (tt, (tt, (tt, (zs, tt))))))) (tt, (tt, (tt, (tt, (tt, (tt, (e, tt)))))))) $ says ! (said .0, said .1 .0) $
-      frame ! $ nothing ! $ move ! (2 ∷ 0 ∷ []) $ fjoin ! $ owned ! u32 (Is u32) (uint-makes 𝓤 H A W w32) bits _ (refl, bits-fits) $ fjoin ! $ owned ! usize (Is usize) (uint-makes 𝓤 H A W w64) n _ (refl, n-fits) $ fjoin ! $ move ! (3 ∷ 0 ∷ []) $ fjoin ! $ move ! (2 ∷ 0 ∷ []) $ fjoin ! $ owned ! u16 (Is u16) (uint-makes 𝓤 H A W w16) corner _ (refl, corner-fits) $ fjoin ! $ owned ! u8 (Is u8) (uint-makes 𝓤 H A W w8) mode _ (refl, mode-fits) $ fjoin ! $ done !
+      frame ! $ nothing ! $ move ! (2 ∷ 0 ∷ []) $ fjoin ! $ owned ! u32 (Is u32) (uint-makes 𝓤 H A W w32) bits _ (refl, bits-fits) $ fjoin ! $
+      owned ! usize (Is usize) (uint-makes 𝓤 H A W w64) n _ (refl, n-fits) $ fjoin ! $ move ! (3 ∷ 0 ∷ []) $ fjoin ! $ move ! (2 ∷ 0 ∷ []) $ fjoin ! $
+      owned ! u16 (Is u16) (uint-makes 𝓤 H A W w16) corner _ (refl, corner-fits) $ fjoin ! $ owned ! u8 (Is u8) (uint-makes 𝓤 H A W w8) mode _ (refl, mode-fits) $ fjoin ! $ done !
 
   module _ (C : Calls 𝓤 H) (Λ : Loops 𝓤 H) (fm : FmC 𝓤 H (W .laws) C) (known-new : Triple 𝓤 (C #new) (New 𝓤 H A mem run)) (known-into : Triple 𝓤 (C #into) (Into 𝓤 H A mem run)) where
     walk : ent 𝓤 (onEntry 𝓤 H A f.signature (κ₀, (κ₁, (κ₂, tt))) (q₀, (q₁, (q₂, tt))) a vals) (WpFn 𝓤 H C Λ code.function (vint w8 mode ∷ vint w16 corner ∷ above-val ∷ left-val ∷ vint w64 n ∷ vint w32 bits ∷ pred-val ∷ []) Post)
     walk =
         qed W (Toks ∷ ‵ (owns (u8 ∷ u16 ∷ ShrSlice (named 0) κ₀ u16 ∷ ShrSlice (named 1) κ₁ u16 ∷ usize ∷ u32 ∷ MutSlice (named 2) κ₂ u16 ∷ []) a vals) ∷ []) ∵ enter ! C Λ code.function (vint w8 mode ∷ vint w16 corner ∷ above-val ∷ left-val ∷ vint w64 n ∷ vint w32 bits ∷ pred-val ∷ []) _ $
-        alloc1 ! (λ l₀. alloc1 ! (λ l₁. alloc1 ! (λ l₂. alloc1 ! (λ l₃. alloc1 ! (λ l₄. alloc1 ! (λ l₅. alloc1 ! (λ l₆. alloc1 ! (λ l₇. alloc1 ! (λ l₈. alloc1 ! (λ l₉. alloc1 ! (λ l₁₀. alloc1 ! (λ l₁₁. alloc1 ! (λ l₁₂. alloc0 ! $ params1 ! $
-        pass1 ! (init ! 22 refl (tt, record { fits = mode-fits })) $ pass1 ! (init ! 20 refl (tt, record { fits = corner-fits })) $ pass1 ! (init ! 18 refl (tt, (tt, (record { fits = above-room .0 }, tt)))) $ pass1 ! (init ! 16 refl (tt, (tt, (record { fits = left-room .0 }, tt)))) $ pass1 ! (init ! 14 refl (tt, record { fits = n-fits })) $ pass1 ! (init ! 12 refl (tt, record { fits = bits-fits })) $ pass1 ! (init ! 10 refl (tt, (tt, (record { fits = pred-room .0 }, tt)))) $ pass0 ! $
+        alloc1 ! (λ l₀. alloc1 ! (λ l₁. alloc1 ! (λ l₂. alloc1 ! (λ l₃. alloc1 ! (λ l₄. alloc1 ! (λ l₅. alloc1 ! (λ l₆. alloc1 ! (λ l₇. alloc1 ! (λ l₈. alloc1 ! (λ l₉. alloc1 ! (λ l₁₀. alloc1 ! (λ l₁₁. alloc1 ! (λ l₁₂. alloc0 ! $
+        params1 ! $
+        pass1 ! (init ! 22 refl (tt, record { fits = mode-fits })) $ pass1 ! (init ! 20 refl (tt, record { fits = corner-fits })) $ pass1 ! (init ! 18 refl (tt, (tt, (record { fits = above-room .0 }, tt)))) $
+        pass1 ! (init ! 16 refl (tt, (tt, (record { fits = left-room .0 }, tt)))) $ pass1 ! (init ! 14 refl (tt, record { fits = n-fits })) $ pass1 ! (init ! 12 refl (tt, record { fits = bits-fits })) $
+        pass1 ! (init ! 10 refl (tt, (tt, (record { fits = pred-room .0 }, tt)))) $ pass0 ! $
+        -- [_12; …; _0; the tokens; what the parameters own]
         -- the scratch is made
         use0 W (raw (New 𝓤 H A mem run .pre to-new)) goes-new $ calls-at ! fm (New 𝓤 H A mem run) known-new to-new (no-more !) (λ u.
         use1 W (later (some (λ (h : AngularScratch). (‵ ftrue ⊛ ‵ (T.the-row .own h (u ∷ []))) ⊛ raw (ensured 𝓤 H A new.ended (new.clauses 𝓤 H A mem run) tt tt tt h)))) (id⊢ 𝓤 _) $ await ! tt $ pick ! (λ h.
-        split ! $ move ! (1 ∷ []) $ drop ! $ split ! $ drop ! $ peeks ! T.the-row (Is T.the-row) (shows 𝓤 H A T.the-row) h (u ∷ []) (λ is-h. land ! (from ! (stop !)) (init ! 7 refl (LL.lawful T.the-type T′.the-laws 𝓤 H A W .typed h _ is-h .0)) $
+        split ! $ move ! (1 ∷ []) $ drop ! $ split ! $ drop ! $
+        peeks ! T.the-row (Is T.the-row) (shows 𝓤 H A T.the-row) h (u ∷ []) (λ is-h. land ! (from ! (stop !)) (init ! 7 refl (LL.lawful T.the-type T′.the-laws 𝓤 H A W .typed h _ is-h .0)) $
         assigns ! (of-opd ! (load ! (from ! (stop !)) (look ! 7 refl))) (from ! (stop !)) (init ! 9 refl (LL.lawful T.the-type T′.the-laws 𝓤 H A W .typed h _ is-h .0)) $
         -- the block is passed on, and the scratch is lent
-        assigns ! (addr ! (from ! (fld ! refl (hop ! (look-in ! 11 (sub ! 0 refl (whole !))) (stop !))))) (from ! (stop !)) (init ! 5 refl (tt, tt)) $ assigns ! (agg ! (and-then ! (load ! (from ! (stop !)) (look ! 5 refl)) (and-then ! (load ! (from ! (fld ! refl (stop !))) (look-in ! 11 (sub ! 1 refl (whole !)))) (no-more !)))) (from ! (stop !)) (init ! 3 refl (tt, (tt, (record { fits = pred-room .0 }, tt)))) $
+        assigns ! (addr ! (from ! (fld ! refl (hop ! (look-in ! 11 (sub ! 0 refl (whole !))) (stop !))))) (from ! (stop !)) (init ! 5 refl (tt, tt)) $
+        assigns ! (agg ! (and-then ! (load ! (from ! (stop !)) (look ! 5 refl)) (and-then ! (load ! (from ! (fld ! refl (stop !))) (look-in ! 11 (sub ! 1 refl (whole !)))) (no-more !)))) (from ! (stop !)) (init ! 3 refl (tt, (tt, (record { fits = pred-room .0 }, tt)))) $
         assigns ! (addr ! (from ! (stop !))) (from ! (stop !)) (init ! 1 refl (tt, tt)) $
-        move ! (9 ∷ 0 ∷ []) $ use2 W (later (some (λ (l : LocalLoan). Token 𝓤 H A W l ⊛ (Holds 𝓤 H A l₈ 0 (named 0) (l .life ∷ []) (l .name) h ⊛ Lender 𝓤 H A W l₈ l)))) (lend-local 𝓤 H A W h u l₈) $ await ! tt $ pick ! (λ l. split ! $ move ! (1 ∷ []) $ split ! $
-        move ! (29 ∷ []) $ fsplit ! $ drop ! $ fsplit ! $ drop ! $ fsplit ! $ use1 W (‵ (ShrSlice (named 0) κ₀ u16 .own above (above-val ∷ [])) ⊛ ‵ (ShrSlice (named 0) κ₀ u16 .own above (above-val ∷ []))) (shr-slice-copy 𝓤 H A W (named 0) κ₀ u16 .twice above (above-val ∷ [])) $ split ! $ move ! (2 ∷ []) $ fsplit ! $ use1 W (‵ (ShrSlice (named 1) κ₁ u16 .own left (left-val ∷ [])) ⊛ ‵ (ShrSlice (named 1) κ₁ u16 .own left (left-val ∷ []))) (shr-slice-copy 𝓤 H A W (named 1) κ₁ u16 .twice left (left-val ∷ [])) $ split ! $ move ! (2 ∷ []) $ fsplit ! $ drop ! $ fsplit ! $ drop ! $ fsplit ! $ move ! (1 ∷ []) $ drop ! $
+        -- [what the new scratch owns; _12; …; _0; the tokens; what the parameters own]
+        move ! (9 ∷ 0 ∷ []) $ use2 W (later (some (λ (l : LocalLoan). Token 𝓤 l ⊛ (Holds 𝓤 H A l₈ 0 (named 0) (l .life ∷ []) (l .name) h ⊛ Lender 𝓤 l₈ l)))) (lend-local 𝓤 H A W h u l₈) $ await ! tt $
+        pick ! (λ l. split ! $ move ! (1 ∷ []) $ split ! $
+        move ! (29 ∷ []) $ fsplit ! $ drop ! $ fsplit ! $ drop ! $ fsplit ! $
+        use1 W (‵ (ShrSlice (named 0) κ₀ u16 .own above (above-val ∷ [])) ⊛ ‵ (ShrSlice (named 0) κ₀ u16 .own above (above-val ∷ []))) (shr-slice-copy 𝓤 H A W (named 0) κ₀ u16 .twice above (above-val ∷ [])) $
+        split ! $ move ! (2 ∷ []) $ fsplit ! $
+        use1 W (‵ (ShrSlice (named 1) κ₁ u16 .own left (left-val ∷ [])) ⊛ ‵ (ShrSlice (named 1) κ₁ u16 .own left (left-val ∷ []))) (shr-slice-copy 𝓤 H A W (named 1) κ₁ u16 .twice left (left-val ∷ [])) $
+        split ! $ move ! (2 ∷ []) $ fsplit ! $ drop ! $ fsplit ! $ drop ! $ fsplit ! $ move ! (1 ∷ []) $ drop ! $
         move ! (33 ∷ []) $ split ! $ move ! (1 ∷ []) $ split ! $ move ! (1 ∷ []) $ split ! $ move ! (1 ∷ []) $ drop ! $
+        -- [κ₂; κ₁; κ₀; the block; left; left again; above; above again; the scratch; the lender's part; the loan's token; _12; …; _0]
         move ! (2 ∷ 1 ∷ 0 ∷ 10 ∷ 8 ∷ 6 ∷ 4 ∷ 3 ∷ []) $ group ! 8 $ use1 W (raw (Into 𝓤 H A mem run .pre (to l₈ l h))) (goes l₈ l h) $
         calls-at ! fm (Into 𝓤 H A mem run) known-into (to l₈ l h) (and-then ! (load ! (from ! (stop !)) (look ! 25 refl)) (and-then ! (load ! (from ! (stop !)) (look ! 23 refl)) (and-then ! (load ! (from ! (stop !)) (look ! 21 refl)) (and-then ! (load ! (from ! (stop !)) (look ! 19 refl)) (and-then ! (load ! (from ! (stop !)) (look ! 17 refl)) (and-then ! (load ! (from ! (stop !)) (look ! 15 refl)) (and-then ! (load ! (from ! (stop !)) (look ! 6 refl)) (and-then ! (load ! (from ! (stop !)) (look ! 4 refl)) (no-more !))))))))) (λ w.
-        use1 W (later (some (λ (r : ℕ). ((‵ (flft κ₀ q₀) ⊛ (‵ (flft κ₁ q₁) ⊛ (‵ (flft κ₂ q₂) ⊛ (‵ (flft (l .life ∷ []) fullShare) ⊛ ‵ ftrue)))) ⊛ ‵ (u32 .own r (w ∷ []))) ⊛ raw (ensured 𝓤 H A into.ended (into.clauses 𝓤 H A mem run) (κ₀, (κ₁, (κ₂, (l .life ∷ [], tt)))) (args l₈ l h) tt r)))) (id⊢ 𝓤 _) $ await ! tt $ pick ! (λ r.
-        split ! $ move ! (1 ∷ []) $ use1 W (some (λ (zs : Lasts). ‵ (lasts into.ended (κ₀, (κ₁, (κ₂, (l .life ∷ [], tt)))) (args l₈ l h) zs) ⊛ raw (fact 𝓤 (Ends number (length aboves) (length lefts) work preds h r (zs .1 .1 .1 .1 .1 .1 .1 .0) (zs .1 .1 .1 .1 .1 .1 .0))))) (id⊢ 𝓤 _) $ pick ! (λ zs. split ! $
+        use1 W (later (some (λ (r : ℕ). ((‵ (flft κ₀ q₀) ⊛ (‵ (flft κ₁ q₁) ⊛ (‵ (flft κ₂ q₂) ⊛ (‵ (flft (l .life ∷ []) fullShare) ⊛ ‵ ftrue)))) ⊛ ‵ (u32 .own r (w ∷ []))) ⊛ raw (ensured 𝓤 H A into.ended (into.clauses 𝓤 H A mem run) (κ₀, (κ₁, (κ₂, (l .life ∷ [], tt)))) (args l₈ l h) tt r)))) (id⊢ 𝓤 _) $
+        await ! tt $ pick ! (λ r.
+        split ! $ move ! (1 ∷ []) $
+        use1 W (some (λ (zs : Lasts). ‵ (lasts into.ended (κ₀, (κ₁, (κ₂, (l .life ∷ [], tt)))) (args l₈ l h) zs) ⊛ raw (fact 𝓤 (Ends number (length aboves) (length lefts) work preds h r (zs .1 .1 .1 .1 .1 .1 .1 .0) (zs .1 .1 .1 .1 .1 .1 .0))))) (id⊢ 𝓤 _) $
+        pick ! (λ zs. split ! $
         move ! (1 ∷ []) $ heard ! (Ends number (length aboves) (length lefts) work preds h r (zs .1 .1 .1 .1 .1 .1 .1 .0) (zs .1 .1 .1 .1 .1 .1 .0)) (λ said.
-        fsplit ! $ drop ! $ fsplit ! $ drop ! $ fsplit ! $ drop ! $ fsplit ! $ drop ! $ fsplit ! $ drop ! $ fsplit ! $ drop ! $ fsplit ! $ fsplit ! $ move ! (1 ∷ []) $ feqL ! (λ e. move ! (1 ∷ []) $ fsplit ! $ move ! (1 ∷ []) $ drop ! $
+        fsplit ! $ drop ! $ fsplit ! $ drop ! $ fsplit ! $ drop ! $ fsplit ! $ drop ! $ fsplit ! $ drop ! $ fsplit ! $ drop ! $ fsplit ! $ fsplit ! $ move ! (1 ∷ []) $ feqL ! (λ e. move ! (1 ∷ []) $
+        fsplit ! $ move ! (1 ∷ []) $ drop ! $
+        -- [the scratch's last value; the block's last list; the tokens and the result; left2; above2; the lender's part; _12; …; _0]
         move ! (2 ∷ []) $ split ! $ move ! (1 ∷ []) $ peeks ! u32 (Is u32) (shows 𝓤 H A u32) r (w ∷ []) (λ is. land ! (from ! (stop !)) (init ! 30 refl (uint-lawful 𝓤 H A W w32 .typed r _ is .0)) $
         -- it comes back, and its local is room again
-        move ! (1 ∷ []) $ split ! $ move ! (1 ∷ []) $ split ! $ move ! (1 ∷ []) $ split ! $ move ! (1 ∷ []) $ split ! $ move ! (1 ∷ []) $ move ! (2 ∷ 0 ∷ []) $ join ! $ move ! (2 ∷ 0 ∷ []) $ join ! $ move ! (2 ∷ 0 ∷ []) $ join ! $ move ! (1 ∷ 3 ∷ 7 ∷ []) $ group ! 3 $ use1 W (later (‵ (froom T′.mir l₈ 0))) (local-back 𝓤 H A W l (zs .1 .1 .1 .1 .1 .1 .1 .0) l₈) $ await ! tt $
-        returns ! (look ! 29 refl) $ forget ! 6 refl $ forget ! 8 refl $ forget ! 10 refl $ forget ! 12 refl $ forget ! 15 refl $ forget ! 17 refl $ forget ! 19 refl $ forget ! 21 refl $ forget ! 23 refl $ forget ! 25 refl $ forget ! 27 refl $ forget ! 29 refl $
-        move ! (29 ∷ 30 ∷ []) $ free1 ! $ move ! (27 ∷ 28 ∷ []) $ free1 ! $ move ! (25 ∷ 26 ∷ []) $ free1 ! $ move ! (23 ∷ 24 ∷ []) $ free1 ! $ move ! (21 ∷ 22 ∷ []) $ free1 ! $ move ! (19 ∷ 20 ∷ []) $ free1 ! $ move ! (17 ∷ 18 ∷ []) $ free1 ! $ move ! (15 ∷ 16 ∷ []) $ free1 ! $ move ! (0 ∷ 14 ∷ []) $ free1 ! $ move ! (11 ∷ 12 ∷ []) $ free1 ! $ move ! (9 ∷ 10 ∷ []) $ free1 ! $ move ! (7 ∷ 8 ∷ []) $ free1 ! $ move ! (5 ∷ 6 ∷ []) $ free1 ! $ free0 ! $
+        move ! (1 ∷ []) $ split ! $ move ! (1 ∷ []) $ split ! $ move ! (1 ∷ []) $ split ! $ move ! (1 ∷ []) $ split ! $ move ! (1 ∷ []) $ move ! (2 ∷ 0 ∷ []) $ join ! $ move ! (2 ∷ 0 ∷ []) $ join ! $
+        move ! (2 ∷ 0 ∷ []) $ join ! $ move ! (1 ∷ 3 ∷ 7 ∷ []) $ group ! 3 $ use1 W (later (‵ (froom T′.mir l₈ 0))) (local-back 𝓤 H A W l (zs .1 .1 .1 .1 .1 .1 .1 .0) l₈) $ await ! tt $
+        -- [_8; the tokens; the result; the block's last list; left2; above2; _12; …; _0]
+        returns ! (look ! 29 refl) $ forget ! 6 refl $ forget ! 8 refl $ forget ! 10 refl $ forget ! 12 refl $ forget ! 15 refl $ forget ! 17 refl $ forget ! 19 refl $ forget ! 21 refl $ forget ! 23 refl $
+        forget ! 25 refl $ forget ! 27 refl $ forget ! 29 refl $
+        move ! (29 ∷ 30 ∷ []) $ free1 ! $ move ! (27 ∷ 28 ∷ []) $ free1 ! $ move ! (25 ∷ 26 ∷ []) $ free1 ! $ move ! (23 ∷ 24 ∷ []) $ free1 ! $ move ! (21 ∷ 22 ∷ []) $ free1 ! $ move ! (19 ∷ 20 ∷ []) $
+        free1 ! $ move ! (17 ∷ 18 ∷ []) $ free1 ! $ move ! (15 ∷ 16 ∷ []) $ free1 ! $ move ! (0 ∷ 14 ∷ []) $ free1 ! $ move ! (11 ∷ 12 ∷ []) $ free1 ! $ move ! (9 ∷ 10 ∷ []) $ free1 ! $ move ! (7 ∷ 8 ∷ []) $
+        free1 ! $ move ! (5 ∷ 6 ∷ []) $ free1 ! $ free0 ! $
         keep ! (0 ∷ 1 ∷ 2 ∷ 4 ∷ 3 ∷ []) $ by ! (exits r w h (zs .1 .1 .1 .1 .1 .1 .1 .0) (zs .1 .1 .1 .1 .1 .1 .0) said e))))))))))))))))))))))))
 
 module _ {M : Type 1} (𝓤 : URA M) (H : Heap 𝓤) (A : Atoms 𝓤) (W : Given 𝓤 H A) (mem : Memory → SProp 𝓤) (run : Routine → Fun 𝓤) where

@@ -1,0 +1,66 @@
+-- The rows are read, the block predicted and stored. Assumes nothing.
+use mathlib.Core.Path.{refl}
+use mathlib.Core.List.{List}
+use Prim.Native.Nat.{ℕ}
+use native.Mathlib.Omega.{arith}
+use Rattle.h265.specs.Notation.{fromRows}
+use Rattle.h265.specs.Planar.{planar}
+use Rattle.flat.specs.Flat.{flatNo}
+use Rattle.camera.specs.Checks.{predicted}
+use borrow.Author.Needs.{needs}
+use Rattle.camera.proofs.planar_block.Statement.{statement}
+use Rattle.camera.proofs.planar_block.Tie as tie
+
+row-of-requires : tie.Need-row-of-requires
+row-of-requires c κs = c .before .before .before .pre .0 .above-long
+
+row-of-requires-2 : tie.Need-row-of-requires-2
+row-of-requires-2 c κs = c .before .before .before .before .pre .0 .left-long
+
+slice-aggregate-predict-planar-into : tie.Need-slice-aggregate-predict-planar-into
+slice-aggregate-predict-planar-into c = search needs
+
+slice-aggregate-predict-planar-into-2 : tie.Need-slice-aggregate-predict-planar-into-2
+slice-aggregate-predict-planar-into-2 c = search needs
+
+slice-aggregate-predict-planar-into-3 : tie.Need-slice-aggregate-predict-planar-into-3
+slice-aggregate-predict-planar-into-3 c = search needs
+
+predict-planar-into-requires : tie.Need-predict-planar-into-requires
+predict-planar-into-requires c κs = search needs
+
+slice-aggregate-store : tie.Need-slice-aggregate-store
+slice-aggregate-store c = search needs
+
+mul-store : tie.Need-mul-store
+mul-store c = omega (arith, c .before .before .before .before .before .before .before .before .before .before .before .pre .0 .few)
+
+store-requires : tie.Need-store-requires
+store-requires c κs = (omega (arith, c .before .before .before .before .before .before .before .before .before .before .before .before .pre .0 .few), omega (arith, c .before .before .before .before .before .before .before .before .before .before .before .before .pre .0 .block-long))
+
+same-length : tie.Need-same-length
+same-length c = search needs
+
+returns : tie.Need-returns
+returns c =
+    let s = c .before .before .before .before .before .before .before .before .before .before .before .before .before .before .before in
+    let a = s .args in
+    let f = s .pre in
+    let p = c .before .before .before .before .before .before .predict-planar-into .ensures in
+    predicted (λ (u v : List ℕ) (y x : ℕ). planar (a .n) (fromRows 0 u v) x y) (λ (x y z : ℕ). flatNo (a .n) x y z) (a .n) (a .above .now) (a .left .now) (a .out .now) (f .0 .few) (f .1) (c .before .before .before .before .before .before .before .before .before .before .before .row-of .ensures) (c .before .before .before .before .before .before .before .before .before .before .row-of2 .ensures) refl (p .0) (p .1) (c .before .before .store .ensures)
+
+pub planar-block-spec : {M : Type 1} → statement M
+planar-block-spec =
+    tie.close
+    (tie.spec
+    row-of-requires
+    row-of-requires-2
+    slice-aggregate-predict-planar-into
+    slice-aggregate-predict-planar-into-2
+    slice-aggregate-predict-planar-into-3
+    predict-planar-into-requires
+    slice-aggregate-store
+    mul-store
+    store-requires
+    same-length
+    returns)

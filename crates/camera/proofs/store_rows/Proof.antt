@@ -1,0 +1,49 @@
+-- The corner, then each row after it. Assumes nothing.
+use mathlib.Core.Path.{_≡_}
+use native.Mathlib.Omega.{arith}
+use lib.ListN.{length}
+use Rattle.camera.specs.Stored.{rows-stored}
+use borrow.Author.Needs.{needs}
+use Rattle.camera.proofs.store_rows.Statement.{statement}
+use Rattle.camera.proofs.store_rows.Tie as tie
+
+put-requires : tie.Need-put-requires
+put-requires c κs = search needs
+
+slice-aggregate-store : tie.Need-slice-aggregate-store
+slice-aggregate-store c = search needs
+
+add-store : tie.Need-add-store
+add-store c = search needs
+
+store-requires : tie.Need-store-requires
+store-requires c κs = let up : length (c .before .before .before .before .before .before .before .before .before .args .rows .above) ≡ 65 = search needs in (omega (arith, up), omega (arith, c .before .before .before .before .put .kept .0))
+
+slice-aggregate-store-2 : tie.Need-slice-aggregate-store-2
+slice-aggregate-store-2 c = search needs
+
+add-store-2 : tie.Need-add-store-2
+add-store-2 c = search needs
+
+store-requires-2 : tie.Need-store-requires-2
+store-requires-2 c κs = let up : length (c .before .before .before .before .before .before .before .before .before .before .before .before .before .before .args .rows .left) ≡ 65 = search needs in (omega (arith, up), omega (arith, c .before .before .before .before .before .before .before .before .before .put .kept .0, c .before .before .before .before .store .kept .1 .1 .0))
+
+same-length : tie.Need-same-length
+same-length c = search needs
+
+returns : tie.Need-returns
+returns c = let a = c .before .before .before .before .before .before .before .before .before .before .before .before .before .before .before .before .before .args in rows-stored (a .rows) (a .at) (a .out .now) (search needs) (c .before .before .before .before .before .before .before .before .before .before .before .before .put .ensures) (c .before .before .before .before .before .before .before .store .ensures) (c .before .before .store2 .ensures)
+
+pub store-rows-spec : {M : Type 1} → statement M
+store-rows-spec =
+    tie.close
+    (tie.spec
+    put-requires
+    slice-aggregate-store
+    add-store
+    store-requires
+    slice-aggregate-store-2
+    add-store-2
+    store-requires-2
+    same-length
+    returns)

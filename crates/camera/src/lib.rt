@@ -1,0 +1,400 @@
+// What the camera's C firmware calls: gathering, prediction and replay on numbers and byte slices, samples of two bytes, the lower first.
+// Each entry gives back its number, and writes nothing where it refuses. Rests on the doors' contracts and on crate bytes.
+ghost use mathlib.Core.Path.{_≡_};
+ghost use Prim.Native.Nat.{ℕ, _+_, _*_, _%_, _≤_, _<_};
+ghost use lib.ListN.{length, set};
+ghost use Rattle.laws.specs.Fill.{run};
+ghost use Rattle.bytes.specs.Bytes.{byte1};
+ghost use Rattle.domain.specs.Facts.{Size};
+ghost use Rattle.flat.specs.Flat.{flatNo};
+ghost use Rattle.angular.specs.Door.{angularNo};
+ghost use Rattle.predict.specs.Door.{predictNo};
+ghost use Rattle.byte_replay.specs.Door.{replayed};
+ghost use Rattle.camera.specs.Entries.{wrote, sampleByte, rowsAt, lumaEntry, chromaEntry, rowOf, blockIn, room};
+ghost use Rattle.camera.specs.Entries.{flatEntryNo, planarIn, planarEntry, dcIn, dcEntry, modeEntryNo, angularIn, angularEntry, chromaIn, chromaBlockEntry};
+ghost use Rattle.camera.specs.Checks.{roomNo, Fit, lent};
+use fmt::ChromaCol;
+use fmt::ChromaRow;
+use fmt::LumaCol;
+use fmt::LumaRow;
+use order::Picture;
+use plan::Frame;
+use refs::ChromaRefGeometry;
+use refs::LumaRefGeometry;
+use rows::Rows;
+use walk::Progress;
+use walk::Still;
+
+// Stores the sample at a place of a buffer, counted in samples.
+fn put(out: &mut [u8], at: usize, v: u16)
+    requires { ⌜ 2 * at + 1 < length (now out) ⌝ }
+    ensures { λ _. ⌜ now (out .exit) ≡ set (set (now (out .entry)) (2 * at) (v % 256)) (2 * at + 1) (byte1 v) ⌝ }
+{
+    let low = 2 * at;
+    out[low] = bytes::byte_0(v as u32);
+    out[low + 1] = bytes::byte_1(v as u32);
+}
+
+// Stores the first `count` samples of a list, the first one at a place of the buffer.
+fn store(from: &[u16], count: usize, out: &mut [u8], at: usize)
+    requires { ⌜ (count ≤ length (now from)) × (2 * (at + count) ≤ length (now out)) ⌝ }
+    ensures { λ _. ⌜ now (out .exit) ≡ run (sampleByte (now (from .entry))) (2 * at) (2 * count) (now (out .entry)) ⌝ }
+{
+    let mut i = 0;
+    while i < count {
+        put(&mut *out, at + i, from[i]);
+        i += 1;
+    }
+}
+
+// Stores the corner, the row above and the left column.
+fn store_rows(rows: Rows, out: &mut [u8], at: usize)
+    requires { ⌜ 2 * (at + 131) ≤ length (now out) ⌝ }
+    ensures { λ _. ⌜ now (out .exit) ≡ rowsAt (2 * at) rows (now (out .entry)) ⌝ }
+{
+    let above = rows.above;
+    let left = rows.left;
+    put(&mut *out, at, rows.corner);
+    store(&above, 65, &mut *out, at + 1);
+    store(&left, 65, &mut *out, at + 66);
+}
+
+// A gather's number where its buffer may be short: 5 comes before 6 and 0, and after the others.
+fn room_no(no: u32, roomy: bool) -> u32
+    ensures { λ r. ⌜ r ≡ roomNo roomy no ⌝ }
+{
+    if (no == 0) | (no == 6) {
+        return if roomy { no } else { 5 };
+    }
+    no
+}
+
+// The reference rows of a luma block, out of a plane of exactly 2 · width · height bytes: the corner, 65 samples above, 65 samples left,
+// in the first 262 bytes of `out`. Numbers 1, 2, 4, 5, 6.
+#[no_mangle]
+pub extern "C" fn salvrunde_luma_refs(
+    bits: u32,
+    width: u32,
+    height: u32,
+    ctu: u32,
+    unit: u32,
+    row: u32,
+    col: u32,
+    n: u32,
+    plane: &[u8],
+    out: &mut [u8],
+) -> u32
+    ensures { λ r. ⌜ wrote r (now (out .exit)) ≡ lumaEntry (now (plane .entry)) (record { bits = bits; picture = record { width = width; height = height; ctu = ctu; unit = unit }; «block_row» = record { 0 = row }; «block_col» = record { 0 = col }; n = n }) (now (out .entry)) ⌝ }
+{
+    let picture = Picture {
+        width,
+        height,
+        ctu,
+        unit,
+    };
+    let geo = LumaRefGeometry {
+        bits,
+        picture,
+        block_row: LumaRow(row),
+        block_col: LumaCol(col),
+        n: n as usize,
+    };
+    let a = refs::get_reference_samples_bytes(plane, geo);
+    let no = room_no(a.no, out.len() >= 262);
+    if no == 0 {
+        store_rows(a.rows, &mut *out, 0);
+    }
+    no
+}
+
+// The reference rows of a chroma block, out of the planes of Cb and of Cr: Cb's corner, above and left in the first 262 bytes of `out`,
+// Cr's in the next 262. The format is a chroma_format_idc; the current place is in luma samples. Numbers 1, 2, 4, 5, 6.
+#[no_mangle]
+pub extern "C" fn salvrunde_chroma_refs(
+    bits: u32,
+    format: u32,
+    luma_width: u32,
+    luma_height: u32,
+    unit: u32,
+    row: u32,
+    col: u32,
+    n: u32,
+    cur_luma_row: u32,
+    cur_luma_col: u32,
+    cb: &[u8],
+    cr: &[u8],
+    out: &mut [u8],
+) -> u32
+    ensures { λ r. ⌜ wrote r (now (out .exit)) ≡ chromaEntry (now (cb .entry)) (now (cr .entry)) (record { bits = bits; format = format; «luma_w» = «luma_width»; «luma_h» = «luma_height»; «min_luma_pu» = unit; «block_row» = record { 0 = row }; «block_col» = record { 0 = col }; n = n; «cur_luma_row» = record { 0 = «cur_luma_row» }; «cur_luma_col» = record { 0 = «cur_luma_col» } }) (now (out .entry)) ⌝ }
+{
+    let geo = ChromaRefGeometry {
+        bits,
+        format,
+        luma_w: luma_width,
+        luma_h: luma_height,
+        min_luma_pu: unit,
+        block_row: ChromaRow(row),
+        block_col: ChromaCol(col),
+        n: n as usize,
+        cur_luma_row: LumaRow(cur_luma_row),
+        cur_luma_col: LumaCol(cur_luma_col),
+    };
+    let a = refs::get_reference_samples_chroma_pair_bytes(cb, cr, geo);
+    let no = room_no(a.no, out.len() >= 524);
+    if no == 0 {
+        store_rows(a.planes[0], &mut *out, 0);
+        store_rows(a.planes[1], &mut *out, 131);
+    }
+    no
+}
+
+// The 65 samples of a row.
+fn row_of(row: &[u8]) -> [u16; 65]
+    requires { ⌜ 130 ≤ length (now row) ⌝ }
+    ensures { λ r. ⌜ r ≡ rowOf (now (row .entry)) ⌝ }
+{
+    let mut out = [0u16; 65];
+    let mut i = 0;
+    while i < 65 {
+        let low = 2 * i;
+        let high = low + 1;
+        out[i] = bytes::sample(row[low], row[high]);
+        i += 1;
+    }
+    out
+}
+
+// Whether two rows and a block's buffer are long enough, in bytes.
+fn has_room(n: usize, above: usize, left: usize, out: usize) -> bool
+    requires { ⌜ Size n ⌝ }
+    ensures { λ r. ⌜ r ≡ room n above left out ⌝ }
+{
+    (above >= 130) & (left >= 130) & (out >= 2 * (n * n))
+}
+
+fn flat_no(n: usize, above: usize, left: usize, out: usize) -> u32
+    ensures { λ r. ⌜ r ≡ flatEntryNo n above left out ⌝ }
+{
+    if !domain::size_ok(n) {
+        return 2;
+    }
+    if !has_room(n, above, left, out) {
+        return 5;
+    }
+    0
+}
+
+// The number of an entry that takes a mode; `taken` tells whether it takes this one.
+fn mode_no(bits: u32, n: usize, taken: bool, above: usize, left: usize, out: usize) -> u32
+    ensures { λ r. ⌜ r ≡ modeEntryNo bits n taken above left out ⌝ }
+{
+    if !domain::depth_ok(bits) {
+        return 1;
+    }
+    if !domain::size_ok(n) {
+        return 2;
+    }
+    if !taken {
+        return 3;
+    }
+    if !has_room(n, above, left, out) {
+        return 5;
+    }
+    0
+}
+
+fn planar_block(n: usize, above: &[u8], left: &[u8], out: &mut [u8])
+    requires { ⌜ Fit n (length (now above)) (length (now left)) (length (now out)) × (flatNo n 65 65 1024 ≡ 0) ⌝ }
+    ensures { λ _. ⌜ now (out .exit) ≡ blockIn (planarIn n (now (above .entry)) (now (left .entry))) n (now (out .entry)) ⌝ }
+{
+    let a = row_of(above);
+    let l = row_of(left);
+    let mut pred = [0u16; 1024];
+    flat::predict_planar_into(&a, &l, n, &mut pred);
+    store(&pred, n * n, &mut *out, 0);
+}
+
+// The planar block of side n, in rows, in the first 2 · n · n bytes of `out`; each row has at least 130 bytes. Numbers 2, 5.
+#[no_mangle]
+pub extern "C" fn salvrunde_planar(n: u32, above: &[u8], left: &[u8], out: &mut [u8]) -> u32
+    ensures { λ r. ⌜ wrote r (now (out .exit)) ≡ planarEntry n (now (above .entry)) (now (left .entry)) (now (out .entry)) ⌝ }
+{
+    let no = flat_no(n as usize, above.len(), left.len(), out.len());
+    if no == 0 {
+        planar_block(n as usize, above, left, &mut *out);
+    }
+    no
+}
+
+fn dc_block(n: usize, edge: bool, above: &[u8], left: &[u8], out: &mut [u8])
+    requires { ⌜ Fit n (length (now above)) (length (now left)) (length (now out)) × (flatNo n 65 65 1024 ≡ 0) ⌝ }
+    ensures { λ _. ⌜ now (out .exit) ≡ blockIn (dcIn edge n (now (above .entry)) (now (left .entry))) n (now (out .entry)) ⌝ }
+{
+    let a = row_of(above);
+    let l = row_of(left);
+    let mut pred = [0u16; 1024];
+    flat::predict_dc_into(&a, &l, n, edge, &mut pred);
+    store(&pred, n * n, &mut *out, 0);
+}
+
+// The DC block; an edge flag that is not 0 asks for filtered edges. Numbers 2, 5.
+#[no_mangle]
+pub extern "C" fn salvrunde_dc(n: u32, edge: u32, above: &[u8], left: &[u8], out: &mut [u8]) -> u32
+    ensures { λ r. ⌜ wrote r (now (out .exit)) ≡ dcEntry n edge (now (above .entry)) (now (left .entry)) (now (out .entry)) ⌝ }
+{
+    let no = flat_no(n as usize, above.len(), left.len(), out.len());
+    if no == 0 {
+        dc_block(n as usize, edge != 0, above, left, &mut *out);
+    }
+    no
+}
+
+fn angular_block(
+    bits: u32,
+    n: usize,
+    mode: u8,
+    edge: bool,
+    corner: u16,
+    above: &[u8],
+    left: &[u8],
+    out: &mut [u8],
+)
+    requires { ⌜ Fit n (length (now above)) (length (now left)) (length (now out)) × (angularNo bits n mode (lent 65 65 1024) ≡ 0) ⌝ }
+    ensures { λ _. ⌜ now (out .exit) ≡ blockIn (angularIn bits edge n mode corner (now (above .entry)) (now (left .entry))) n (now (out .entry)) ⌝ }
+{
+    let a = row_of(above);
+    let l = row_of(left);
+    let mut pred = [0u16; 1024];
+    let mut refs = [0u16; 193];
+    let mut indices = [0u32; 32];
+    let mut fractions = [0u32; 32];
+    angular::predict_angular_slices(
+        corner,
+        &a,
+        &l,
+        n,
+        mode,
+        edge,
+        bits,
+        &mut pred,
+        &mut refs,
+        &mut indices,
+        &mut fractions,
+    );
+    store(&pred, n * n, &mut *out, 0);
+}
+
+// The block of an angular mode, 2 to 34. Numbers 1, 2, 3, 5.
+#[no_mangle]
+pub extern "C" fn salvrunde_angular(
+    bits: u32,
+    n: u32,
+    mode: u32,
+    edge: u32,
+    corner: u16,
+    above: &[u8],
+    left: &[u8],
+    out: &mut [u8],
+) -> u32
+    ensures { λ r. ⌜ wrote r (now (out .exit)) ≡ angularEntry bits n mode edge corner (now (above .entry)) (now (left .entry)) (now (out .entry)) ⌝ }
+{
+    let taken = (mode >= 2) & (mode <= 34);
+    let no = mode_no(bits, n as usize, taken, above.len(), left.len(), out.len());
+    if no == 0 {
+        angular_block(
+            bits,
+            n as usize,
+            mode as u8,
+            edge != 0,
+            corner,
+            above,
+            left,
+            &mut *out,
+        );
+    }
+    no
+}
+
+fn chroma_block(
+    bits: u32,
+    n: usize,
+    mode: u8,
+    corner: u16,
+    above: &[u8],
+    left: &[u8],
+    out: &mut [u8],
+)
+    requires { ⌜ Fit n (length (now above)) (length (now left)) (length (now out)) × (predictNo bits n mode (lent 65 65 1024) ≡ 0) ⌝ }
+    ensures { λ _. ⌜ now (out .exit) ≡ blockIn (chromaIn bits n mode corner (now (above .entry)) (now (left .entry))) n (now (out .entry)) ⌝ }
+{
+    let a = row_of(above);
+    let l = row_of(left);
+    let mut pred = [0u16; 1024];
+    let mut refs = [0u16; 193];
+    let mut indices = [0u32; 32];
+    let mut fractions = [0u32; 32];
+    predict::predict_chroma_tb_slices(
+        mode,
+        corner,
+        &a,
+        &l,
+        n,
+        bits,
+        &mut pred,
+        &mut refs,
+        &mut indices,
+        &mut fractions,
+    );
+    store(&pred, n * n, &mut *out, 0);
+}
+
+// A chroma block in any mode, 0 to 34: nothing is smoothed, and no edge is filtered. Numbers 1, 2, 3, 5.
+#[no_mangle]
+pub extern "C" fn salvrunde_chroma_block(
+    bits: u32,
+    n: u32,
+    mode: u32,
+    corner: u16,
+    above: &[u8],
+    left: &[u8],
+    out: &mut [u8],
+) -> u32
+    ensures { λ r. ⌜ wrote r (now (out .exit)) ≡ chromaBlockEntry bits n mode corner (now (above .entry)) (now (left .entry)) (now (out .entry)) ⌝ }
+{
+    let no = mode_no(
+        bits,
+        n as usize,
+        mode <= 34,
+        above.len(),
+        left.len(),
+        out.len(),
+    );
+    if no == 0 {
+        chroma_block(bits, n as usize, mode as u8, corner, above, left, &mut *out);
+    }
+    no
+}
+
+// Decodes the next blocks of a still, as many as are granted, in the plane's own bytes: exactly 2 · width · height of the plane, 4 · width · height of
+// the residuals, 6 a block of the plan. `done` is the progress record. The first 8 bytes of `result` get the block that a refusal is about and the next
+// record, or the record as given where the call is refused; a shorter buffer is left alone. Numbers 1, 4, 5, 8, then 2, 3, 6, 9 of each block, 10, 11.
+#[no_mangle]
+pub extern "C" fn salvrunde_replay(
+    done: u32,
+    bits: u32,
+    width: u32,
+    height: u32,
+    ctu: u32,
+    grant: u32,
+    plan: &[u8],
+    residuals: &[u8],
+    plane: &mut [u8],
+    result: &mut [u8],
+) -> u32
+    ensures { λ r. ⌜ record { number = r; plane = now (plane .exit); result = now (result .exit) } ≡ replayed (record { bits = bits; frame = record { width = width; height = height; ctu = ctu } }) (record { done = done }) (now (plan .entry)) (now (residuals .entry)) grant (now (plane .entry)) (now (result .entry)) ⌝ }
+{
+    let frame = Frame { width, height, ctu };
+    let still = Still { bits, frame };
+    let progress = Progress { done };
+    byte_replay::replay(progress, still, plan, residuals, plane, result, grant)
+}

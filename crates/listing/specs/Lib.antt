@@ -1,0 +1,2 @@
+-- Hex: what digits and words of a list mean.
+pub mod Hex

@@ -1,0 +1,82 @@
+-- Document 01, demand 3 on bytes: replays in a plane's own bytes, in any calls, leave bytes that spell what the replays of the spelt samples leave, so the
+-- source comes back there too. Rests on demand 3, and on what one call on bytes leaves (byte_replay's Spelt).
+use Prim.Native.Nat.{ℕ, _*_, _/_, _≤_}
+use mathlib.Core.Path.{_≡_, refl, sym, ap, _∙_}
+use mathlib.Core.Bool.{true}
+use mathlib.Core.List.{List, [], _∷_}
+use native.Mathlib.Omega.{arith}
+use lib.IntN.{ℤ}
+use lib.ListN.{length}
+use Rattle.laws.specs.Chain.{sum}
+use Rattle.bytes.specs.Bytes.{samplesOf, residualsOf}
+use Rattle.bytes.specs.Laws.{AreBytes, length-samples}
+use Rattle.plan.specs.declared.Verdict.{Verdict}
+use Rattle.plan.specs.Records.{recordsOf}
+use Rattle.walk.specs.declared.Still.{Still}
+use Rattle.walk.specs.Block.{World}
+use Rattle.walk.specs.Door.{steppedBy}
+use Rattle.byte_replay.specs.Door.{Lent, bytesFit, byteStep, planeAfter}
+use Rattle.byte_replay.specs.Laws.{own, fitting}
+use Rattle.byte_replay.specs.Spelt.{spelt-verdict, left}
+use Rattle.promises.specs.Calls.{Job, Held, Served, count, fresh, calls, walkNo, walkCall, replayCall}
+use Rattle.promises.specs.Proof3.{demand-3}
+
+-- what all calls share: the still, the bytes of plan and residuals, and how long the result buffer is
+pub record ByteJob : Type 0 where
+  pub still : Still
+  pub plan : List ℕ
+  pub residuals : List ℕ
+  pub result : ℕ
+
+-- the job that they spell, with the tables that a call makes for itself
+abbrev pub speltJob : ByteJob → Job
+speltJob j = record { still = j .still; plan = recordsOf (j .plan); tables = own }
+
+abbrev pub lentOf : ByteJob → List ℕ → Lent
+lentOf j plane = record { plan = j .plan; residuals = j .residuals; plane = length plane; result = j .result }
+
+-- a call: the record that it hands back, the plane that it leaves
+abbrev pub byteCall : ByteJob → Held (List ℕ) → ℕ → Held (List ℕ)
+byteCall j x grant =
+    record {
+      progress = byteStep (j .still) (x .progress) (lentOf j (x .world)) grant .next;
+      world = planeAfter (j .still) (x .progress) (lentOf j (x .world)) grant (x .world);
+    }
+
+-- a record and the samples that the plane's bytes spell
+abbrev pub spelt : Held (List ℕ) → Held (List ℕ)
+spelt x = record { progress = x .progress; world = samplesOf (x .world) }
+
+-- bytes, and as many as number 5 asks for
+pub record Fits (j : ByteJob) (plane : List ℕ) : Type 0 where
+  pub long : bytesFit (j .still) (lentOf j plane) ≡ true
+  pub bytes : AreBytes plane
+
+module _ (j : ByteJob) where
+  -- one call, refused or not
+  pub one-call : (x : Held (List ℕ)) (grant : ℕ) → Fits j (x .world)
+      → (spelt (byteCall j x grant) ≡ replayCall (speltJob j) (residualsOf (j .residuals)) (spelt x) grant) × Fits j (byteCall j x grant .world)
+  one-call x grant f =
+      let l = left (j .still) (x .progress) (lentOf j (x .world)) grant (x .world) refl (f .long) (f .bytes) in
+      let v = spelt-verdict (j .still) (x .progress) (lentOf j (x .world)) grant (x .world) refl (f .long) (f .bytes) in (
+        λ i. record { progress = steppedBy (v i) (recordsOf (j .plan)) (x .progress) grant .next; world = l .spells i },
+        record { long = ap (λ (k : ℕ). bytesFit (j .still) (record { plan = j .plan; residuals = j .residuals; plane = k; result = j .result })) (l .long) ∙ f .long; bytes = l .are },
+      )
+
+  -- any calls
+  pub any-calls : (x : Held (List ℕ)) (grants : List ℕ) → Fits j (x .world)
+      → spelt (calls (byteCall j) x grants) ≡ calls (replayCall (speltJob j) (residualsOf (j .residuals))) (spelt x) grants
+  unfolding calls
+  any-calls x [] f = refl
+  any-calls x (g ∷ gs) f =
+      let o = one-call x g f in
+      any-calls (byteCall j x g) gs (o .1) ∙ ap (λ (y : Held (List ℕ)). calls (replayCall (speltJob j) (residualsOf (j .residuals))) y gs) (o .0)
+
+  -- The residuals of a walk, as bytes: replays whose grants reach the count leave the source.
+  pub source-back : (source : List ℕ) (w : World) (grants : List ℕ) → Served (walkNo (speltJob j) source (fresh w)) → count (speltJob j) ≤ sum grants
+      → residualsOf (j .residuals) ≡ calls (walkCall (speltJob j) source) (fresh w) grants .world .residuals
+      → (plane : List ℕ) → Fits j plane → (again : List ℕ) → count (speltJob j) ≤ sum again → samplesOf (calls (byteCall j) (fresh plane) again .world) ≡ source
+  source-back source w grants served enough spell plane f again all =
+      ap (λ (x : Held (List ℕ)). x .world) (any-calls (fresh plane) again f)
+      ∙ ap (λ (r : List ℤ). calls (replayCall (speltJob j) r) (fresh (samplesOf plane)) again .world) spell
+      ∙ demand-3 .same (speltJob j) source w grants served enough (samplesOf plane) (omega (arith, length-samples plane, fitting (j .still) (lentOf j plane) (f .long) .plane)) again all

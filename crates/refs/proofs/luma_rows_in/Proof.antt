@@ -1,0 +1,39 @@
+-- The work of the luma gather: nothing is read outside the plane's bytes. Assumes nothing.
+use Rattle.bytes.specs.Bytes.{samplesOf}
+use Rattle.refs.specs.Served.{luma-depth, luma-small, luma-inside, luma-made}
+use borrow.Author.Needs.{needs}
+use Rattle.refs.proofs.luma_rows_in.Statement.{statement}
+use Rattle.refs.proofs.luma_rows_in.Tie as tie
+
+cast-width : tie.Need-cast-width
+cast-width c = search needs
+
+cast-spot-of : tie.Need-cast-spot-of
+cast-spot-of c = search needs
+
+cast-spot-of-2 : tie.Need-cast-spot-of-2
+cast-spot-of-2 c = search needs
+
+spot-of-requires : tie.Need-spot-of-requires
+spot-of-requires c κs = let s = c .before .before .before .before in luma-small (samplesOf (s .args .plane .now)) (s .args .geo) (s .args .reach) (s .pre .0) (s .pre .1)
+
+neutral-of-requires : tie.Need-neutral-of-requires
+neutral-of-requires c κs = let s = c .before .before .before .before .before in luma-depth (samplesOf (s .args .plane .now)) (s .args .geo) (s .args .reach) (s .pre .0) (s .pre .1)
+
+plane-rows-in-requires : tie.Need-plane-rows-in-requires
+plane-rows-in-requires c κs = let s = c .before .before .before .before .before .before in luma-inside (samplesOf (s .args .plane .now)) (s .args .geo) (s .args .reach) (s .pre .0) (s .pre .1) (c .before .spot-of .ensures)
+
+returns : tie.Need-returns
+returns c = let s = c .before .before .before .before .before .before .before in luma-made (samplesOf (s .args .plane .now)) (s .args .geo) (s .args .reach) (s .pre .0) (s .pre .1) (c .before .before .spot-of .ensures) (c .before .neutral-of .ensures) (c .plane-rows-in .ensures)
+
+pub luma-rows-in-spec : {M : Type 1} → statement M
+luma-rows-in-spec =
+    tie.close
+    (tie.spec
+    cast-width
+    cast-spot-of
+    cast-spot-of-2
+    spot-of-requires
+    neutral-of-requires
+    plane-rows-in-requires
+    returns)

@@ -1,0 +1,127 @@
+-- The samples that are there, as they are read out of a plane, and the rows made of these values alone, whatever held them. Assumes nothing.
+use mathlib.Core.Path.{_≡_, refl, sym, ap, ap₂, _∙_}
+use mathlib.Core.Bool.{Bool, true, false, cond, _||_, false≢true}
+use mathlib.Core.List.{List}
+use Prim.Native.Nat.{ℕ, _+_, _-_, _*_, _≤_, _<_}
+use native.Mathlib.Omega.{arith}
+use lib.Dec.{ltb}
+use lib.ListN.{getD, replicate, length-replicate}
+use borrow.Author.Tests.{lt-ltb, le-ltb, ltb-true}
+use Rattle.laws.specs.Choose.{if-yes, if-no}
+use Rattle.laws.specs.Fill.{fill, run}
+use Rattle.laws.specs.FillLaws.{fill-at, fill-same, fill-run}
+use Rattle.order.specs.declared.Reach.{Reach}
+use Rattle.rows.specs.declared.Rows.{Rows}
+use Rattle.refs.specs.declared.Spot.{Spot}
+use Rattle.refs.specs.Substitution.{levelRows}
+use Rattle.refs.specs.Line.{anyBy}
+use Rattle.refs.specs.Spots.{cornerOn, aboveOn, leftOn, planeRows, Few}
+use Rattle.refs.specs.Counts.{startOf, cornerOf, restOf, edgeOf, reached, fromReach}
+
+-- the entries of an edge that are there, and the corner; 0 where none is
+abbrev pub seenEdge : ℕ → (ℕ → ℕ) → List ℕ
+seenEdge have at = fill at have (replicate 65 0)
+
+abbrev pub seenCorner : Reach → ℕ → ℕ
+seenCorner r c = cond (r .corner) c 0
+
+abbrev pub entry : List ℕ → ℕ → ℕ
+entry row i = getD row i 0
+
+-- an edge whose entries from have on, up to count, are rest
+abbrev pub padded : ℕ → ℕ → ℕ → List ℕ → List ℕ
+padded count have rest row = run (λ i. rest) have (count - have) row
+
+-- the rows of what was read: the corner c, the row above, the left column
+unfoldable pub padRows : Reach → ℕ → List ℕ → List ℕ → ℕ → Rows
+padRows r c above left n =
+    let start = startOf r c (entry above) (entry left) in
+    let corner = cornerOf r c (entry left) start in
+    record {
+      corner = corner;
+      above = padded (2 * n + 1) (r .above) (restOf r (entry above) corner) above;
+      left = padded (2 * n + 1) (r .left) start left;
+    }
+
+-- two answers by one test
+by-test : {A : Type 0} (b : Bool) {x y z w : A} → (b ≡ true → x ≡ z) → (b ≡ false → y ≡ w) → cond b x y ≡ cond b z w
+by-test true p q = p refl
+by-test false p q = q refl
+
+-- where neither the left column nor the corner has one, the row above has
+only-above : (a b c : Bool) → (a || b || c) ≡ true → a ≡ false → b ≡ false → c ≡ true
+only-above true b c h p q = absurd (false≢true (sym p))
+only-above false true c h p q = absurd (false≢true (sym q))
+only-above false false c h p q = h
+
+-- an entry that is there is read as it is
+seen-at : (have : ℕ) (at : ℕ → ℕ) (i : ℕ) → have ≤ 65 → i < have → entry (seenEdge have at) i ≡ at i
+seen-at have at i h l = fill-at at have (replicate 65 0) i 0 l (omega (arith, length-replicate {A = ℕ} 65 0))
+
+-- padding what was read makes the edge
+module _ (have : ℕ) (at : ℕ → ℕ) (rest : ℕ) where
+  abbrev on : ℕ → ℕ
+  on i = cond (ltb i have) (at i) rest
+
+  pad-edge : (count : ℕ) → have ≤ count → padded count have rest (seenEdge have at) ≡ edgeOf count have at rest
+  unfolding edgeOf
+  pad-edge count h =
+      ap (run (λ i. rest) have (count - have)) (fill-same at on have (replicate 65 0) (λ i l. ap (λ (b : Bool). cond b (at i) rest) (sym (lt-ltb i have l))))
+      ∙ fill-run on (λ i. rest) have (count - have) (replicate 65 0) (λ j l. ap (λ (b : Bool). cond b (at (have + j)) rest) (sym (le-ltb (have + j) have (omega arith))))
+      ∙ ap (λ (k : ℕ). fill on k (replicate 65 0)) (let q : have + (count - have) ≡ count = omega arith in q)
+
+module _ (r : Reach) (c : ℕ) (above left : ℕ → ℕ) (n : ℕ) (small : n ≤ 32) (ha : r .above ≤ 2 * n + 1) (hl : r .left ≤ 2 * n + 1) where
+  abbrev a : ℕ → ℕ
+  a = entry (seenEdge (r .above) above)
+
+  abbrev l : ℕ → ℕ
+  l = entry (seenEdge (r .left) left)
+
+  corner-seen : r .corner ≡ true → seenCorner r c ≡ c
+  corner-seen t = ap (λ (b : Bool). cond b c 0) t
+
+  start : anyBy (r .corner) (r .above) (r .left) ≡ true → startOf r (seenCorner r c) a l ≡ startOf r c above left
+  start any =
+      by-test (ltb 0 (r .left))
+      (λ t. let p = ltb-true 0 (r .left) t in seen-at (r .left) left (r .left - 1) (omega arith) (omega arith))
+      (λ f. by-test (r .corner) corner-seen (λ g. seen-at (r .above) above 0 (omega arith) (ltb-true 0 (r .above) (only-above _ _ _ any f g))))
+
+  corner : (s : ℕ) → cornerOf r (seenCorner r c) l s ≡ cornerOf r c left s
+  corner s = by-test (r .corner) corner-seen (λ f. by-test (ltb 0 (r .left)) (λ t. seen-at (r .left) left 0 (omega arith) (ltb-true 0 (r .left) t)) (λ g. refl))
+
+  rest : (k : ℕ) → restOf r a k ≡ restOf r above k
+  rest k = by-test (ltb 0 (r .above)) (λ t. let p = ltb-true 0 (r .above) t in seen-at (r .above) above (r .above - 1) (omega arith) (omega arith)) (λ g. refl)
+
+  -- the rows made of what was read are the rows of the samples
+  padded-are : anyBy (r .corner) (r .above) (r .left) ≡ true
+      → padRows r (seenCorner r c) (seenEdge (r .above) above) (seenEdge (r .left) left) n ≡ reached r c above left n
+  unfolding padRows
+  padded-are any =
+      let s = start any in
+      let k = corner (startOf r (seenCorner r c) a l) ∙ ap (cornerOf r c left) s in
+      let z = rest (cornerOf r (seenCorner r c) l (startOf r (seenCorner r c) a l)) ∙ ap (restOf r above) k in
+      λ i.
+      record {
+        corner = k i;
+        above = (pad-edge (r .above) above _ (2 * n + 1) ha ∙ ap (edgeOf (2 * n + 1) (r .above) above) z) i;
+        left = (pad-edge (r .left) left _ (2 * n + 1) hl ∙ ap (edgeOf (2 * n + 1) (r .left) left) s) i;
+      }
+
+-- so are those of what was read out of a plane
+module _ (plane : List ℕ) (s : Spot) (r : Reach) (n neutral : ℕ) where
+  pub finish-none : anyBy (r .corner) (r .above) (r .left) ≡ false → levelRows neutral ≡ planeRows plane s r n neutral
+  unfolding fromReach
+  finish-none gone = if-no (anyBy (r .corner) (r .above) (r .left)) _ (levelRows neutral) (levelRows neutral) gone refl
+
+  pub finish-some : anyBy (r .corner) (r .above) (r .left) ≡ true → Few r n → {a l : List ℕ} {c : ℕ} {v : Rows}
+      → a ≡ seenEdge (r .above) (aboveOn plane s) → l ≡ seenEdge (r .left) (leftOn plane s) → c ≡ seenCorner r (cornerOn plane s) → v ≡ padRows r c a l n
+      → v ≡ planeRows plane s r n neutral
+  unfolding fromReach
+  finish-some any f {a} {l} {c} {v} ea el ec ev =
+      if-yes (anyBy (r .corner) (r .above) (r .left)) (reached r (cornerOn plane s) (aboveOn plane s) (leftOn plane s) n) (levelRows neutral) v any
+      (ev ∙ ap₂ (λ (x y : List ℕ). padRows r c x y n) ea el ∙ ap (λ (k : ℕ). padRows r k (seenEdge (r .above) (aboveOn plane s)) (seenEdge (r .left) (leftOn plane s)) n) ec
+      ∙ padded-are r (cornerOn plane s) (aboveOn plane s) (leftOn plane s) n (f .side) (f .above-few) (f .left-few) any)
+
+-- rows from their parts
+pub from-parts : {c : ℕ} {a l : List ℕ} (r : Rows) → c ≡ r .corner → a ≡ r .above → l ≡ r .left → _≡_ {A = Rows} (record { corner = c; above = a; left = l }) r
+from-parts r ec ea el = λ i. record { corner = ec i; above = ea i; left = el i }

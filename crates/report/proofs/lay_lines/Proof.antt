@@ -1,0 +1,84 @@
+-- `report::lay_lines` meets its contract. The loop keeps the lines of the blocks passed, and where the next residuals begin.
+use borrow.Author.Needs.{needs}
+use Prim.Native.Nat.{_-_, _*_, _≤_}
+use mathlib.Core.Path.{_≡_, ap}
+use native.Mathlib.Omega.{arith}
+use lib.ListN.{length}
+use Rattle.plan.specs.Plan.{planOf, place}
+use Rattle.walk.specs.Laws.{place-none, place-more}
+use Rattle.report.specs.Told.{lines}
+use Rattle.report.specs.Laws.{Laid, said, lines-none, square, among, next-line}
+use Rattle.report.proofs.lay_lines.Statement.{statement}
+use Rattle.report.proofs.lay_lines.Tie as tie
+
+abbrev Inv-loop : tie.InvT-loop
+Inv-loop out₀ plan residuals end₀ at₀ k₀ out end at k =
+    (k ≤ length plan) × ((at ≡ place (planOf plan .block) k) × ((length out ≡ length out₀) × Laid 0 (lines (planOf plan .block) residuals k) out₀ out end (105 * k)))
+
+abbrev μ-loop : tie.MeasureT-loop
+μ-loop out₀ plan residuals end₀ at₀ k₀ out end at k = length plan - k
+
+loop-holds : tie.Need-loop-holds Inv-loop μ-loop
+loop-holds c = (search needs, (place-none _, (search needs, lines-none _ _ _)))
+
+block-at-requires : tie.Need-block-at-requires Inv-loop μ-loop
+block-at-requires c κs = search needs
+
+cast-n : tie.Need-cast-n Inv-loop μ-loop
+cast-n c = search needs
+
+mul-sum-of : tie.Need-mul-sum-of Inv-loop μ-loop
+mul-sum-of c = record { fits = omega (arith, square (planOf (c .before .before .before .before .before .before .args .plan .now)) (c .before .before .before .before .before .before .args .residuals .now) (c .before .before .before .before .before .before .pre .0) (c .before .before .before .before .loop .k) _ _ (c .before .before .before .loop-test .taken) (c .before .before .before .before .loop .inv .1 .0) (c .before .before .block-at .ensures)) }
+
+sum-of-requires : tie.Need-sum-of-requires Inv-loop μ-loop
+sum-of-requires c κs =
+    let p = planOf (c .before .before .before .before .before .before .args .plan .now) in
+    (among p (c .before .before .before .before .before .before .args .residuals .now) (c .before .before .before .before .before .before .pre .0) (c .before .before .before .before .loop .k) _ _ (c .before .before .before .loop-test .taken) (c .before .before .before .before .loop .inv .1 .0) (c .before .before .block-at .ensures), square p (c .before .before .before .before .before .before .args .residuals .now) (c .before .before .before .before .before .before .pre .0) (c .before .before .before .before .loop .k) _ _ (c .before .before .before .loop-test .taken) (c .before .before .before .before .loop .inv .1 .0) (c .before .before .block-at .ensures))
+
+lay-line-requires : tie.Need-lay-line-requires Inv-loop μ-loop
+lay-line-requires c κs = omega (arith, c .before .before .before .before .before .loop .inv .1 .1 .1 .ends, c .before .before .before .before .before .loop .inv .1 .1 .1 .short, c .before .before .before .before .before .before .before .pre .0 .few)
+
+mul-at : tie.Need-mul-at Inv-loop μ-loop
+mul-at c = record { fits = omega (arith, square (planOf (c .before .before .before .before .before .before .before .before .before .before .args .plan .now)) (c .before .before .before .before .before .before .before .before .before .before .args .residuals .now) (c .before .before .before .before .before .before .before .before .before .before .pre .0) (c .before .before .before .before .before .before .before .before .loop .k) _ _ (c .before .before .before .before .before .before .before .loop-test .taken) (c .before .before .before .before .before .before .before .before .loop .inv .1 .0) (c .before .before .before .before .before .before .block-at .ensures)) }
+
+add-at : tie.Need-add-at Inv-loop μ-loop
+add-at c = record { fits = omega (arith, among (planOf (c .before .before .before .before .before .before .before .before .before .before .args .plan .now)) (c .before .before .before .before .before .before .before .before .before .before .args .residuals .now) (c .before .before .before .before .before .before .before .before .before .before .pre .0) (c .before .before .before .before .before .before .before .before .loop .k) _ _ (c .before .before .before .before .before .before .before .loop-test .taken) (c .before .before .before .before .before .before .before .before .loop .inv .1 .0) (c .before .before .before .before .before .before .block-at .ensures)) }
+
+add-k : tie.Need-add-k Inv-loop μ-loop
+add-k c = search needs
+
+loop-less : tie.Need-loop-less Inv-loop μ-loop
+loop-less c = search needs
+
+loop-again : tie.Need-loop-again Inv-loop μ-loop
+loop-again c =
+    let p = planOf (c .before .before .before .before .before .before .before .before .before .before .args .plan .now) in
+    let l = c .before .before .before .before .before .before .before .before .loop in
+    let t = c .before .before .before .before .before .before .before .loop-test .taken in
+    (search needs, (place-more (p .block) (l .k) (l .at) _ (l .inv .1 .0) (c .before .before .before .before .before .before .block-at .ensures), (search needs, next-line p (c .before .before .before .before .before .before .before .before .before .before .args .residuals .now) (c .before .before .before .before .before .before .before .before .before .before .pre .0) (l .k) (l .at) _ t (l .inv .1 .0) (c .before .before .before .before .before .before .block-at .ensures) (l .inv .1 .1 .1) (c .before .before .before .sum-of .ensures) (c .before .before .lay-line .ensures) (omega (arith, c .before .before .before .before .before .before .before .before .before .before .pre .0 .few)))))
+
+same-length : tie.Need-same-length Inv-loop μ-loop
+same-length c = search needs
+
+returns : tie.Need-returns Inv-loop μ-loop
+returns c = let e : c .before .loop .k ≡ length (c .before .before .before .args .plan .now) = omega arith in said _ 53760 (c .before .loop .inv .1 .1 .1) (ap (lines _ _) e) (omega (arith, c .before .before .before .pre .0 .few))
+
+pub lay-lines-spec : {M : Type 1} → statement M
+lay-lines-spec =
+    tie.close
+    (tie.spec
+    Inv-loop
+    μ-loop
+    loop-holds
+    block-at-requires
+    cast-n
+    mul-sum-of
+    sum-of-requires
+    lay-line-requires
+    mul-at
+    add-at
+    add-k
+    loop-less
+    loop-again
+    same-length
+    returns)

@@ -1,0 +1,47 @@
+-- `report::lay_report` meets its contract: number 12 before everything.
+use mathlib.Core.Path.{sym, _∙_}
+use mathlib.Core.Bool.{true, false}
+use native.Mathlib.Omega.{arith}
+use borrow.Author.Tests.{not-true, not-false}
+use Rattle.report.specs.Laws.{said}
+use Rattle.report.specs.Whole.{long-file, held-file, printed-is}
+use borrow.Author.Needs.{needs}
+use Rattle.report.proofs.lay_report.Statement.{statement}
+use Rattle.report.proofs.lay_report.Tie as tie
+
+file-ok-requires : tie.Need-file-ok-requires
+file-ok-requires c κs = search needs
+
+lay-refusal-requires : tie.Need-lay-refusal-requires
+lay-refusal-requires c κs = search needs
+
+same-length : tie.Need-same-length
+same-length c = search needs
+
+returns : tie.Need-returns
+returns c = said _ 65536 (c .before .before .lay-refusal .ensures) (printed-is _ false (sym (c .before .before .before .before .before .file-ok .ensures) ∙ not-true _ (c .before .before .before .before .if1 .taken))) (omega arith)
+
+trailer-of-requires : tie.Need-trailer-of-requires
+trailer-of-requires c κs = long-file _ (sym (c .before .file-ok .ensures) ∙ not-false _ (c .if1 .left))
+
+tell-file-requires : tie.Need-tell-file-requires
+tell-file-requires c κs = (held-file _ _ (sym (c .before .before .before .file-ok .ensures) ∙ not-false _ (c .before .before .if1 .left)) (c .before .trailer-of .ensures), search needs)
+
+same-length-2 : tie.Need-same-length-2
+same-length-2 c = search needs
+
+returns-2 : tie.Need-returns-2
+returns-2 c = said _ 65536 (c .before .before .tell-file .ensures) (printed-is _ true (sym (c .before .before .before .before .before .before .file-ok .ensures) ∙ not-false _ (c .before .before .before .before .before .if1 .left))) (omega arith)
+
+pub lay-report-spec : {M : Type 1} → statement M
+lay-report-spec =
+    tie.close
+    (tie.spec
+    file-ok-requires
+    lay-refusal-requires
+    same-length
+    returns
+    trailer-of-requires
+    tell-file-requires
+    same-length-2
+    returns-2)

@@ -1,0 +1,95 @@
+-- Document 01, 'The program': what it prints, from the walk of the still and from the replay of its residuals over zeros. Assumes nothing.
+use Prim.Native.Nat.{ℕ, zero, suc, _+_, _*_}
+use mathlib.Core.Bool.{Bool, true, cond, _&&_}
+use mathlib.Core.List.{List, [], _∷_, _++_}
+use lib.Dec.{eqb}
+use lib.IntN.{ℤ, pos, natAbs}
+use lib.ListN.{length, getD, replicate}
+use Rattle.plan.specs.declared.Verdict.{Verdict}
+use Rattle.plan.specs.declared.Block.{Block}
+use Rattle.plan.specs.Plan.{Plan, planOf, place}
+use Rattle.walk.specs.declared.Still.{Still}
+use Rattle.walk.specs.declared.Progress.{Progress}
+use Rattle.walk.specs.Block.{World}
+use Rattle.walk.specs.Door.{Tables, walkVerdict, walkAfter, replayAfter}
+use Rattle.report.specs.declared.Printout.{Printout}
+use Rattle.report.specs.File.{trailerOf, fileOk, stillOf, sourceOf, recordsOf}
+use Rattle.report.specs.Text.{number, laid}
+
+-- a file's contents: the still, its plan and its source
+pub record Job : Type 0 where
+  pub still : Still
+  pub plan : Plan
+  pub source : List ℕ
+
+abbrev pub jobOf : List ℕ → Job
+jobOf b = let t = trailerOf b in record { still = stillOf t; plan = planOf (recordsOf b t); source = sourceOf b t }
+
+-- the program's own: scratch tables, a fresh record, a plane of zeros, work plane and residuals before the walk
+abbrev pub tables : Tables
+tables = record { refs = 193; indices = 32; fractions = 32 }
+
+abbrev pub fresh : Progress
+fresh = record { done = 0 }
+
+abbrev pub zeros : Still → List ℕ
+zeros s = replicate (s .frame .height * s .frame .width) 0
+
+abbrev pub blank : Still → World
+blank s = record { work = zeros s; residuals = replicate (s .frame .height * s .frame .width) (pos 0) }
+
+-- the walk's verdict and its residuals
+abbrev pub verdict : Job → Verdict
+verdict j = walkVerdict (j .still) (j .plan) tables fresh (j .source) (blank (j .still))
+
+abbrev pub residuals : Job → List ℤ
+residuals j = walkAfter (j .still) (j .plan) tables fresh (j .plan .count) (j .source) (blank (j .still)) .residuals
+
+-- the replay over zeros
+abbrev pub replayed : Job → List ℕ
+replayed j = replayAfter (j .still) (j .plan) tables fresh (j .plan .count) (residuals j) (zeros (j .still))
+
+-- whether the first k entries are the same
+unfoldable pub agree : List ℕ → List ℕ → ℕ → Bool
+agree a b zero = true
+agree a b (suc k) = agree a b k && eqb (getD a k 0) (getD b k 0)
+
+-- the sum of k absolute residuals from `at` on
+unfoldable pub absolutes : List ℤ → ℕ → ℕ → ℕ
+absolutes v at zero = 0
+absolutes v at (suc k) = absolutes v at k + natAbs (getD v (at + k) (pos 0))
+
+-- a line for a block: row, column, side, mode, sum
+abbrev pub line : Block → ℕ → List ℕ
+line b sum = number (b .row) 32 ++ number (b .col) 32 ++ number (b .side) 32 ++ number (b .mode) 32 ++ number sum 10
+
+-- the lines of the first k blocks
+unfoldable pub lines : (ℕ → Block) → List ℤ → ℕ → List ℕ
+lines plan v zero = []
+lines plan v (suc k) = lines plan v k ++ line (plan k) (absolutes v (place plan k) (plan k .side * plan k .side))
+
+-- `refused N B`
+abbrev pub refusal : ℕ → ℕ → List ℕ
+refusal n block = (114 ∷ 101 ∷ 102 ∷ 117 ∷ 115 ∷ 101 ∷ 100 ∷ 32 ∷ []) ++ number n 32 ++ number block 10
+
+-- `end COUNT same` or `end COUNT differs`
+abbrev pub ending : ℕ → Bool → List ℕ
+ending count same =
+    (101 ∷ 110 ∷ 100 ∷ 32 ∷ []) ++ number count 32
+    ++ cond same (115 ∷ 97 ∷ 109 ∷ 101 ∷ 10 ∷ []) (100 ∷ 105 ∷ 102 ∷ 102 ∷ 101 ∷ 114 ∷ 115 ∷ 10 ∷ [])
+
+-- what is printed of a file that number 12 is not given for
+unfoldable pub told : Job → List ℕ
+told j =
+    let v = verdict j in
+    cond (eqb (v .no) 0)
+    (lines (j .plan .block) (residuals j) (j .plan .count) ++ ending (j .plan .count) (agree (replayed j) (j .source) (length (j .source))))
+    (refusal (v .no) (v .block))
+
+-- and of every input: number 12 comes before everything
+unfoldable pub printed : List ℕ → List ℕ
+printed b = cond (fileOk b) (told (jobOf b)) (refusal 12 0)
+
+-- the text in its buffer, and its length
+abbrev pub reportOf : List ℕ → Printout
+reportOf b = record { text = laid 0 (printed b) (replicate 65536 0); length = length (printed b) }

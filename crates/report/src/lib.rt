@@ -1,0 +1,425 @@
+// What intrawalk prints of its input (document 01, 'The program'): the whole text, from the bytes alone.
+// Rests on the contracts of walk and replay, and on the kit's for decimal numbers.
+ghost use mathlib.Core.Path.{_≡_};
+ghost use Prim.Native.Nat.{ℕ, _+_, _-_, _*_, _≤_, _<_};
+ghost use lib.ListN.{replicate};
+ghost use lib.ListN.{length as count};
+ghost use lib.IntN.{pos, natAbs};
+ghost use Rattle.laws.specs.Fill.{fill};
+ghost use Rattle.laws.specs.Bytes.{leAt};
+ghost use Rattle.report.specs.File.{trailerOf, area, regionsOk, fileOk, stillOf, recordAt};
+ghost use Rattle.report.specs.Text.{number};
+ghost use Rattle.plan.specs.Plan.{planOf};
+ghost use Rattle.walk.specs.Door.{replayAfter};
+ghost use Rattle.report.specs.Told.{tables, fresh, agree, line, lines, absolutes, refusal, ending, told, jobOf, printed, reportOf};
+ghost use Rattle.report.specs.Laws.{Laid, Listed, Walked};
+ghost use Rattle.report.specs.Whole.{Blank, Held};
+use plan::Block;
+use plan::Frame;
+use walk::Progress;
+use walk::Stepped;
+use walk::Still;
+
+// The text and how many bytes it has.
+pub struct Printout {
+    pub text: [u8; 65536],
+    pub length: usize,
+}
+
+// The last 16 bytes of the input.
+struct Trailer {
+    samples: u32,
+    plan: u32,
+    blocks: u16,
+    width: u16,
+    height: u16,
+    bits: u8,
+    ctu: u8,
+}
+
+// Two bytes, the lowest first.
+fn two_at(b: &[u8], i: usize) -> u16
+    requires { ⌜ i + 2 ≤ count (now b) ⌝ }
+    ensures { λ r. ⌜ r ≡ leAt 2 (now (b .entry)) i ⌝ }
+{
+    bytes::sample(b[i], b[i + 1])
+}
+
+// Four bytes, the lowest first.
+fn four_at(b: &[u8], i: usize) -> u32
+    requires { ⌜ i + 4 ≤ count (now b) ⌝ }
+    ensures { λ r. ⌜ r ≡ leAt 4 (now (b .entry)) i ⌝ }
+{
+    (two_at(b, i) as u32) + 65536 * (two_at(b, i + 2) as u32)
+}
+
+fn trailer_of(b: &[u8]) -> Trailer
+    requires { ⌜ 16 ≤ count (now b) ⌝ }
+    ensures { λ r. ⌜ r ≡ trailerOf (now (b .entry)) ⌝ }
+{
+    let t = b.len() - 16;
+    let samples = four_at(b, t);
+    let plan = four_at(b, t + 4);
+    let blocks = two_at(b, t + 8);
+    let width = two_at(b, t + 10);
+    let height = two_at(b, t + 12);
+    Trailer {
+        samples,
+        plan,
+        blocks,
+        width,
+        height,
+        bits: b[t + 14],
+        ctu: b[t + 15],
+    }
+}
+
+// How many samples the picture has.
+fn area_of(t: Trailer) -> usize
+    ensures { λ r. ⌜ (r ≡ area t) × (r < 4294967296) ⌝ }
+{
+    (t.height as usize) * (t.width as usize)
+}
+
+// Whether counts and regions are within their limits; the trailer starts at `start`.
+fn regions_ok(t: Trailer, start: usize) -> bool
+    ensures { λ r. ⌜ r ≡ regionsOk t start ⌝ }
+{
+    let samples = area_of(t);
+    let blocks = t.blocks as usize;
+    (samples <= 8192)
+        & (blocks <= 512)
+        & ((t.samples as usize) + 2 * samples <= start)
+        & ((t.plan as usize) + 6 * blocks <= start)
+}
+
+// Whether number 12 is not given.
+fn file_ok(b: &[u8]) -> bool
+    ensures { λ r. ⌜ r ≡ fileOk (now (b .entry)) ⌝ }
+{
+    if b.len() < 16 {
+        return false;
+    }
+    if b.len() > 65536 {
+        return false;
+    }
+    regions_ok(trailer_of(b), b.len() - 16)
+}
+
+// Room for a plane, for a picture's residuals and for the text, each of zeros.
+fn blank_plane() -> [u16; 8192]
+    ensures { λ r. ⌜ r ≡ replicate 8192 0 ⌝ }
+{
+    [0; 8192]
+}
+
+fn blank_residuals() -> [i32; 8192]
+    ensures { λ r. ⌜ r ≡ replicate 8192 (pos 0) ⌝ }
+{
+    [0; 8192]
+}
+
+fn blank_text() -> [u8; 65536]
+    ensures { λ r. ⌜ (r ≡ replicate 65536 0) × (count r ≡ 65536) ⌝ }
+{
+    [0; 65536]
+}
+
+// So many samples from `at` on.
+fn read_samples(b: &[u8], at: usize, many: usize) -> [u16; 8192]
+    requires { ⌜ (at + 2 * many ≤ count (now b)) × (many ≤ 8192) ⌝ }
+    ensures { λ r. ⌜ r ≡ fill (λ (i : ℕ). leAt 2 (now (b .entry)) (at + 2 * i)) many (replicate 8192 0) ⌝ }
+{
+    let mut source = [0u16; 8192];
+    let mut i = 0;
+    while i < many {
+        source[i] = two_at(b, at + 2 * i);
+        i += 1;
+    }
+    source
+}
+
+fn wide(x: u8) -> u32
+    ensures { λ r. ⌜ r ≡ x ⌝ }
+{
+    x as u32
+}
+
+// A block record.
+fn record_at(b: &[u8], at: usize) -> [u32; 4]
+    requires { ⌜ at + 6 ≤ count (now b) ⌝ }
+    ensures { λ r. ⌜ r ≡ recordAt (now (b .entry)) at ⌝ }
+{
+    let row = two_at(b, at) as u32;
+    let col = two_at(b, at + 2) as u32;
+    let side = wide(b[at + 4]);
+    let mode = wide(b[at + 5]);
+    [row, col, side, mode]
+}
+
+// So many block records from `at` on.
+fn read_plan(b: &[u8], at: usize, many: usize) -> [[u32; 4]; 512]
+    requires { ⌜ (at + 6 * many ≤ count (now b)) × (many ≤ 512) ⌝ }
+    ensures { λ r. ⌜ r ≡ fill (λ (k : ℕ). recordAt (now (b .entry)) (at + 6 * k)) many (replicate 512 (replicate 4 0)) ⌝ }
+{
+    let mut plan = [[0u32; 4]; 512];
+    let mut k = 0;
+    while k < many {
+        plan[k] = record_at(b, at + 6 * k);
+        k += 1;
+    }
+    plan
+}
+
+// Lays a text over a buffer from `at` on, and tells where it ends.
+fn lay(out: &mut [u8], at: usize, s: &[u8]) -> usize
+    requires { ⌜ at + count (now s) ≤ count (now out) ⌝ }
+    ensures { λ r. ⌜ Laid at (now (s .entry)) (now (out .entry)) (now (out .exit)) r (count (now (s .entry))) ⌝ }
+{
+    let mut i = 0;
+    while i < s.len() {
+        out[at + i] = s[i];
+        i += 1;
+    }
+    at + i
+}
+
+// A number in decimal, and the byte after it.
+fn lay_number(out: &mut [u8], at: usize, n: u64, after: u8) -> usize
+    requires { ⌜ at + 21 ≤ count (now out) ⌝ }
+    ensures { λ r. ⌜ Laid at (number n after) (now (out .entry)) (now (out .exit)) r 21 ⌝ }
+{
+    let mut digits = [0u8; 20];
+    let k = io::decimal(n, &mut digits);
+    let next = lay(&mut *out, at, &digits[..k]);
+    let last = [after];
+    lay(&mut *out, next, &last)
+}
+
+// A line for a block.
+fn lay_line(out: &mut [u8], at: usize, b: Block, sum: u64) -> usize
+    requires { ⌜ at + 105 ≤ count (now out) ⌝ }
+    ensures { λ r. ⌜ Laid at (line b sum) (now (out .entry)) (now (out .exit)) r 105 ⌝ }
+{
+    let row = lay_number(&mut *out, at, b.row as u64, b' ');
+    let col = lay_number(&mut *out, row, b.col as u64, b' ');
+    let side = lay_number(&mut *out, col, b.side as u64, b' ');
+    let mode = lay_number(&mut *out, side, b.mode as u64, b' ');
+    lay_number(&mut *out, mode, sum, b'\n')
+}
+
+fn absolute(r: i32) -> u64
+    ensures { λ a. ⌜ (a ≡ natAbs r) × (a < 4294967296) ⌝ }
+{
+    helpers::abs(r) as u64
+}
+
+// The sum of k absolute residuals from `at` on.
+fn sum_of(residuals: &[i32], at: usize, k: usize) -> u64
+    requires { ⌜ (at + k ≤ count (now residuals)) × (k ≤ 1024) ⌝ }
+    ensures { λ r. ⌜ r ≡ absolutes (now (residuals .entry)) at k ⌝ }
+{
+    let mut sum: u64 = 0;
+    let mut i = 0;
+    while i < k {
+        sum += absolute(residuals[at + i]);
+        i += 1;
+    }
+    sum
+}
+
+// Block i of a plan.
+fn block_at(plan: &[[u32; 4]], i: usize) -> Block
+    requires { ⌜ i < count (now plan) ⌝ }
+    ensures { λ r. ⌜ r ≡ planOf (now (plan .entry)) .block i ⌝ }
+{
+    Block {
+        row: plan[i][0],
+        col: plan[i][1],
+        side: plan[i][2],
+        mode: plan[i][3],
+    }
+}
+
+// The lines of all blocks.
+fn lay_lines(out: &mut [u8], plan: &[[u32; 4]], residuals: &[i32]) -> usize
+    requires { ⌜ Listed (planOf (now plan)) (count (now residuals)) × (65536 ≤ count (now out)) ⌝ }
+    ensures { λ r. ⌜ Laid 0 (lines (planOf (now (plan .entry)) .block) (now (residuals .entry)) (count (now (plan .entry)))) (now (out .entry)) (now (out .exit)) r 53760 ⌝ }
+{
+    let mut end = 0;
+    let mut at = 0;
+    let mut k = 0;
+    while k < plan.len() {
+        let b = block_at(plan, k);
+        let n = b.side as usize;
+        end = lay_line(&mut *out, end, b, sum_of(residuals, at, n * n));
+        at += n * n;
+        k += 1;
+    }
+    end
+}
+
+// `refused N B`
+fn lay_refusal(out: &mut [u8], number: u32, block: u32) -> usize
+    requires { ⌜ 65536 ≤ count (now out) ⌝ }
+    ensures { λ r. ⌜ Laid 0 (refusal number block) (now (out .entry)) (now (out .exit)) r 50 ⌝ }
+{
+    let word = lay(&mut *out, 0, b"refused ");
+    let next = lay_number(&mut *out, word, number as u64, b' ');
+    lay_number(&mut *out, next, block as u64, b'\n')
+}
+
+// `end COUNT same` or `end COUNT differs`
+fn lay_ending(out: &mut [u8], at: usize, blocks: usize, same: bool) -> usize
+    requires { ⌜ at + 33 ≤ count (now out) ⌝ }
+    ensures { λ r. ⌜ Laid at (ending blocks same) (now (out .entry)) (now (out .exit)) r 33 ⌝ }
+{
+    let word = lay(&mut *out, at, b"end ");
+    let next = lay_number(&mut *out, word, blocks as u64, b' ');
+    if same {
+        return lay(&mut *out, next, b"same\n");
+    }
+    lay(&mut *out, next, b"differs\n")
+}
+
+// Whether two planes of one length are the same.
+fn agrees(a: &[u16], b: &[u16]) -> bool
+    requires { ⌜ count (now a) ≡ count (now b) ⌝ }
+    ensures { λ r. ⌜ r ≡ agree (now (a .entry)) (now (b .entry)) (count (now (b .entry))) ⌝ }
+{
+    let mut same = true;
+    let mut i = 0;
+    while i < b.len() {
+        same = same & (a[i] == b[i]);
+        i += 1;
+    }
+    same
+}
+
+// The whole walk.
+fn walk_all(
+    still: Still,
+    plan: &[[u32; 4]],
+    source: &[u16],
+    work: &mut [u16],
+    residuals: &mut [i32],
+) -> Stepped
+    requires { ⌜ count (now plan) ≤ 512 ⌝ }
+    ensures { λ r. ⌜ Walked (record { still = still; plan = planOf (now (plan .entry)); source = now (source .entry) }) (record { work = now (work .entry); residuals = now (residuals .entry) }) (record { work = now (work .exit); residuals = now (residuals .exit) }) r ⌝ }
+{
+    let mut refs = [0u16; 193];
+    let mut indices = [0u32; 32];
+    let mut fractions = [0u32; 32];
+    Progress::fresh().walk_numbers(
+        still,
+        plan,
+        source,
+        &mut *work,
+        &mut *residuals,
+        &mut refs,
+        &mut indices,
+        &mut fractions,
+        plan.len() as u32,
+    )
+}
+
+// The whole replay.
+fn replay_all(still: Still, plan: &[[u32; 4]], residuals: &[i32], plane: &mut [u16])
+    requires { ⌜ count (now plan) ≤ 512 ⌝ }
+    ensures { λ _. ⌜ now (plane .exit) ≡ replayAfter still (planOf (now (plan .entry))) tables fresh (count (now (plan .entry))) (now (residuals .entry)) (now (plane .entry)) ⌝ }
+{
+    let mut refs = [0u16; 193];
+    let mut indices = [0u32; 32];
+    let mut fractions = [0u32; 32];
+    Progress::fresh().replay_numbers(
+        still,
+        plan,
+        residuals,
+        &mut *plane,
+        &mut refs,
+        &mut indices,
+        &mut fractions,
+        plan.len() as u32,
+    );
+}
+
+// The text of a still with its plan and its source; the other slices are lent for the work.
+fn tell(
+    out: &mut [u8],
+    still: Still,
+    plan: &[[u32; 4]],
+    source: &[u16],
+    work: &mut [u16],
+    residuals: &mut [i32],
+    plane: &mut [u16],
+) -> usize
+    requires { ⌜ Blank still (count (now plan)) (record { work = now work; residuals = now residuals }) (now plane) (count (now out)) ⌝ }
+    ensures { λ r. ⌜ Laid 0 (told (record { still = still; plan = planOf (now (plan .entry)); source = now (source .entry) })) (now (out .entry)) (now (out .exit)) r 65536 ⌝ }
+{
+    let walked = walk_all(still, plan, source, &mut *work, &mut *residuals);
+    if walked.no != 0 {
+        return lay_refusal(&mut *out, walked.no, walked.block);
+    }
+    replay_all(still, plan, residuals, &mut *plane);
+    let same = agrees(plane, source);
+    let lines = lay_lines(&mut *out, plan, residuals);
+    lay_ending(&mut *out, lines, plan.len(), same)
+}
+
+fn still_of(t: Trailer) -> Still
+    ensures { λ r. ⌜ r ≡ stillOf t ⌝ }
+{
+    let frame = Frame {
+        width: t.width as u32,
+        height: t.height as u32,
+        ctu: t.ctu as u32,
+    };
+    Still {
+        bits: t.bits as u32,
+        frame,
+    }
+}
+
+// The text of a file that number 12 is not given for.
+fn tell_file(out: &mut [u8], b: &[u8], t: Trailer) -> usize
+    requires { ⌜ Held (now b) t × (65536 ≤ count (now out)) ⌝ }
+    ensures { λ r. ⌜ Laid 0 (told (jobOf (now (b .entry)))) (now (out .entry)) (now (out .exit)) r 65536 ⌝ }
+{
+    let samples = area_of(t);
+    let blocks = t.blocks as usize;
+    let source = read_samples(b, t.samples as usize, samples);
+    let plan = read_plan(b, t.plan as usize, blocks);
+    let mut work = blank_plane();
+    let mut residuals = blank_residuals();
+    let mut plane = blank_plane();
+    tell(
+        &mut *out,
+        still_of(t),
+        &plan[..blocks],
+        &source[..samples],
+        &mut work[..samples],
+        &mut residuals[..samples],
+        &mut plane[..samples],
+    )
+}
+
+// A text of its own for a file, or its refusal.
+fn lay_report(out: &mut [u8], input: &[u8]) -> usize
+    requires { ⌜ 65536 ≤ count (now out) ⌝ }
+    ensures { λ r. ⌜ Laid 0 (printed (now (input .entry))) (now (out .entry)) (now (out .exit)) r 65536 ⌝ }
+{
+    if !file_ok(input) {
+        return lay_refusal(&mut *out, 12, 0);
+    }
+    let t = trailer_of(input);
+    tell_file(&mut *out, input, t)
+}
+
+// What intrawalk prints of its whole input.
+pub fn report(input: &[u8]) -> Printout
+    ensures { λ r. ⌜ r ≡ reportOf (now (input .entry)) ⌝ }
+{
+    let mut text = blank_text();
+    let length = lay_report(&mut text, input);
+    Printout { text, length }
+}

@@ -1,0 +1,104 @@
+/* Salvrunde: intra prediction of H.265 for still pictures, for firmware in C. C99; also C++.
+ *
+ * Every entry takes numbers and byte buffers, keeps nothing between calls, allocates nothing and makes its own scratch.
+ *
+ * Samples are two bytes each, residuals four (two's complement), the lowest byte first, whatever the processor. A buffer is a pointer and its length in bytes. No pointer
+ * may be null, the bytes must be there, and a buffer that is written must share no byte with another buffer of the same call.
+ *
+ * Every entry gives back a number, below. Checks are made in the order that the entry's comment names; the first that fails counts.
+ * A call that is refused writes nothing, but for the replay's result. A call that is served writes what its comment says; bytes beyond stay as they were. */
+#ifndef SALVRUNDE_H
+#define SALVRUNDE_H
+
+#include <stddef.h>
+#include <stdint.h>
+
+#ifdef __cplusplus
+extern "C" {
+#endif
+
+/* What an entry gives back. */
+enum {
+    SALVRUNDE_DONE = 0,
+    SALVRUNDE_DEPTH = 1,   /* the depth is not 8, 10 or 12 bits */
+    SALVRUNDE_SIZE = 2,    /* the block's side n is not 4, 8, 16 or 32 */
+    SALVRUNDE_MODE = 3,    /* the mode is above 34; below 2 at the angular entry */
+    SALVRUNDE_PICTURE = 4, /* a side is no multiple of 8 from 8 to 4096, the CTU is not 16, 32 or 64, or the format has no chroma */
+    SALVRUNDE_BUFFER = 5,  /* a buffer is too short, a plane or residuals not exactly as long as the picture, or a plan not whole records */
+    SALVRUNDE_PLACE = 6,   /* the block is not at a multiple of n or not in its plane, or n, the unit or the current place is wrong */
+    SALVRUNDE_RESIDUAL = 8, /* a residual is below -65535 or above 65535 */
+    SALVRUNDE_ORDER = 9,   /* a block does not start at the next uncovered cell, or none is left */
+    SALVRUNDE_GAP = 10,    /* the plan ends with cells uncovered */
+    SALVRUNDE_START = 11   /* the progress record is above the count of blocks */
+};
+
+/* chroma_format_idc, for `format`. */
+enum {
+    SALVRUNDE_MONOCHROME = 0, /* has no chroma: number 4 */
+    SALVRUNDE_YUV420 = 1,
+    SALVRUNDE_YUV422 = 2,
+    SALVRUNDE_YUV444 = 3
+};
+
+/* Bytes of reference rows: the corner, 65 samples above from left to right, 65 samples left from top to bottom. */
+#define SALVRUNDE_REFS_BYTES 262
+/* Bytes of those of Cb and then those of Cr. */
+#define SALVRUNDE_PAIR_BYTES 524
+/* Least bytes of one row that a block is predicted from. */
+#define SALVRUNDE_ROW_BYTES 130
+/* Bytes of a block's record in a plan: row and column, two bytes each, the lower first, then side and mode, one byte each. */
+#define SALVRUNDE_RECORD_BYTES 6
+/* Bytes of the replay's result: the block's list number and the next progress record, four bytes each, the lowest first. */
+#define SALVRUNDE_RESULT_BYTES 8
+/* Bytes of a block of side n. */
+#define SALVRUNDE_BLOCK_BYTES(n) (2 * (n) * (n))
+
+/* The reference rows of a luma block, neighbours that are missing substituted.
+ * plane: exactly 2 * width * height bytes. ctu: 16, 32 or 64. unit: the least unit, 4 or 8, at most n. row, col: the block's first
+ * sample, multiples of n. out: at least SALVRUNDE_REFS_BYTES, which are written. Numbers 1, 2, 4, 5, 6. */
+uint32_t salvrunde_luma_refs(uint32_t bits, uint32_t width, uint32_t height, uint32_t ctu, uint32_t unit, uint32_t row, uint32_t col,
+                             uint32_t n, const uint8_t *plane, size_t plane_bytes, uint8_t *out, size_t out_bytes);
+
+/* The reference rows of a chroma block in both planes. Order is counted in CTUs of 64.
+ * format: a chroma_format_idc. luma_width, luma_height: the luma picture's sides. row, col: the block's first sample in its plane.
+ * cur_luma_row, cur_luma_col: the luma sample that is being decoded. cb, cr: each exactly 2 bytes a sample of its plane.
+ * out: at least SALVRUNDE_PAIR_BYTES, which are written, Cb's rows first. Numbers 1, 2, 4, 5, 6. */
+uint32_t salvrunde_chroma_refs(uint32_t bits, uint32_t format, uint32_t luma_width, uint32_t luma_height, uint32_t unit, uint32_t row,
+                               uint32_t col, uint32_t n, uint32_t cur_luma_row, uint32_t cur_luma_col, const uint8_t *cb, size_t cb_bytes,
+                               const uint8_t *cr, size_t cr_bytes, uint8_t *out, size_t out_bytes);
+
+/* Prediction: above and left have at least SALVRUNDE_ROW_BYTES each; out has at least SALVRUNDE_BLOCK_BYTES(n), which are written, the
+ * block's samples row by row. edge: not 0 where edges are to be filtered, as for luma; a block of side 32 has no filtered edge. */
+
+/* Planar. Numbers 2, 5. */
+uint32_t salvrunde_planar(uint32_t n, const uint8_t *above, size_t above_bytes, const uint8_t *left, size_t left_bytes, uint8_t *out,
+                          size_t out_bytes);
+
+/* DC. Numbers 2, 5. */
+uint32_t salvrunde_dc(uint32_t n, uint32_t edge, const uint8_t *above, size_t above_bytes, const uint8_t *left, size_t left_bytes,
+                      uint8_t *out, size_t out_bytes);
+
+/* An angular mode, 2 to 34. Numbers 1, 2, 3, 5. */
+uint32_t salvrunde_angular(uint32_t bits, uint32_t n, uint32_t mode, uint32_t edge, uint16_t corner, const uint8_t *above,
+                           size_t above_bytes, const uint8_t *left, size_t left_bytes, uint8_t *out, size_t out_bytes);
+
+/* A chroma block in any mode, 0 to 34: nothing is smoothed, no edge is filtered. Numbers 1, 2, 3, 5. */
+uint32_t salvrunde_chroma_block(uint32_t bits, uint32_t n, uint32_t mode, uint16_t corner, const uint8_t *above, size_t above_bytes,
+                                const uint8_t *left, size_t left_bytes, uint8_t *out, size_t out_bytes);
+
+/* Decodes the next blocks of a still from their residuals, as many as are granted, in the plane's own bytes; other samples stay as they are.
+ * done: the progress record, the number of blocks done, 0 at the start. grant: the most blocks that this call may do; 0 does nothing.
+ * plan: SALVRUNDE_RECORD_BYTES for each block, in the order of decoding; together they cover the picture. residuals: exactly
+ * 4 * width * height bytes, blocks one after the other in the plan's order, each row by row. plane: exactly 2 * width * height bytes.
+ * result: at least SALVRUNDE_RESULT_BYTES, which are written: 0 and the next progress record; where the call is refused, the list number of
+ * the block that number 2, 3, 6 or 9 is about (else 0) and `done` as it was given. A shorter result is number 5 and stays as it is.
+ * Every call checks everything before it writes: numbers 1, 4, 5, 8, then each block by 2, 3, 6, 9, then 10, then 11. */
+uint32_t salvrunde_replay(uint32_t done, uint32_t bits, uint32_t width, uint32_t height, uint32_t ctu, uint32_t grant, const uint8_t *plan,
+                          size_t plan_bytes, const uint8_t *residuals, size_t residuals_bytes, uint8_t *plane, size_t plane_bytes,
+                          uint8_t *result, size_t result_bytes);
+
+#ifdef __cplusplus
+}
+#endif
+
+#endif

@@ -1,0 +1,84 @@
+/* How much stack each of the firmware's entries takes, on x86-64, with the archive as it is shipped: paints the stack below, calls, and looks how
+ * far down the paint is gone. Needs start.c and no C library, so that the kit's compiler builds it on any processor and its emulator runs it. */
+#include <stddef.h>
+#include <stdint.h>
+
+#include "salvrunde.h"
+
+typedef unsigned long word;
+
+enum { WIDTH = 64, HEIGHT = 64, SAMPLES = WIDTH * HEIGHT, DEEP = 64 * 1024, PAINT = 0xA5 };
+
+static uint8_t plane[2 * SAMPLES], other[2 * SAMPLES], residuals[4 * SAMPLES], rows[524], above[130], left[130], block[2048], result[8];
+static uint8_t plan[6 * 4];
+
+static long system_call(long number, long a, long b, long c) {
+    long r;
+    __asm__ volatile("syscall" : "=a"(r) : "a"(number), "D"(a), "S"(b), "d"(c) : "rcx", "r11", "memory");
+    return r;
+}
+
+static void say(const char *text) {
+    long length = 0;
+    while (text[length]) length++;
+    system_call(1, 1, (long)text, length);
+}
+
+static void say_number(word v) {
+    char digits[24];
+    int at = 23;
+    for (digits[at] = 0; at == 23 || v > 0; v /= 10) digits[--at] = (char)('0' + v % 10);
+    say(digits + at);
+}
+
+static uint32_t nothing(void) { return 0; }
+static uint32_t luma(void) { return salvrunde_luma_refs(8, WIDTH, HEIGHT, 64, 4, 32, 32, 32, plane, sizeof plane, rows, sizeof rows); }
+static uint32_t chroma(void) {
+    return salvrunde_chroma_refs(8, 3, WIDTH, HEIGHT, 4, 32, 32, 32, 32, 32, plane, sizeof plane, other, sizeof other, rows, sizeof rows);
+}
+static uint32_t planar(void) { return salvrunde_planar(32, above, 130, left, 130, block, sizeof block); }
+static uint32_t dc(void) { return salvrunde_dc(16, 1, above, 130, left, 130, block, sizeof block); }
+static uint32_t mode;
+static uint32_t angular(void) { return salvrunde_angular(8, 32, mode, 1, 7, above, 130, left, 130, block, sizeof block); }
+static uint32_t chroma_block(void) { return salvrunde_chroma_block(8, 32, mode, 7, above, 130, left, 130, block, sizeof block); }
+static uint32_t replay(void) {
+    for (int i = 0; i < 4; i++) plan[6 * i + 5] = (uint8_t)mode;
+    return salvrunde_replay(0, 8, WIDTH, HEIGHT, 64, 4, plan, sizeof plan, residuals, sizeof residuals, plane, sizeof plane, result, sizeof result);
+}
+
+/* The bytes below this call's own frame that a call changed. */
+static __attribute__((noinline)) word used(uint32_t (*call)(void)) {
+    word depth = 0;
+    volatile uint8_t *top;
+    __asm__ volatile("mov %%rsp, %0" : "=r"(top));
+    for (word i = 256; i < DEEP; i++) *(top - i) = PAINT;
+    if (call() != 0) say("refused\n"), system_call(60, 1, 0, 0);
+    for (word i = 256; i < DEEP; i++)
+        if (*(top - i) != PAINT) depth = i;
+    return depth;
+}
+
+static int over;
+
+static void tell(const char *name, uint32_t (*call)(void), uint32_t modes, word most) {
+    word least = used(nothing), greatest = 0;
+    for (mode = modes > 1 ? 2 : 0; mode < 2 + modes; mode++) {
+        word depth = used(call) - least;
+        if (depth > greatest) greatest = depth;
+    }
+    say(name), say(" "), say_number(greatest), say(" of "), say_number(most), say("\n");
+    if (greatest > most) over = 1;
+}
+
+int main(void) {
+    for (int i = 0; i < 4; i++) plan[6 * i] = (uint8_t)(i / 2 * 32), plan[6 * i + 2] = (uint8_t)(i % 2 * 32), plan[6 * i + 4] = 32;
+    for (word i = 0; i < sizeof plane; i++) plane[i] = other[i] = (uint8_t)(i * 7);
+    tell("luma_refs", luma, 0, 6144);
+    tell("chroma_refs", chroma, 0, 6144);
+    tell("planar", planar, 0, 6144);
+    tell("dc", dc, 0, 6144);
+    tell("angular", angular, 33, 6144);
+    tell("chroma_block", chroma_block, 33, 6144);
+    tell("replay", replay, 33, 8192);
+    return over;
+}

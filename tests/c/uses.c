@@ -1,0 +1,61 @@
+/* Calls every entry of the header as a program would. It is compiled as C99 and as C++, and linked with the archive. */
+#include "salvrunde.h"
+
+static uint8_t plane[2 * 16 * 16], cb[2 * 8 * 8], cr[2 * 8 * 8];
+static uint8_t refs[SALVRUNDE_REFS_BYTES + 2], pair[SALVRUNDE_PAIR_BYTES + 2];
+static uint8_t block[SALVRUNDE_BLOCK_BYTES(32)];
+
+static uint32_t sample(const uint8_t *bytes, size_t i) { return bytes[2 * i] + 256u * bytes[2 * i + 1]; }
+
+static void fill(uint8_t *bytes, size_t samples, uint32_t value) {
+    size_t i;
+    for (i = 0; i < samples; i++) {
+        bytes[2 * i] = (uint8_t)(value % 256u);
+        bytes[2 * i + 1] = (uint8_t)(value / 256u);
+    }
+}
+
+/* 0, or the line of the first answer that is wrong */
+#define HOLDS(test) do { if (!(test)) return __LINE__; } while (0)
+
+int main(void) {
+    const uint8_t *above = refs + 2, *left = refs + 2 + SALVRUNDE_ROW_BYTES;
+    fill(plane, 256, 1000), fill(cb, 64, 300), fill(cr, 64, 700);
+    fill(refs, 132, 9), fill(pair, 263, 9);
+
+    /* gathering: the block at (8, 8) has neighbours; what is past the rows stays */
+    HOLDS(salvrunde_luma_refs(10, 16, 16, 16, 4, 8, 8, 8, plane, sizeof plane, refs, sizeof refs) == SALVRUNDE_DONE);
+    HOLDS(sample(refs, 0) == 1000 && sample(refs, 1) == 1000 && sample(refs, 66) == 1000 && sample(refs, 1 + 17) == 0 && sample(refs, 131) == 9);
+    HOLDS(salvrunde_luma_refs(9, 16, 16, 16, 4, 8, 8, 8, plane, sizeof plane, refs, sizeof refs) == SALVRUNDE_DEPTH);
+    HOLDS(salvrunde_luma_refs(10, 16, 16, 16, 4, 8, 8, 260, plane, sizeof plane, refs, sizeof refs) == SALVRUNDE_SIZE);
+    HOLDS(salvrunde_luma_refs(10, 16, 12, 16, 4, 8, 8, 8, plane, sizeof plane, refs, sizeof refs) == SALVRUNDE_PICTURE);
+    HOLDS(salvrunde_luma_refs(10, 16, 16, 16, 4, 8, 7, 8, plane, sizeof plane, refs, 261) == SALVRUNDE_BUFFER);
+    HOLDS(salvrunde_luma_refs(10, 16, 16, 16, 4, 8, 7, 8, plane, sizeof plane, refs, sizeof refs) == SALVRUNDE_PLACE);
+    HOLDS(salvrunde_chroma_refs(10, SALVRUNDE_YUV420, 16, 16, 4, 4, 4, 4, 8, 8, cb, sizeof cb, cr, sizeof cr, pair, sizeof pair) == SALVRUNDE_DONE);
+    HOLDS(sample(pair, 0) == 300 && sample(pair, 131) == 700 && sample(pair, 262) == 9);
+    HOLDS(salvrunde_chroma_refs(10, 4, 16, 16, 4, 4, 4, 4, 8, 8, cb, sizeof cb, cr, sizeof cr, pair, sizeof pair) == SALVRUNDE_PICTURE);
+
+    /* prediction from rows that are all 1000 */
+    HOLDS(salvrunde_planar(8, above, SALVRUNDE_ROW_BYTES, left, SALVRUNDE_ROW_BYTES, block, sizeof block) == SALVRUNDE_DONE && sample(block, 63) == 1000);
+    HOLDS(salvrunde_dc(8, 1, above, SALVRUNDE_ROW_BYTES, left, SALVRUNDE_ROW_BYTES, block, sizeof block) == SALVRUNDE_DONE && sample(block, 0) == 1000);
+    HOLDS(salvrunde_angular(10, 8, 26, 1, 1000, above, SALVRUNDE_ROW_BYTES, left, SALVRUNDE_ROW_BYTES, block, sizeof block) == SALVRUNDE_DONE);
+    HOLDS(sample(block, 0) == 1000);
+    HOLDS(salvrunde_angular(10, 8, 258, 1, 1000, above, SALVRUNDE_ROW_BYTES, left, SALVRUNDE_ROW_BYTES, block, sizeof block) == SALVRUNDE_MODE);
+    HOLDS(salvrunde_chroma_block(10, 8, 1, 1000, above, SALVRUNDE_ROW_BYTES, left, SALVRUNDE_ROW_BYTES, block, sizeof block) == SALVRUNDE_DONE);
+    HOLDS(salvrunde_chroma_block(10, 8, 1, 1000, above, SALVRUNDE_ROW_BYTES - 1, left, SALVRUNDE_ROW_BYTES, block, sizeof block) == SALVRUNDE_BUFFER);
+
+    /* replay: two blocks of 8 by 8, one call each, then a plan that is not whole records and a record past the last block */
+    {
+        static const uint8_t plan[2 * SALVRUNDE_RECORD_BYTES] = {0, 0, 0, 0, 8, 1, 0, 0, 8, 0, 8, 1};
+        static uint8_t still[2 * 16 * 8], residuals[4 * 16 * 8], result[SALVRUNDE_RESULT_BYTES];
+        residuals[0] = 2;
+        HOLDS(salvrunde_replay(0, 8, 16, 8, 16, 1, plan, sizeof plan, residuals, sizeof residuals, still, sizeof still, result, sizeof result) == SALVRUNDE_DONE);
+        HOLDS(result[0] == 0 && result[4] == 1 && sample(still, 0) == 130 && sample(still, 1) == 128 && sample(still, 8) == 0);
+        HOLDS(salvrunde_replay(1, 8, 16, 8, 16, 9, plan, sizeof plan, residuals, sizeof residuals, still, sizeof still, result, sizeof result) == SALVRUNDE_DONE);
+        HOLDS(result[4] == 2 && sample(still, 8) == 128);
+        HOLDS(salvrunde_replay(1, 8, 16, 8, 16, 9, plan, 11, residuals, sizeof residuals, still, sizeof still, result, sizeof result) == SALVRUNDE_BUFFER);
+        HOLDS(salvrunde_replay(3, 8, 16, 8, 16, 9, plan, sizeof plan, residuals, sizeof residuals, still, sizeof still, result, sizeof result) == SALVRUNDE_START);
+        HOLDS(result[0] == 0 && result[4] == 3);
+    }
+    return 0;
+}

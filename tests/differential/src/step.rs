@@ -1,0 +1,146 @@
+//! One call of walk or replay: what document 01 and the Rust say of it, and the call of the proved code beside it.
+//! The number comes from document 01's table and order, the planes from the Rust's functions (assembled.rs).
+use crate::assembled::Job;
+use crate::frame::{Block, Frame};
+use crate::host::Arg::{self, Lent, Number};
+use crate::random::Random;
+use crate::samples::{at_least, bytes, bytes_32, bytes_signed, dirt, dirt_32, largest};
+use crate::table::{self, Picture};
+use crate::tally::{Tally, Want};
+
+/// What a call is given. A replay has no source, and its plane is the work plane.
+#[derive(Clone)]
+pub struct Call {
+    pub walk: bool,
+    pub done: u32,
+    pub bits: u32,
+    pub frame: Frame,
+    pub plan: Vec<Block>,
+    pub source: Vec<u16>,
+    pub plane: Vec<u16>,
+    pub residuals: Vec<i32>,
+    /// Lengths of the scratch tables.
+    pub tables: [usize; 3],
+    pub grant: u32,
+}
+
+/// What a call gives: its number, the block it is about, how many blocks it did, and how many are done.
+pub struct Step {
+    pub no: u32,
+    pub block: u32,
+    pub did: u32,
+    pub done: u32,
+}
+
+impl Call {
+    /// The number and its block: 1, 4, 5, then 7 or 8, then each block by 2, 3, 6, 9, then 10, then 11.
+    fn verdict(&self) -> [u32; 2] {
+        let Frame { width, height, ctu } = self.frame;
+        let whole = |entries| table::plane(width as u64, height as u64, entries);
+        let planes = whole(self.plane.len()) && whole(self.residuals.len()) && (!self.walk || whole(self.source.len()));
+        let [refs, indices, fractions] = self.tables;
+        if !table::depth(self.bits) {
+            [1, 0]
+        } else if !Picture::new(width, height, ctu, 4).sides_and_ctu() {
+            [4, 0]
+        } else if !planes || !table::scratch(refs, indices, fractions) {
+            [5, 0]
+        } else if self.walk && self.source.iter().any(|&s| s > largest(self.bits)) {
+            [7, 0]
+        } else if !self.walk && !self.residuals.iter().all(|&r| table::residual(r)) {
+            [8, 0]
+        } else if self.frame.verdict(&self.plan) != [0, 0] {
+            self.frame.verdict(&self.plan)
+        } else if self.done as usize > self.plan.len() {
+            [11, 0]
+        } else {
+            [0, 0]
+        }
+    }
+
+    /// What the call gives; the plane and, of a walk, the residuals become what it leaves.
+    pub fn make(&mut self) -> Step {
+        let [no, block] = self.verdict();
+        if no != 0 {
+            return Step { no, block, did: 0, done: self.done };
+        }
+        let from = self.done as usize;
+        let did = (self.grant as usize).min(self.plan.len() - from);
+        let (plane, residuals) = (self.plane.clone(), self.residuals.clone());
+        let job = Job { bits: self.bits, frame: self.frame, plan: &self.plan, blocks: from..from + did };
+        if self.walk {
+            job.walk(&self.source, &mut self.plane, &mut self.residuals);
+        } else {
+            job.replay(&self.residuals, &mut self.plane);
+        }
+        self.keeps(from..from + did, &plane, &residuals);
+        Step { no: 0, block: 0, did: did as u32, done: self.done + did as u32 }
+    }
+
+    /// The first sample and the first residual of each block that was not done are as they were: of the driver's own loop.
+    fn keeps(&self, did: std::ops::Range<usize>, plane: &[u16], residuals: &[i32]) {
+        let mut at = 0;
+        for (k, [row, col, side, _]) in self.plan.iter().enumerate() {
+            let first = (row * self.frame.width + col) as usize;
+            assert!(did.contains(&k) || self.plane[first] == plane[first] && self.residuals[at] == residuals[at]);
+            at += (side * side) as usize;
+        }
+    }
+
+    /// Makes the call on both sides. What is lent has guards behind it; a call leaves plan, source and guards alone, and a
+    /// refused one the scratch too.
+    pub fn ask(&mut self, t: &mut Tally, random: &mut Random) -> Step {
+        let numbers = [self.done, self.bits, self.frame.width, self.frame.height, self.frame.ctu].map(|v| Number(v as u64));
+        let plan = Slice::new(bytes_32(self.plan.as_flattened()), self.plan.len());
+        let source = Slice::new(bytes(&self.source), self.source.len());
+        let plane = Slice::new(bytes(&self.plane), self.plane.len());
+        let residuals = Slice::new(bytes_signed(&self.residuals), self.residuals.len());
+        let [refs, indices, fractions] = self.tables;
+        let tables = [
+            Slice::new(bytes(&dirt(refs, random)), refs),
+            Slice::new(bytes_32(&dirt_32(indices, random)), indices),
+            Slice::new(bytes_32(&dirt_32(fractions, random)), fractions),
+        ];
+        let step = self.make();
+        let after =
+            [Slice::new(bytes(&self.plane), self.plane.len()), Slice::new(bytes_signed(&self.residuals), self.residuals.len())];
+        let (name, lent, left) = if self.walk {
+            ("salvrunde_probe_walk", vec![&plan, &source, &plane, &residuals], vec![&plan, &source, &after[0], &after[1]])
+        } else {
+            ("salvrunde_probe_replay", vec![&plan, &residuals, &plane], vec![&plan, &residuals, &after[0]])
+        };
+        let lent: Vec<Arg> = lent.into_iter().chain(&tables).flat_map(Slice::args).collect();
+        let mut want = Want::fields(&[step.no, step.block, step.did, step.done]);
+        want = left.into_iter().fold(want, |want, s| want.then(s.bytes.clone()));
+        for table in &tables {
+            let open = if step.no == 0 { table.bytes.len() - GUARD.len() } else { 0 };
+            want = want.then_past(open, table.bytes.clone());
+        }
+        t.call(name, &[&numbers[..], &lent, &[Number(self.grant as u64)]].concat(), want);
+        step
+    }
+
+    /// Scratch tables that are long enough.
+    pub fn any_tables(random: &mut Random) -> [usize; 3] {
+        [at_least(193, random), at_least(32, random), at_least(32, random)]
+    }
+}
+
+const GUARD: [u8; 16] = *b"guards of a call";
+
+/// A slice's bytes with a guard behind them, and its length in elements.
+struct Slice {
+    bytes: Vec<u8>,
+    len: usize,
+}
+
+impl Slice {
+    fn new(mut bytes: Vec<u8>, len: usize) -> Slice {
+        bytes.extend(GUARD);
+        Slice { bytes, len }
+    }
+
+    fn args(&self) -> [Arg<'_>; 2] {
+        [Lent(&self.bytes), Number(self.len as u64)]
+    }
+}
