@@ -22,6 +22,7 @@ pub struct Frame {
 }
 
 // A block of a plan.
+#[repr(C)]
 pub struct Block {
     pub row: u32,
     pub col: u32,

@@ -22,7 +22,8 @@ ghost use Rattle.predict.specs.Door.{predictNo};
 ghost use Rattle.predict.specs.Contents.{chromaAt};
 ghost use Rattle.scratch.specs.Lent.{withScratch};
 ghost use Rattle.probes.specs.Probes.{pictureOf, substituteAnswer, gatherAnswer, pairAnswer, planAnswer};
-ghost use Rattle.plan.specs.Plan.{planOf};
+ghost use Rattle.plan.specs.Plan.{planOf, listed};
+ghost use Rattle.walk.specs.Listed.{scratchTables};
 ghost use Rattle.walk.specs.Door.{steppedBy, walkVerdict, walkAfter, replayVerdict, replayAfter};
 ghost use Rattle.probes.specs.Probes.{stillOf, stepOf};
 use fmt::BitDepth;
@@ -35,12 +36,15 @@ use fmt::LumaCol;
 use fmt::LumaRow;
 use order::LumaNeighbour;
 use order::Picture;
+use plan::Block;
 use plan::Frame;
 use refs::ChromaRefGeometry;
 use refs::Flags;
 use refs::LumaRefGeometry;
 use rows::Rows;
+use scratch::AngularScratch;
 use walk::Progress;
+use walk::Stepped;
 use walk::Still;
 
 // A depth's figures, all 0 where the call is refused.
@@ -729,4 +733,72 @@ pub extern "C" fn salvrunde_probe_replay(
         did: a.did,
         done: a.next.done,
     }
+}
+
+fn progress_of(done: u32) -> Progress
+    ensures { λ r. ⌜ r ≡ record { done = done } ⌝ }
+{
+    Progress { done }
+}
+
+fn still_of(bits: u32, width: u32, height: u32, ctu: u32) -> Still
+    ensures { λ r. ⌜ r ≡ stillOf bits width height ctu ⌝ }
+{
+    let frame = Frame { width, height, ctu };
+    Still { bits, frame }
+}
+
+fn step_answer(a: Stepped) -> StepAnswer
+    ensures { λ r. ⌜ r ≡ stepOf a ⌝ }
+{
+    StepAnswer {
+        no: a.no,
+        block: a.block,
+        did: a.did,
+        done: a.next.done,
+    }
+}
+
+// The same two over block records, with the scratch as a struct.
+#[no_mangle]
+pub extern "C" fn salvrunde_probe_replay_records(
+    done: u32,
+    bits: u32,
+    width: u32,
+    height: u32,
+    ctu: u32,
+    plan: &[Block],
+    residuals: &[i32],
+    plane: &mut [u16],
+    scratch: &mut AngularScratch,
+    grant: u32,
+) -> StepAnswer
+    ensures { λ r. ⌜ (r ≡ stepOf (steppedBy (replayVerdict (stillOf bits width height ctu) (listed (now (plan .entry))) scratchTables (record { done = done }) (length (now (plane .entry))) (now (residuals .entry))) (listed (now (plan .entry))) (record { done = done }) grant)) × ((now (plane .exit) ≡ replayAfter (stillOf bits width height ctu) (listed (now (plan .entry))) scratchTables (record { done = done }) grant (now (residuals .entry)) (now (plane .entry))) × ((r .no ≡ 0 → ⊥) → now (scratch .exit) ≡ now (scratch .entry))) ⌝ }
+{
+    let p = progress_of(done);
+    let s = still_of(bits, width, height, ctu);
+    let a = p.replay(s, plan, residuals, plane, scratch, grant);
+    step_answer(a)
+}
+
+#[no_mangle]
+pub extern "C" fn salvrunde_probe_walk_records(
+    done: u32,
+    bits: u32,
+    width: u32,
+    height: u32,
+    ctu: u32,
+    plan: &[Block],
+    source: &[u16],
+    work: &mut [u16],
+    residuals: &mut [i32],
+    scratch: &mut AngularScratch,
+    grant: u32,
+) -> StepAnswer
+    ensures { λ r. ⌜ (r ≡ stepOf (steppedBy (walkVerdict (stillOf bits width height ctu) (listed (now (plan .entry))) scratchTables (record { done = done }) (now (source .entry)) (record { work = now (work .entry); residuals = now (residuals .entry) })) (listed (now (plan .entry))) (record { done = done }) grant)) × ((record { work = now (work .exit); residuals = now (residuals .exit) } ≡ walkAfter (stillOf bits width height ctu) (listed (now (plan .entry))) scratchTables (record { done = done }) grant (now (source .entry)) (record { work = now (work .entry); residuals = now (residuals .entry) })) × ((r .no ≡ 0 → ⊥) → now (scratch .exit) ≡ now (scratch .entry))) ⌝ }
+{
+    let p = progress_of(done);
+    let s = still_of(bits, width, height, ctu);
+    let a = p.walk(s, plan, source, work, residuals, scratch, grant);
+    step_answer(a)
 }

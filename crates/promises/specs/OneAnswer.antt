@@ -107,6 +107,8 @@ use Rattle.probes.proofs.salvrunde_probe_compute_residual_i32_into.Reads as pro
 use Rattle.probes.proofs.salvrunde_probe_reconstruct_into.Reads as probes-salvrunde-probe-reconstruct-into
 use Rattle.probes.proofs.salvrunde_probe_walk.Reads as probes-salvrunde-probe-walk
 use Rattle.probes.proofs.salvrunde_probe_replay.Reads as probes-salvrunde-probe-replay
+use Rattle.probes.proofs.salvrunde_probe_walk_records as probes-salvrunde-probe-walk-records
+use Rattle.probes.proofs.salvrunde_probe_replay_records as probes-salvrunde-probe-replay-records
 use Rattle.camera.proofs.salvrunde_luma_refs.Reads as camera-salvrunde-luma-refs
 use Rattle.camera.proofs.salvrunde_chroma_refs.Reads as camera-salvrunde-chroma-refs
 use Rattle.camera.proofs.salvrunde_planar.Reads as camera-salvrunde-planar
@@ -467,7 +469,7 @@ module _ {M : Type 1} (𝓤 : URA M) (H : Heap 𝓤) (A : Atoms 𝓤) (mem : Mem
   scratch-predict-luma-tb-into-once κs a g x y s t = held-both _ _ _ (λ p q. by-number _ _ (p .0) (q .0) (p .1 .0) (q .1 .0))
 
   -- plan
-  plan-check-plan-once : (κs : Lfts 1) → OnceHeld plan-check-plan.ended κs (λ _. tt) (plan-check-plan.clauses 𝓤 H A mem run)
+  plan-check-plan-once : (κs : Lfts 1) → OnceHeld plan-check-plan.ended κs {L = Unit {0}} (λ _. tt) (plan-check-plan.clauses 𝓤 H A mem run)
   plan-check-plan-once κs a g x y s t = held-both _ _ _ (λ p q. (p ∙ sym q, refl))
 
   -- walk
@@ -476,3 +478,10 @@ module _ {M : Type 1} (𝓤 : URA M) (H : Heap 𝓤) (A : Atoms 𝓤) (mem : Mem
 
   walk-walk-once : (κs : Lfts 5) → OnceHeld walk-walk.ended κs {L = World} (λ s. record { work = now (s .1 .1 .1 .1 .0); residuals = now (s .1 .1 .1 .1 .1 .0) }) (walk-walk.clauses 𝓤 H A mem run)
   walk-walk-once κs a g x y s t = held-both _ _ _ (λ p q. (p .0 ∙ sym (q .0), p .1 .0 ∙ sym (q .1 .0)))
+
+  -- probes
+  probes-salvrunde-probe-replay-records-once : (κs : Lfts 4) → OnceHeld probes-salvrunde-probe-replay-records.ended κs (λ s. now (s .1 .1 .1 .1 .1 .1 .1 .0)) (probes-salvrunde-probe-replay-records.clauses 𝓤 H A mem run)
+  probes-salvrunde-probe-replay-records-once κs a g x y s t = held-both _ _ _ (λ p q. (p .0 ∙ sym (q .0), p .1 .0 ∙ sym (q .1 .0)))
+
+  probes-salvrunde-probe-walk-records-once : (κs : Lfts 5) → OnceHeld probes-salvrunde-probe-walk-records.ended κs {L = World} (λ s. record { work = now (s .1 .1 .1 .1 .1 .1 .1 .0); residuals = now (s .1 .1 .1 .1 .1 .1 .1 .1 .0) }) (probes-salvrunde-probe-walk-records.clauses 𝓤 H A mem run)
+  probes-salvrunde-probe-walk-records-once κs a g x y s t = held-both _ _ _ (λ p q. (p .0 ∙ sym (q .0), p .1 .0 ∙ sym (q .1 .0)))

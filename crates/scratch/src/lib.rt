@@ -16,6 +16,7 @@ ghost use Rattle.predict.specs.Door.{predictNo};
 ghost use Rattle.predict.specs.Contents.{chromaAt};
 ghost use Rattle.scratch.specs.Lent.{zeroScratch, withScratch};
 
+#[repr(C)]
 pub struct AngularScratch {
     pub refs: [u16; 193],
     pub indices: [u32; 32],
