@@ -4,6 +4,7 @@ use mathlib.Core.Bool.{Bool, true, false, cond, _&&_, _||_, true≢false}
 use mathlib.Core.List.{List, [], _∷_}
 use mathlib.Core.Logic.{⊎-elim}
 use Prim.Native.Nat.{ℕ, _*_, _≤_}
+use native.Mathlib.Nat.{mul-le-mul}
 use native.Mathlib.Omega.{arith}
 use lib.Dec.{leb, eqb}
 use lib.ListN.{length, getD, replicate, length-replicate}
@@ -121,21 +122,16 @@ fit n above left out s e =
       block-long = leb-true (2 * (n * n)) out (a .1);
     }
 
--- planar and DC: the predictor serves its rows of 65 and its block of 1024
-pub flat-fit : (n above left out : ℕ) → flatEntryNo n above left out ≡ 0 → Fit n above left out × (flatNo n 65 65 1024 ≡ 0)
-unfolding flatNo flatEntryNo
+-- planar and DC
+pub flat-fit : (n above left out : ℕ) → flatEntryNo n above left out ≡ 0 → Fit n above left out
+unfolding flatEntryNo
 flat-fit n above left out e =
     let s = passed (sizeOk n) _ 2 (omega arith) e in
-    let t = passed (room n above left out) 0 5 (omega arith) (s .1) in
-    let f = fit n above left out (s .0) (t .0) in
-    (f, rw (s .0, le-leb (n * n) 1024 (f .few)))
+    fit n above left out (s .0) (passed (room n above left out) 0 5 (omega arith) (s .1) .0)
 
--- what the entries lend to a predictor
-abbrev pub lent : ℕ → ℕ → ℕ → Lent
-lent above left pred = record { above = above; left = left; pred = pred; refs = 193; indices = 32; fractions = 32 }
-
--- angular and the chroma block likewise, whichever modes they take
-mode-fit : (bits n above left out : ℕ) (taken : Bool) → modeEntryNo bits n taken above left out ≡ 0 → Fit n above left out × (depthOk bits ≡ true) × (taken ≡ true)
+-- angular and the chroma block, whichever modes they take
+pub mode-fit : (bits n above left out : ℕ) (taken : Bool) → modeEntryNo bits n taken above left out ≡ 0
+    → Fit n above left out × (depthOk bits ≡ true) × (taken ≡ true)
 unfolding modeEntryNo
 mode-fit bits n above left out taken e =
     let d = passed (depthOk bits) _ 1 (omega arith) e in
@@ -144,32 +140,37 @@ mode-fit bits n above left out taken e =
     let t = passed (room n above left out) 0 5 (omega arith) (m .1) in
     (fit n above left out (s .0) (t .0), d .0, m .0)
 
-pub angular-fit : (bits n mode above left out : ℕ) → modeEntryNo bits n (angularMode mode) above left out ≡ 0
-    → Fit n above left out × (angularNo bits n mode (lent 65 65 1024) ≡ 0)
-angular-fit bits n mode above left out e =
-    let f = mode-fit bits n above left out (angularMode mode) e in
-    (f .0, rw (f .1, f .0 .size, f .2, le-leb (n * n) 1024 (f .0 .few)))
+-- what the entries lend to a predictor
+abbrev pub lent : ℕ → ℕ → ℕ → Lent
+lent above left pred = record { above = above; left = left; pred = pred; refs = 193; indices = 32; fractions = 32 }
 
-pub chroma-fit : (bits n mode above left out : ℕ) → modeEntryNo bits n (modeOk mode) above left out ≡ 0
-    → Fit n above left out × (predictNo bits n mode (lent 65 65 1024) ≡ 0)
-chroma-fit bits n mode above left out e =
-    let f = mode-fit bits n above left out (modeOk mode) e in
-    (f .0, rw (f .1, f .0 .size, f .2, le-leb (n * n) 1024 (f .0 .few)))
+-- a predictor serves rows of 65 and a buffer that has room for the block
+module _ (n pred : ℕ) (size : sizeOk n ≡ true) (held : n * n ≤ pred) where
+  pub flat-serves : flatNo n 65 65 pred ≡ 0
+  unfolding flatNo
+  flat-serves = rw (size, le-leb (n * n) pred held)
+
+  pub angular-serves : (bits mode : ℕ) → depthOk bits ≡ true → angularMode mode ≡ true → angularNo bits n mode (lent 65 65 pred) ≡ 0
+  angular-serves bits mode d m = rw (d, size, m, le-leb (n * n) pred held)
+
+  pub chroma-serves : (bits mode : ℕ) → depthOk bits ≡ true → modeOk mode ≡ true → predictNo bits n mode (lent 65 65 pred) ≡ 0
+  chroma-serves bits mode d m = rw (d, size, m, le-leb (n * n) pred held)
+
+-- a side up to m: its block is no larger than m by m
+pub square-under : (n m : ℕ) → n ≤ m → n * n ≤ m * m
+square-under n m h = mul-le-mul h h
 
 -- the mode that passed is narrow
 pub narrow : (bits n mode above left out : ℕ) (taken : Bool) → (taken ≡ true → modeOk mode ≡ true) → modeEntryNo bits n taken above left out ≡ 0 → mode ≤ 34
 narrow bits n mode above left out taken h e = leb-true mode 34 (h (mode-fit bits n above left out taken e .2))
 
--- a block that a predictor made of rows in bytes, in a buffer of its own, and that was stored: g is its sample, no its number
-module _ (g : List ℕ → List ℕ → ℕ → ℕ → ℕ) (no : ℕ → ℕ → ℕ → ℕ) (n : ℕ) (above left d : List ℕ) (few : n * n ≤ 1024) (serves : no 65 65 1024 ≡ 0) where
+-- a block that a predictor made of rows in bytes, in a buffer p, and that was stored: g is its sample, no its number
+module _ (g : List ℕ → List ℕ → ℕ → ℕ → ℕ) (no : ℕ → ℕ → ℕ → ℕ) (n : ℕ) (above left p d : List ℕ) (held : n * n ≤ length p) (serves : no 65 65 (length p) ≡ 0) where
   long : (b : List ℕ) → length (rowOf b) ≡ 65
   long b = length-fill (λ i. getD (samplesOf b) i 0) 65 (replicate 65 0) ∙ length-replicate {A = ℕ} 65 0
 
-  pub predicted : {a l pred out : List ℕ} {k z : ℕ} → a ≡ rowOf above → l ≡ rowOf left → z ≡ 1024 → k ≡ no (length a) (length l) z
-      → pred ≡ served k (block (g a l) n (replicate 1024 0)) (replicate 1024 0) → out ≡ run (sampleByte pred) (2 * 0) (2 * (n * n)) d
-      → out ≡ blockIn (g (rowOf above) (rowOf left)) n d
-  predicted {a} {l} {pred} {out} {k} {z} ea el ez ek ep eo =
-      let zero : k ≡ 0 =
-      ek ∙ ap₂ (λ (x y : ℕ). no x y z) (ap length ea ∙ long above) (ap length el ∙ long left) ∙ ap (no 65 65) ez ∙ serves in
-      block-stored (g (rowOf above) (rowOf left)) n d few
-      (did k (block (g a l) n (replicate 1024 0)) (replicate 1024 0) zero ep ∙ ap₂ (λ (x y : List ℕ). block (g x y) n (replicate 1024 0)) ea el) eo
+  pub predicted : {a l pred out : List ℕ} {k : ℕ} → a ≡ rowOf above → l ≡ rowOf left → k ≡ no (length a) (length l) (length p)
+      → pred ≡ served k (block (g a l) n p) p → out ≡ run (sampleByte pred) (2 * 0) (2 * (n * n)) d → out ≡ blockIn (g (rowOf above) (rowOf left)) n d
+  predicted {a} {l} {pred} {out} {k} ea el ek ep eo =
+      let zero : k ≡ 0 = ek ∙ ap₂ (λ (x y : ℕ). no x y (length p)) (ap length ea ∙ long above) (ap length el ∙ long left) ∙ serves in
+      block-stored (g (rowOf above) (rowOf left)) n p d held (did k (block (g a l) n p) p zero ep ∙ ap₂ (λ (x y : List ℕ). block (g x y) n p) ea el) eo

@@ -4,7 +4,7 @@ use mathlib.Core.List.{List, [], _∷_, _++_}
 use Prim.Native.Nat.{ℕ, zero, suc, _+_, _-_, _*_, _/_, _%_, _^_, _≤_, _<_}
 use native.Mathlib.Nat.{div-one, add-zero, add-suc, add-assoc}
 use native.Mathlib.Omega.{arith}
-use lib.ListN.{length, getD, set, replicate, length-replicate, List·getD-append}
+use lib.ListN.{length, getD, set, List·getD-append}
 use lib.Seq.{getD-append-add}
 use Rattle.laws.specs.Fill.{fill, run, rows, block}
 use Rattle.laws.specs.FillLaws.{fill-none, fill-at, fill-run, run-none, run-more}
@@ -66,15 +66,15 @@ module _ (r : Rows) (at : ℕ) (d : List ℕ) (long : length (r .above) ≡ 65) 
       w ∙ ap (run (sampleByte (r .left)) (2 * (at + 66)) (2 * 65)) two ∙ list-more line (r .left) at 66 65 d (λ i h. left-on i)
 
 -- the samples of a block that was predicted into a buffer of its own
-pub block-stored : (g : ℕ → ℕ → ℕ) (n : ℕ) (d : List ℕ) → n * n ≤ 1024 → {b e : List ℕ} → b ≡ block g n (replicate 1024 0)
+pub block-stored : (g : ℕ → ℕ → ℕ) (n : ℕ) (p₀ d : List ℕ) → n * n ≤ length p₀ → {b e : List ℕ} → b ≡ block g n p₀
     → e ≡ run (sampleByte b) (2 * 0) (2 * (n * n)) d → e ≡ blockIn g n d
 unfolding blockIn rows
-block-stored g n d small {b} p q =
+block-stored g n p₀ d held {b} p q =
     q ∙ ap (run (sampleByte b) (2 * 0) (2 * (n * n))) (fill-none (byteOf 2 at) d)
     ∙ fill-run (byteOf 2 at) (sampleByte b) 0 (2 * (n * n)) d
     (λ j l.
     ap₂ (λ (x y : ℕ). x / 256 ^ y % 256)
-    (ap (λ (m : List ℕ). getD m (j / 2) 0) p ∙ fill-at at (n * n) (replicate 1024 0) (j / 2) 0 (omega arith) (omega (arith, length-replicate {A = ℕ} 1024 0))
+    (ap (λ (m : List ℕ). getD m (j / 2) 0) p ∙ fill-at at (n * n) p₀ (j / 2) 0 (omega arith) (omega arith)
     ∙ ap at (let w : j / 2 ≡ (0 + j) / 2 = omega arith in w))
     (let w : j % 2 ≡ (0 + j) % 2 = omega arith in w))
     ∙ ap (λ (k : ℕ). fill (byteOf 2 at) k d) (let w : 0 + 2 * (n * n) ≡ 2 * (n * n) = omega arith in w)

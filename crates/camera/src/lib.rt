@@ -1,18 +1,17 @@
 // What the camera's C firmware calls: gathering, prediction and replay on numbers and byte slices, samples of two bytes, the lower first.
 // Each entry gives back its number, and writes nothing where it refuses. Rests on the doors' contracts and on crate bytes.
 ghost use mathlib.Core.Path.{_≡_};
+ghost use mathlib.Core.Bool.{true};
 ghost use Prim.Native.Nat.{ℕ, _+_, _*_, _%_, _≤_, _<_};
 ghost use lib.ListN.{length, set};
 ghost use Rattle.laws.specs.Fill.{run};
 ghost use Rattle.bytes.specs.Bytes.{byte1};
+ghost use Rattle.domain.specs.Domain.{depthOk, modeOk};
 ghost use Rattle.domain.specs.Facts.{Size};
-ghost use Rattle.flat.specs.Flat.{flatNo};
-ghost use Rattle.angular.specs.Door.{angularNo};
-ghost use Rattle.predict.specs.Door.{predictNo};
 ghost use Rattle.byte_replay.specs.Door.{replayed};
 ghost use Rattle.camera.specs.Entries.{wrote, sampleByte, rowsAt, lumaEntry, chromaEntry, rowOf, blockIn, room};
-ghost use Rattle.camera.specs.Entries.{flatEntryNo, planarIn, planarEntry, dcIn, dcEntry, modeEntryNo, angularIn, angularEntry, chromaIn, chromaBlockEntry};
-ghost use Rattle.camera.specs.Checks.{roomNo, Fit, lent};
+ghost use Rattle.camera.specs.Entries.{flatEntryNo, planarIn, planarEntry, dcIn, dcEntry, modeEntryNo, angularMode, angularIn, angularEntry, chromaIn, chromaBlockEntry};
+ghost use Rattle.camera.specs.Checks.{roomNo, Fit};
 use fmt::ChromaCol;
 use fmt::ChromaRow;
 use fmt::LumaCol;
@@ -203,15 +202,34 @@ fn mode_no(bits: u32, n: usize, taken: bool, above: usize, left: usize, out: usi
     0
 }
 
-fn planar_block(n: usize, above: &[u8], left: &[u8], out: &mut [u8])
-    requires { ⌜ Fit n (length (now above)) (length (now left)) (length (now out)) × (flatNo n 65 65 1024 ≡ 0) ⌝ }
+// Predicts into a buffer of samples, and stores the block.
+fn planar_into(n: usize, above: &[u8], left: &[u8], pred: &mut [u16], out: &mut [u8])
+    requires { ⌜ Fit n (length (now above)) (length (now left)) (length (now out)) × (n * n ≤ length (now pred)) ⌝ }
     ensures { λ _. ⌜ now (out .exit) ≡ blockIn (planarIn n (now (above .entry)) (now (left .entry))) n (now (out .entry)) ⌝ }
 {
     let a = row_of(above);
     let l = row_of(left);
+    flat::predict_planar_into(&a, &l, n, &mut *pred);
+    store(&*pred, n * n, &mut *out, 0);
+}
+
+// A buffer no larger than the side needs: clearing it costs.
+fn planar_block(n: usize, above: &[u8], left: &[u8], out: &mut [u8])
+    requires { ⌜ Fit n (length (now above)) (length (now left)) (length (now out)) ⌝ }
+    ensures { λ _. ⌜ now (out .exit) ≡ blockIn (planarIn n (now (above .entry)) (now (left .entry))) n (now (out .entry)) ⌝ }
+{
+    if n <= 8 {
+        let mut pred = [0u16; 64];
+        planar_into(n, above, left, &mut pred, &mut *out);
+        return;
+    }
+    if n <= 16 {
+        let mut pred = [0u16; 256];
+        planar_into(n, above, left, &mut pred, &mut *out);
+        return;
+    }
     let mut pred = [0u16; 1024];
-    flat::predict_planar_into(&a, &l, n, &mut pred);
-    store(&pred, n * n, &mut *out, 0);
+    planar_into(n, above, left, &mut pred, &mut *out);
 }
 
 // The planar block of side n, in rows, in the first 2 · n · n bytes of `out`; each row has at least 130 bytes. Numbers 2, 5.
@@ -226,15 +244,34 @@ pub extern "C" fn salvrunde_planar(n: u32, above: &[u8], left: &[u8], out: &mut 
     no
 }
 
-fn dc_block(n: usize, edge: bool, above: &[u8], left: &[u8], out: &mut [u8])
-    requires { ⌜ Fit n (length (now above)) (length (now left)) (length (now out)) × (flatNo n 65 65 1024 ≡ 0) ⌝ }
+// Predicts into a buffer of samples, and stores the block.
+fn dc_into(n: usize, edge: bool, above: &[u8], left: &[u8], pred: &mut [u16], out: &mut [u8])
+    requires { ⌜ Fit n (length (now above)) (length (now left)) (length (now out)) × (n * n ≤ length (now pred)) ⌝ }
     ensures { λ _. ⌜ now (out .exit) ≡ blockIn (dcIn edge n (now (above .entry)) (now (left .entry))) n (now (out .entry)) ⌝ }
 {
     let a = row_of(above);
     let l = row_of(left);
+    flat::predict_dc_into(&a, &l, n, edge, &mut *pred);
+    store(&*pred, n * n, &mut *out, 0);
+}
+
+// A buffer no larger than the side needs: clearing it costs.
+fn dc_block(n: usize, edge: bool, above: &[u8], left: &[u8], out: &mut [u8])
+    requires { ⌜ Fit n (length (now above)) (length (now left)) (length (now out)) ⌝ }
+    ensures { λ _. ⌜ now (out .exit) ≡ blockIn (dcIn edge n (now (above .entry)) (now (left .entry))) n (now (out .entry)) ⌝ }
+{
+    if n <= 8 {
+        let mut pred = [0u16; 64];
+        dc_into(n, edge, above, left, &mut pred, &mut *out);
+        return;
+    }
+    if n <= 16 {
+        let mut pred = [0u16; 256];
+        dc_into(n, edge, above, left, &mut pred, &mut *out);
+        return;
+    }
     let mut pred = [0u16; 1024];
-    flat::predict_dc_into(&a, &l, n, edge, &mut pred);
-    store(&pred, n * n, &mut *out, 0);
+    dc_into(n, edge, above, left, &mut pred, &mut *out);
 }
 
 // The DC block; an edge flag that is not 0 asks for filtered edges. Numbers 2, 5.
@@ -249,7 +286,8 @@ pub extern "C" fn salvrunde_dc(n: u32, edge: u32, above: &[u8], left: &[u8], out
     no
 }
 
-fn angular_block(
+// Predicts into a buffer of samples, and stores the block.
+fn angular_into(
     bits: u32,
     n: usize,
     mode: u8,
@@ -257,14 +295,14 @@ fn angular_block(
     corner: u16,
     above: &[u8],
     left: &[u8],
+    pred: &mut [u16],
     out: &mut [u8],
 )
-    requires { ⌜ Fit n (length (now above)) (length (now left)) (length (now out)) × (angularNo bits n mode (lent 65 65 1024) ≡ 0) ⌝ }
+    requires { ⌜ Fit n (length (now above)) (length (now left)) (length (now out)) × (depthOk bits ≡ true) × (angularMode mode ≡ true) × (n * n ≤ length (now pred)) ⌝ }
     ensures { λ _. ⌜ now (out .exit) ≡ blockIn (angularIn bits edge n mode corner (now (above .entry)) (now (left .entry))) n (now (out .entry)) ⌝ }
 {
     let a = row_of(above);
     let l = row_of(left);
-    let mut pred = [0u16; 1024];
     let mut refs = [0u16; 193];
     let mut indices = [0u32; 32];
     let mut fractions = [0u32; 32];
@@ -276,12 +314,70 @@ fn angular_block(
         mode,
         edge,
         bits,
-        &mut pred,
+        &mut *pred,
         &mut refs,
         &mut indices,
         &mut fractions,
     );
-    store(&pred, n * n, &mut *out, 0);
+    store(&*pred, n * n, &mut *out, 0);
+}
+
+// A buffer no larger than the side needs: clearing it costs.
+fn angular_block(
+    bits: u32,
+    n: usize,
+    mode: u8,
+    edge: bool,
+    corner: u16,
+    above: &[u8],
+    left: &[u8],
+    out: &mut [u8],
+)
+    requires { ⌜ Fit n (length (now above)) (length (now left)) (length (now out)) × (depthOk bits ≡ true) × (angularMode mode ≡ true) ⌝ }
+    ensures { λ _. ⌜ now (out .exit) ≡ blockIn (angularIn bits edge n mode corner (now (above .entry)) (now (left .entry))) n (now (out .entry)) ⌝ }
+{
+    if n <= 8 {
+        let mut pred = [0u16; 64];
+        angular_into(
+            bits,
+            n,
+            mode,
+            edge,
+            corner,
+            above,
+            left,
+            &mut pred,
+            &mut *out,
+        );
+        return;
+    }
+    if n <= 16 {
+        let mut pred = [0u16; 256];
+        angular_into(
+            bits,
+            n,
+            mode,
+            edge,
+            corner,
+            above,
+            left,
+            &mut pred,
+            &mut *out,
+        );
+        return;
+    }
+    let mut pred = [0u16; 1024];
+    angular_into(
+        bits,
+        n,
+        mode,
+        edge,
+        corner,
+        above,
+        left,
+        &mut pred,
+        &mut *out,
+    );
 }
 
 // The block of an angular mode, 2 to 34. Numbers 1, 2, 3, 5.
@@ -315,21 +411,22 @@ pub extern "C" fn salvrunde_angular(
     no
 }
 
-fn chroma_block(
+// Predicts into a buffer of samples, and stores the block.
+fn chroma_into(
     bits: u32,
     n: usize,
     mode: u8,
     corner: u16,
     above: &[u8],
     left: &[u8],
+    pred: &mut [u16],
     out: &mut [u8],
 )
-    requires { ⌜ Fit n (length (now above)) (length (now left)) (length (now out)) × (predictNo bits n mode (lent 65 65 1024) ≡ 0) ⌝ }
+    requires { ⌜ Fit n (length (now above)) (length (now left)) (length (now out)) × (depthOk bits ≡ true) × (modeOk mode ≡ true) × (n * n ≤ length (now pred)) ⌝ }
     ensures { λ _. ⌜ now (out .exit) ≡ blockIn (chromaIn bits n mode corner (now (above .entry)) (now (left .entry))) n (now (out .entry)) ⌝ }
 {
     let a = row_of(above);
     let l = row_of(left);
-    let mut pred = [0u16; 1024];
     let mut refs = [0u16; 193];
     let mut indices = [0u32; 32];
     let mut fractions = [0u32; 32];
@@ -340,12 +437,39 @@ fn chroma_block(
         &l,
         n,
         bits,
-        &mut pred,
+        &mut *pred,
         &mut refs,
         &mut indices,
         &mut fractions,
     );
-    store(&pred, n * n, &mut *out, 0);
+    store(&*pred, n * n, &mut *out, 0);
+}
+
+// A buffer no larger than the side needs: clearing it costs.
+fn chroma_block(
+    bits: u32,
+    n: usize,
+    mode: u8,
+    corner: u16,
+    above: &[u8],
+    left: &[u8],
+    out: &mut [u8],
+)
+    requires { ⌜ Fit n (length (now above)) (length (now left)) (length (now out)) × (depthOk bits ≡ true) × (modeOk mode ≡ true) ⌝ }
+    ensures { λ _. ⌜ now (out .exit) ≡ blockIn (chromaIn bits n mode corner (now (above .entry)) (now (left .entry))) n (now (out .entry)) ⌝ }
+{
+    if n <= 8 {
+        let mut pred = [0u16; 64];
+        chroma_into(bits, n, mode, corner, above, left, &mut pred, &mut *out);
+        return;
+    }
+    if n <= 16 {
+        let mut pred = [0u16; 256];
+        chroma_into(bits, n, mode, corner, above, left, &mut pred, &mut *out);
+        return;
+    }
+    let mut pred = [0u16; 1024];
+    chroma_into(bits, n, mode, corner, above, left, &mut pred, &mut *out);
 }
 
 // A chroma block in any mode, 0 to 34: nothing is smoothed, and no edge is filtered. Numbers 1, 2, 3, 5.

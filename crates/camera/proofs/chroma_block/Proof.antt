@@ -1,81 +1,58 @@
--- The rows are read, the block predicted with scratch of its own, and stored. Assumes nothing.
-use mathlib.Core.Path.{refl}
-use mathlib.Core.List.{List}
-use Prim.Native.Nat.{ℕ}
-use native.Mathlib.Omega.{arith}
-use mathlib.Core.Bool.{true}
-use Rattle.h265.specs.Notation.{fromRows}
-use Rattle.h265.specs.Setting.{first}
-use Rattle.h265.specs.Prediction.{predSamples}
-use Rattle.predict.specs.Contents.{chromaAt}
-use Rattle.predict.specs.Door.{predictNo}
-use Rattle.camera.specs.Checks.{predicted, lent}
+-- A buffer for the side. Assumes nothing.
+use Rattle.camera.specs.Checks.{square-under}
 use borrow.Author.Needs.{needs}
 use Rattle.camera.proofs.chroma_block.Statement.{statement}
 use Rattle.camera.proofs.chroma_block.Tie as tie
 
-row-of-requires : tie.Need-row-of-requires
-row-of-requires c κs = c .before .before .before .pre .0 .above-long
+slice-aggregate-chroma-into : tie.Need-slice-aggregate-chroma-into
+slice-aggregate-chroma-into c = search needs
 
-row-of-requires-2 : tie.Need-row-of-requires-2
-row-of-requires-2 c κs = c .before .before .before .before .pre .0 .left-long
-
-slice-aggregate-predict-chroma-tb-slices : tie.Need-slice-aggregate-predict-chroma-tb-slices
-slice-aggregate-predict-chroma-tb-slices c = search needs
-
-slice-aggregate-predict-chroma-tb-slices-2 : tie.Need-slice-aggregate-predict-chroma-tb-slices-2
-slice-aggregate-predict-chroma-tb-slices-2 c = search needs
-
-slice-aggregate-predict-chroma-tb-slices-3 : tie.Need-slice-aggregate-predict-chroma-tb-slices-3
-slice-aggregate-predict-chroma-tb-slices-3 c = search needs
-
-slice-aggregate-predict-chroma-tb-slices-4 : tie.Need-slice-aggregate-predict-chroma-tb-slices-4
-slice-aggregate-predict-chroma-tb-slices-4 c = search needs
-
-slice-aggregate-predict-chroma-tb-slices-5 : tie.Need-slice-aggregate-predict-chroma-tb-slices-5
-slice-aggregate-predict-chroma-tb-slices-5 c = search needs
-
-slice-aggregate-predict-chroma-tb-slices-6 : tie.Need-slice-aggregate-predict-chroma-tb-slices-6
-slice-aggregate-predict-chroma-tb-slices-6 c = search needs
-
-predict-chroma-tb-slices-requires : tie.Need-predict-chroma-tb-slices-requires
-predict-chroma-tb-slices-requires c κs = search needs
-
-slice-aggregate-store : tie.Need-slice-aggregate-store
-slice-aggregate-store c = search needs
-
-mul-store : tie.Need-mul-store
-mul-store c = omega (arith, c .before .before .before .before .before .before .before .before .before .before .before .before .before .before .before .before .before .pre .0 .few)
-
-store-requires : tie.Need-store-requires
-store-requires c κs = (omega (arith, c .before .before .before .before .before .before .before .before .before .before .before .before .before .before .before .before .before .before .pre .0 .few), omega (arith, c .before .before .before .before .before .before .before .before .before .before .before .before .before .before .before .before .before .before .pre .0 .block-long))
+chroma-into-requires : tie.Need-chroma-into-requires
+chroma-into-requires c κs = (c .before .before .before .before .before .before .pre .0, c .before .before .before .before .before .before .pre .1, c .before .before .before .before .before .before .pre .2, square-under (c .before .before .before .before .before .before .args .n) 8 (c .before .before .if1 .taken))
 
 same-length : tie.Need-same-length
 same-length c = search needs
 
 returns : tie.Need-returns
-returns c =
-    let s = c .before .before .before .before .before .before .before .before .before .before .before .before .before .before .before .before .before .before .before .before .before in
-    let a = s .args in
-    let f = s .pre in
-    let p = c .before .before .before .before .before .before .before .before .before .predict-chroma-tb-slices .ensures in
-    predicted (λ (u v : List ℕ) (y x : ℕ). predSamples (chromaAt (a .bits)) (first true) (a .n) (a .mode) (fromRows (a .corner) u v) x y) (λ (x y z : ℕ). predictNo (a .bits) (a .n) (a .mode) (lent x y z)) (a .n) (a .above .now) (a .left .now) (a .out .now) (f .0 .few) (f .1) (c .before .before .before .before .before .before .before .before .before .before .before .before .before .before .before .before .before .row-of .ensures) (c .before .before .before .before .before .before .before .before .before .before .before .before .before .before .before .before .row-of2 .ensures) refl (p .0) (p .1 .0) (c .before .before .store .ensures)
+returns c = search needs
+
+slice-aggregate-chroma-into-2 : tie.Need-slice-aggregate-chroma-into-2
+slice-aggregate-chroma-into-2 c = search needs
+
+chroma-into-requires-2 : tie.Need-chroma-into-requires-2
+chroma-into-requires-2 c κs = (c .before .before .before .before .before .before .before .pre .0, c .before .before .before .before .before .before .before .pre .1, c .before .before .before .before .before .before .before .pre .2, square-under (c .before .before .before .before .before .before .before .args .n) 16 (c .before .before .if2 .taken))
+
+same-length-2 : tie.Need-same-length-2
+same-length-2 c = search needs
+
+returns-2 : tie.Need-returns-2
+returns-2 c = search needs
+
+slice-aggregate-chroma-into-3 : tie.Need-slice-aggregate-chroma-into-3
+slice-aggregate-chroma-into-3 c = search needs
+
+chroma-into-requires-3 : tie.Need-chroma-into-requires-3
+chroma-into-requires-3 c κs = search needs
+
+same-length-3 : tie.Need-same-length-3
+same-length-3 c = search needs
+
+returns-3 : tie.Need-returns-3
+returns-3 c = search needs
 
 pub chroma-block-spec : {M : Type 1} → statement M
 chroma-block-spec =
     tie.close
     (tie.spec
-    row-of-requires
-    row-of-requires-2
-    slice-aggregate-predict-chroma-tb-slices
-    slice-aggregate-predict-chroma-tb-slices-2
-    slice-aggregate-predict-chroma-tb-slices-3
-    slice-aggregate-predict-chroma-tb-slices-4
-    slice-aggregate-predict-chroma-tb-slices-5
-    slice-aggregate-predict-chroma-tb-slices-6
-    predict-chroma-tb-slices-requires
-    slice-aggregate-store
-    mul-store
-    store-requires
+    slice-aggregate-chroma-into
+    chroma-into-requires
     same-length
-    returns)
+    returns
+    slice-aggregate-chroma-into-2
+    chroma-into-requires-2
+    same-length-2
+    returns-2
+    slice-aggregate-chroma-into-3
+    chroma-into-requires-3
+    same-length-3
+    returns-3)

@@ -1,66 +1,58 @@
--- The rows are read, the block predicted and stored. Assumes nothing.
-use mathlib.Core.Path.{refl}
-use mathlib.Core.List.{List}
-use Prim.Native.Nat.{ℕ}
-use native.Mathlib.Omega.{arith}
-use Rattle.h265.specs.Notation.{fromRows}
-use Rattle.h265.specs.Dc.{dc}
-use Rattle.flat.specs.Flat.{flatNo}
-use Rattle.camera.specs.Checks.{predicted}
+-- A buffer for the side. Assumes nothing.
+use Rattle.camera.specs.Checks.{square-under}
 use borrow.Author.Needs.{needs}
 use Rattle.camera.proofs.dc_block.Statement.{statement}
 use Rattle.camera.proofs.dc_block.Tie as tie
 
-row-of-requires : tie.Need-row-of-requires
-row-of-requires c κs = c .before .before .before .pre .0 .above-long
+slice-aggregate-dc-into : tie.Need-slice-aggregate-dc-into
+slice-aggregate-dc-into c = search needs
 
-row-of-requires-2 : tie.Need-row-of-requires-2
-row-of-requires-2 c κs = c .before .before .before .before .pre .0 .left-long
-
-slice-aggregate-predict-dc-into : tie.Need-slice-aggregate-predict-dc-into
-slice-aggregate-predict-dc-into c = search needs
-
-slice-aggregate-predict-dc-into-2 : tie.Need-slice-aggregate-predict-dc-into-2
-slice-aggregate-predict-dc-into-2 c = search needs
-
-slice-aggregate-predict-dc-into-3 : tie.Need-slice-aggregate-predict-dc-into-3
-slice-aggregate-predict-dc-into-3 c = search needs
-
-predict-dc-into-requires : tie.Need-predict-dc-into-requires
-predict-dc-into-requires c κs = search needs
-
-slice-aggregate-store : tie.Need-slice-aggregate-store
-slice-aggregate-store c = search needs
-
-mul-store : tie.Need-mul-store
-mul-store c = omega (arith, c .before .before .before .before .before .before .before .before .before .before .before .pre .0 .few)
-
-store-requires : tie.Need-store-requires
-store-requires c κs = (omega (arith, c .before .before .before .before .before .before .before .before .before .before .before .before .pre .0 .few), omega (arith, c .before .before .before .before .before .before .before .before .before .before .before .before .pre .0 .block-long))
+dc-into-requires : tie.Need-dc-into-requires
+dc-into-requires c κs = (c .before .before .before .before .before .before .pre, square-under (c .before .before .before .before .before .before .args .n) 8 (c .before .before .if1 .taken))
 
 same-length : tie.Need-same-length
 same-length c = search needs
 
 returns : tie.Need-returns
-returns c =
-    let s = c .before .before .before .before .before .before .before .before .before .before .before .before .before .before .before in
-    let a = s .args in
-    let f = s .pre in
-    let p = c .before .before .before .before .before .before .predict-dc-into .ensures in
-    predicted (λ (u v : List ℕ) (y x : ℕ). dc (a .edge) (a .n) (fromRows 0 u v) x y) (λ (x y z : ℕ). flatNo (a .n) x y z) (a .n) (a .above .now) (a .left .now) (a .out .now) (f .0 .few) (f .1) (c .before .before .before .before .before .before .before .before .before .before .before .row-of .ensures) (c .before .before .before .before .before .before .before .before .before .before .row-of2 .ensures) refl (p .0) (p .1) (c .before .before .store .ensures)
+returns c = search needs
+
+slice-aggregate-dc-into-2 : tie.Need-slice-aggregate-dc-into-2
+slice-aggregate-dc-into-2 c = search needs
+
+dc-into-requires-2 : tie.Need-dc-into-requires-2
+dc-into-requires-2 c κs = (c .before .before .before .before .before .before .before .pre, square-under (c .before .before .before .before .before .before .before .args .n) 16 (c .before .before .if2 .taken))
+
+same-length-2 : tie.Need-same-length-2
+same-length-2 c = search needs
+
+returns-2 : tie.Need-returns-2
+returns-2 c = search needs
+
+slice-aggregate-dc-into-3 : tie.Need-slice-aggregate-dc-into-3
+slice-aggregate-dc-into-3 c = search needs
+
+dc-into-requires-3 : tie.Need-dc-into-requires-3
+dc-into-requires-3 c κs = search needs
+
+same-length-3 : tie.Need-same-length-3
+same-length-3 c = search needs
+
+returns-3 : tie.Need-returns-3
+returns-3 c = search needs
 
 pub dc-block-spec : {M : Type 1} → statement M
 dc-block-spec =
     tie.close
     (tie.spec
-    row-of-requires
-    row-of-requires-2
-    slice-aggregate-predict-dc-into
-    slice-aggregate-predict-dc-into-2
-    slice-aggregate-predict-dc-into-3
-    predict-dc-into-requires
-    slice-aggregate-store
-    mul-store
-    store-requires
+    slice-aggregate-dc-into
+    dc-into-requires
     same-length
-    returns)
+    returns
+    slice-aggregate-dc-into-2
+    dc-into-requires-2
+    same-length-2
+    returns-2
+    slice-aggregate-dc-into-3
+    dc-into-requires-3
+    same-length-3
+    returns-3)

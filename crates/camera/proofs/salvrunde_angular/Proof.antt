@@ -4,7 +4,7 @@ use native.Mathlib.Omega.{arith}
 use lib.Dec.{leb}
 use Rattle.laws.specs.Choose.{both-true}
 use Rattle.camera.specs.Entries.{angularMode, angularEntry}
-use Rattle.camera.specs.Checks.{angular-fit, done, refused, narrow}
+use Rattle.camera.specs.Checks.{mode-fit, done, refused, narrow}
 use borrow.Author.Needs.{needs}
 use Rattle.camera.proofs.salvrunde_angular.Statement.{statement}
 use Rattle.camera.proofs.salvrunde_angular.Tie as tie
@@ -16,7 +16,7 @@ cast-angular-block : tie.Need-cast-angular-block
 cast-angular-block c = omega (arith, narrow _ _ (c .before .before .before .before .before .args .mode) _ _ _ (angularMode (c .before .before .before .before .before .args .mode)) (λ t. both-true (leb 2 (c .before .before .before .before .before .args .mode)) _ t .1) (sym (c .before .mode-no .ensures) ∙ c .if1 .taken))
 
 angular-block-requires : tie.Need-angular-block-requires
-angular-block-requires c κs = angular-fit _ _ (c .before .before .before .before .before .before .args .mode) _ _ _ (sym (c .before .before .mode-no .ensures) ∙ c .before .if1 .taken)
+angular-block-requires c κs = mode-fit _ _ _ _ _ (angularMode (c .before .before .before .before .before .before .args .mode)) (sym (c .before .before .mode-no .ensures) ∙ c .before .if1 .taken)
 
 same-length : tie.Need-same-length
 same-length c = search needs

@@ -1,8 +1,9 @@
 -- The number, then the work. Assumes nothing.
 use mathlib.Core.Path.{sym, _∙_}
 use native.Mathlib.Omega.{arith}
+use Rattle.domain.specs.Domain.{modeOk}
 use Rattle.camera.specs.Entries.{chromaBlockEntry}
-use Rattle.camera.specs.Checks.{chroma-fit, done, refused, narrow}
+use Rattle.camera.specs.Checks.{mode-fit, done, refused, narrow}
 use borrow.Author.Needs.{needs}
 use Rattle.camera.proofs.salvrunde_chroma_block.Statement.{statement}
 use Rattle.camera.proofs.salvrunde_chroma_block.Tie as tie
@@ -14,7 +15,7 @@ cast-chroma-block : tie.Need-cast-chroma-block
 cast-chroma-block c = omega (arith, narrow _ _ (c .before .before .before .before .before .args .mode) _ _ _ _ (λ t. t) (sym (c .before .mode-no .ensures) ∙ c .if1 .taken))
 
 chroma-block-requires : tie.Need-chroma-block-requires
-chroma-block-requires c κs = chroma-fit _ _ (c .before .before .before .before .before .before .args .mode) _ _ _ (sym (c .before .before .mode-no .ensures) ∙ c .before .if1 .taken)
+chroma-block-requires c κs = mode-fit _ _ _ _ _ (modeOk (c .before .before .before .before .before .before .args .mode)) (sym (c .before .before .mode-no .ensures) ∙ c .before .if1 .taken)
 
 same-length : tie.Need-same-length
 same-length c = search needs
