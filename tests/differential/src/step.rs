@@ -104,19 +104,28 @@ impl Call {
         let step = self.make();
         let after =
             [Slice::new(bytes(&self.plane), self.plane.len()), Slice::new(bytes_signed(&self.residuals), self.residuals.len())];
-        let (name, lent, left) = if self.walk {
-            ("salvrunde_probe_walk", vec![&plan, &source, &plane, &residuals], vec![&plan, &source, &after[0], &after[1]])
+        let (names, lent, left) = if self.walk {
+            (WALK, vec![&plan, &source, &plane, &residuals], vec![&plan, &source, &after[0], &after[1]])
         } else {
-            ("salvrunde_probe_replay", vec![&plan, &residuals, &plane], vec![&plan, &residuals, &after[0]])
+            (REPLAY, vec![&plan, &residuals, &plane], vec![&plan, &residuals, &after[0]])
         };
-        let lent: Vec<Arg> = lent.into_iter().chain(&tables).flat_map(Slice::args).collect();
-        let mut want = Want::fields(&[step.no, step.block, step.did, step.done]);
-        want = left.into_iter().fold(want, |want, s| want.then(s.bytes.clone()));
+        let slices: Vec<Arg> = lent.into_iter().flat_map(Slice::args).collect();
+        let grant = [Number(self.grant as u64)];
+        let fields = [step.no, step.block, step.did, step.done];
+        let begun = || left.iter().fold(Want::fields(&fields), |want, s| want.then(s.bytes.clone()));
+        let mut want = begun();
         for table in &tables {
             let open = if step.no == 0 { table.bytes.len() - GUARD.len() } else { 0 };
             want = want.then_past(open, table.bytes.clone());
         }
-        t.call(name, &[&numbers[..], &lent, &[Number(self.grant as u64)]].concat(), want);
+        let lent: Vec<Arg> = tables.iter().flat_map(Slice::args).collect();
+        t.call(names[0], &[&numbers[..], &slices, &lent, &grant].concat(), want);
+        // over block records the scratch is a struct, whose tables are long enough
+        if table::scratch(refs, indices, fractions) {
+            let scratch = Slice::new(bytes(&dirt(SCRATCH / 2, random)), 1);
+            let want = begun().then_past(if step.no == 0 { SCRATCH } else { 0 }, scratch.bytes.clone());
+            t.call(names[1], &[&numbers[..], &slices, &[Lent(&scratch.bytes)], &grant].concat(), want);
+        }
         step
     }
 
@@ -125,6 +134,13 @@ impl Call {
         [at_least(193, random), at_least(32, random), at_least(32, random)]
     }
 }
+
+/// The entries over lent numbers and over block records.
+const WALK: [&str; 2] = ["salvrunde_probe_walk", "salvrunde_probe_walk_records"];
+const REPLAY: [&str; 2] = ["salvrunde_probe_replay", "salvrunde_probe_replay_records"];
+
+/// Bytes of the scratch struct: 193 samples, two bytes of room, and twice 32 numbers.
+const SCRATCH: usize = 193 * 2 + 2 + 2 * 32 * 4;
 
 const GUARD: [u8; 16] = *b"guards of a call";
 
