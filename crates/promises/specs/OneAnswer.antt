@@ -467,7 +467,7 @@ module _ {M : Type 1} (𝓤 : URA M) (H : Heap 𝓤) (A : Atoms 𝓤) (mem : Mem
   scratch-predict-luma-tb-into-once κs a g x y s t = held-both _ _ _ (λ p q. by-number _ _ (p .0) (q .0) (p .1 .0) (q .1 .0))
 
   -- plan
-  plan-check-plan-once : (κs : Lfts 1) → OnceHeld plan-check-plan.ended κs (λ _. tt) (plan-check-plan.clauses 𝓤 H A mem run)
+  plan-check-plan-once : (κs : Lfts 1) → OnceHeld plan-check-plan.ended κs {L = Unit {0}} (λ _. tt) (plan-check-plan.clauses 𝓤 H A mem run)
   plan-check-plan-once κs a g x y s t = held-both _ _ _ (λ p q. (p ∙ sym q, refl))
 
   -- walk
