@@ -6,17 +6,17 @@ use Rattle.report.proofs.replay_all.Tie as tie
 fresh-requires : tie.Need-fresh-requires
 fresh-requires c κs = search needs
 
-slice-aggregate-replay : tie.Need-slice-aggregate-replay
-slice-aggregate-replay c = search needs
+slice-aggregate-replay-numbers : tie.Need-slice-aggregate-replay-numbers
+slice-aggregate-replay-numbers c = search needs
 
-slice-aggregate-replay-2 : tie.Need-slice-aggregate-replay-2
-slice-aggregate-replay-2 c = search needs
+slice-aggregate-replay-numbers-2 : tie.Need-slice-aggregate-replay-numbers-2
+slice-aggregate-replay-numbers-2 c = search needs
 
-slice-aggregate-replay-3 : tie.Need-slice-aggregate-replay-3
-slice-aggregate-replay-3 c = search needs
+slice-aggregate-replay-numbers-3 : tie.Need-slice-aggregate-replay-numbers-3
+slice-aggregate-replay-numbers-3 c = search needs
 
-cast-replay : tie.Need-cast-replay
-cast-replay c = search needs
+cast-replay-numbers : tie.Need-cast-replay-numbers
+cast-replay-numbers c = search needs
 
 replay-numbers-requires : tie.Need-replay-numbers-requires
 replay-numbers-requires c κs = search needs
@@ -32,10 +32,10 @@ replay-all-spec =
     tie.close
     (tie.spec
     fresh-requires
-    slice-aggregate-replay
-    slice-aggregate-replay-2
-    slice-aggregate-replay-3
-    cast-replay
+    slice-aggregate-replay-numbers
+    slice-aggregate-replay-numbers-2
+    slice-aggregate-replay-numbers-3
+    cast-replay-numbers
     replay-numbers-requires
     same-length
     returns)

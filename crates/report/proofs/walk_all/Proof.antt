@@ -6,17 +6,17 @@ use Rattle.report.proofs.walk_all.Tie as tie
 fresh-requires : tie.Need-fresh-requires
 fresh-requires c κs = search needs
 
-slice-aggregate-walk : tie.Need-slice-aggregate-walk
-slice-aggregate-walk c = search needs
+slice-aggregate-walk-numbers : tie.Need-slice-aggregate-walk-numbers
+slice-aggregate-walk-numbers c = search needs
 
-slice-aggregate-walk-2 : tie.Need-slice-aggregate-walk-2
-slice-aggregate-walk-2 c = search needs
+slice-aggregate-walk-numbers-2 : tie.Need-slice-aggregate-walk-numbers-2
+slice-aggregate-walk-numbers-2 c = search needs
 
-slice-aggregate-walk-3 : tie.Need-slice-aggregate-walk-3
-slice-aggregate-walk-3 c = search needs
+slice-aggregate-walk-numbers-3 : tie.Need-slice-aggregate-walk-numbers-3
+slice-aggregate-walk-numbers-3 c = search needs
 
-cast-walk : tie.Need-cast-walk
-cast-walk c = search needs
+cast-walk-numbers : tie.Need-cast-walk-numbers
+cast-walk-numbers c = search needs
 
 walk-numbers-requires : tie.Need-walk-numbers-requires
 walk-numbers-requires c κs = search needs
@@ -35,10 +35,10 @@ walk-all-spec =
     tie.close
     (tie.spec
     fresh-requires
-    slice-aggregate-walk
-    slice-aggregate-walk-2
-    slice-aggregate-walk-3
-    cast-walk
+    slice-aggregate-walk-numbers
+    slice-aggregate-walk-numbers-2
+    slice-aggregate-walk-numbers-3
+    cast-walk-numbers
     walk-numbers-requires
     same-length
     same-length-2
