@@ -36,11 +36,11 @@ static uint32_t luma(void) { return salvrunde_luma_refs(8, WIDTH, HEIGHT, 64, 4,
 static uint32_t chroma(void) {
     return salvrunde_chroma_refs(8, 3, WIDTH, HEIGHT, 4, 32, 32, 32, 32, 32, plane, sizeof plane, other, sizeof other, rows, sizeof rows);
 }
-static uint32_t planar(void) { return salvrunde_planar(32, above, 130, left, 130, block, sizeof block); }
-static uint32_t dc(void) { return salvrunde_dc(16, 1, above, 130, left, 130, block, sizeof block); }
-static uint32_t mode;
-static uint32_t angular(void) { return salvrunde_angular(8, 32, mode, 1, 7, above, 130, left, 130, block, sizeof block); }
-static uint32_t chroma_block(void) { return salvrunde_chroma_block(8, 32, mode, 7, above, 130, left, 130, block, sizeof block); }
+static uint32_t side, mode;
+static uint32_t planar(void) { return salvrunde_planar(side, above, 130, left, 130, block, sizeof block); }
+static uint32_t dc(void) { return salvrunde_dc(side, 1, above, 130, left, 130, block, sizeof block); }
+static uint32_t angular(void) { return salvrunde_angular(8, side, mode, 1, 7, above, 130, left, 130, block, sizeof block); }
+static uint32_t chroma_block(void) { return salvrunde_chroma_block(8, side, mode, 7, above, 130, left, 130, block, sizeof block); }
 static uint32_t replay(void) {
     for (int i = 0; i < 4; i++) plan[6 * i + 5] = (uint8_t)mode;
     return salvrunde_replay(0, 8, WIDTH, HEIGHT, 64, 4, plan, sizeof plan, residuals, sizeof residuals, plane, sizeof plane, result, sizeof result);
@@ -62,10 +62,11 @@ static int over;
 
 static void tell(const char *name, uint32_t (*call)(void), uint32_t modes, word most) {
     word least = used(nothing), greatest = 0;
-    for (mode = modes > 1 ? 2 : 0; mode < 2 + modes; mode++) {
-        word depth = used(call) - least;
-        if (depth > greatest) greatest = depth;
-    }
+    for (side = 4; side <= 32; side *= 2)
+        for (mode = modes > 1 ? 2 : 0; mode < 2 + modes; mode++) {
+            word depth = used(call) - least;
+            if (depth > greatest) greatest = depth;
+        }
     say(name), say(" "), say_number(greatest), say(" of "), say_number(most), say("\n");
     if (greatest > most) over = 1;
 }
