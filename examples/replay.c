@@ -1,7 +1,7 @@
 /* Replays a still as the camera would: a few blocks a call, with the progress record passed on from call to call, and shows the plane.
  *
- *     tests/archive camera target/c
- *     gcc -std=c99 -Iinclude examples/replay.c target/c/libcamera.a -o target/c/replay && target/c/replay
+ *     tests/archive camera
+ *     gcc -std=c99 -Iinclude examples/replay.c target/archive/libcamera.a -o target/replay && target/replay
  *
  * The still is document 01's own: 16 by 8 samples of 130, two blocks of 8 by 8 in mode 1. The first block has no neighbour and is predicted
  * at 128, so its residuals are 2; the second is predicted from the first, and its residuals are 0. */

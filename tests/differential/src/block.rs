@@ -2,6 +2,7 @@
 //! filter_luma_refs and the three predictors with edges filtered, put together as H.265 8.4.4.2.1 does (assembled.rs).
 //! Outside document 01's domain the Rust is not asked: what is wanted there is the table's number and nothing written.
 use crate::assembled;
+use crate::entries;
 use crate::host::Arg::{Lent, Number, Read};
 use crate::oracle::intra::{self, AngularScratch};
 use crate::random::Random;
@@ -99,6 +100,9 @@ fn ask(t: &mut Tally, call: &Block, scratch: &mut AngularScratch, random: &mut R
     }
     let name = if call.luma { "salvrunde_probe_predict_luma_tb_slices" } else { "salvrunde_probe_predict_chroma_tb_slices" };
     t.call(name, &args, want);
+    if !call.luma {
+        entries::chroma_block(t, call, scratch);
+    }
 }
 
 const FAULTS: &[fn(&mut Block)] = &[

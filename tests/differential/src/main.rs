@@ -9,6 +9,7 @@
 mod assembled;
 mod block;
 mod differences;
+mod entries;
 mod fmt;
 mod frame;
 mod host;

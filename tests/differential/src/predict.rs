@@ -1,5 +1,6 @@
 //! Planar, DC and angular prediction against the Rust's predict_planar_into, predict_dc_into and predict_angular_into.
 //! Outside document 01's domain the Rust is not asked: what is wanted there is the table's number and nothing written.
+use crate::entries;
 use crate::host::Arg::{Lent, Number, Read};
 use crate::oracle::intra::{self, AngularScratch};
 use crate::random::Random;
@@ -53,6 +54,7 @@ fn ask_flat(t: &mut Tally, call: &Flat) {
         let (no, after) = call.dc(edge);
         t.call("salvrunde_probe_predict_dc_into", &args, Want::fields(&[no]).then(bytes(&after)));
     }
+    entries::flat(t, call);
 }
 
 /// A call that is served: rows of these kinds, buffers as long as they must be or longer.
@@ -131,7 +133,7 @@ impl Angular {
     }
 
     /// The same, with tables that are long enough or not.
-    fn with_tables(&self, tables: bool, scratch: &mut AngularScratch) -> (u32, Vec<u16>) {
+    pub fn with_tables(&self, tables: bool, scratch: &mut AngularScratch) -> (u32, Vec<u16>) {
         let Flat { above, left, n, pred } = &self.rows;
         let (no, mut after) = (self.number(tables), pred.clone());
         if no == 0 {
@@ -177,6 +179,7 @@ pub fn ask_angular(t: &mut Tally, call: &Angular, scratch: &mut AngularScratch, 
     // the same through the struct, whose tables are long enough by their type
     let (no, after) = call.with_tables(true, scratch);
     t.call("salvrunde_probe_predict_angular_scratch", &args[..11], Want::fields(&[no]).then(bytes(&after)));
+    entries::angular(t, call, scratch);
 }
 
 pub fn angular(t: &mut Tally) {

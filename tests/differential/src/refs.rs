@@ -1,6 +1,7 @@
 //! Substitution and the two gathers against the Rust's substitute_refs, get_reference_samples and
 //! get_reference_samples_chroma_pair. Outside document 01's domain the Rust is not asked: what is wanted there is the
 //! table's number and zeros.
+use crate::entries;
 use crate::fmt::format_of;
 use crate::host::Arg::{Lent, Number, Read};
 use crate::oracle::fmt::BitDepth;
@@ -210,6 +211,7 @@ pub fn ask_luma(t: &mut Tally, call: &Luma) {
     args.extend(numbers.map(|v| Number(v as u64)));
     args.push(Number(call.n as u64));
     t.call("salvrunde_probe_get_reference_samples", &args, Want::word(0, 0).then(answer_bytes(no, &[rows])));
+    entries::luma(t, call);
 }
 
 /// Every place of every size, CTU and unit in the pictures; a size, CTU and unit that do not go together are refused.
@@ -415,6 +417,7 @@ pub fn ask_chroma(t: &mut Tally, call: &Chroma) {
     args.extend(numbers.map(|v| Number(v as u64)));
     args.extend([Number(call.n as u64), Number(call.current.0 as u64), Number(call.current.1 as u64)]);
     t.call("salvrunde_probe_get_reference_samples_chroma_pair", &args, Want::word(0, 0).then(answer_bytes(no, &rows)));
+    entries::chroma(t, call);
 }
 
 const CHROMA_FAULTS: &[Fault<Chroma>] = &[

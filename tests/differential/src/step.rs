@@ -1,6 +1,7 @@
 //! One call of walk or replay: what document 01 and the Rust say of it, and the call of the proved code beside it.
 //! The number comes from document 01's table and order, the planes from the Rust's functions (assembled.rs).
 use crate::assembled::Job;
+use crate::entries;
 use crate::frame::{Block, Frame};
 use crate::host::Arg::{self, Lent, Number};
 use crate::random::Random;
@@ -101,6 +102,7 @@ impl Call {
             Slice::new(bytes_32(&dirt_32(indices, random)), indices),
             Slice::new(bytes_32(&dirt_32(fractions, random)), fractions),
         ];
+        let before = self.clone();
         let step = self.make();
         let after =
             [Slice::new(bytes(&self.plane), self.plane.len()), Slice::new(bytes_signed(&self.residuals), self.residuals.len())];
@@ -125,6 +127,9 @@ impl Call {
             let scratch = Slice::new(bytes(&dirt(SCRATCH / 2, random)), 1);
             let want = begun().then_past(if step.no == 0 { SCRATCH } else { 0 }, scratch.bytes.clone());
             t.call(names[1], &[&numbers[..], &slices, &[Lent(&scratch.bytes)], &grant].concat(), want);
+            if !self.walk {
+                entries::replay(t, &before, self, &step);
+            }
         }
         step
     }
