@@ -1,3 +1,5 @@
+-- Demand2: luma gathering, smoothing and prediction are those of H.265.
+pub mod Demand2
 -- Demand3: document 01's demand 3, for a reader, over Calls: a call of walk or replay, and a chain of calls. Proof3 proves it; Example is a walk
 -- that is served.
 pub mod Calls
