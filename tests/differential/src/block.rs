@@ -66,6 +66,26 @@ impl Block {
     }
 }
 
+impl Block {
+    /// The same call with other entries from 2n on: of the Rust, they reach no sample. Chroma, which no edge filter touches, also keeps between
+    /// the least and the greatest of what it may read.
+    fn reads_no_more(&self, scratch: &mut AngularScratch, random: &mut Random) -> Block {
+        let (mut other, read) = (self.clone(), 2 * self.n);
+        for row in [&mut other.above, &mut other.left] {
+            let more = dirt(row.len() - read, random);
+            row[read..].copy_from_slice(&more);
+        }
+        let (answer, block) = (self.answer(true, scratch), self.n * self.n);
+        assert_eq!(answer, other.answer(true, scratch));
+        let all = || [&[self.corner][..], &self.above[..read], &self.left[..read]].concat();
+        if !self.luma {
+            let (least, most) = (all().into_iter().min().unwrap(), all().into_iter().max().unwrap());
+            assert!(answer.1[..block].iter().all(|s| (least..=most).contains(s)), "between the references");
+        }
+        other
+    }
+}
+
 fn ask(t: &mut Tally, call: &Block, scratch: &mut AngularScratch, random: &mut Random) {
     let (no, after) = call.answer(table::scratch(call.refs, call.indices, call.fractions), scratch);
     let (up, side, pred) = (bytes(&call.above), bytes(&call.left), bytes(&call.pred));
@@ -145,6 +165,7 @@ fn run(t: &mut Tally, luma: bool, seed: u64) {
                     let kinds = [kind % KINDS, random.below(KINDS)];
                     let call = Block::any(luma, n, mode, bits, kinds, &mut random);
                     ask(t, &call, &mut scratch, &mut random);
+                    ask(t, &call.reads_no_more(&mut scratch, &mut random), &mut scratch, &mut random);
                 }
             }
         }

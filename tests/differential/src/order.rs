@@ -72,10 +72,44 @@ fn about(side: u32, random: &mut Random) -> u32 {
     }
 }
 
+/// What the order is for, of the Rust's numbers, to which every call holds the port's: it grows along rows and columns of cells, no two cells
+/// share a number, and an aligned block is a run of consecutive ones.
+fn laws(p: Picture) {
+    let number = |row: u32, col: u32| order_answer(p, row, col)[1];
+    let cells = |side: u32| (0..side).step_by(p.unit as usize);
+    let mut all: Vec<u32> = cells(p.height).flat_map(|r| cells(p.width).map(move |c| number(r, c))).collect();
+    for row in cells(p.height) {
+        assert!(cells(p.width).map(|col| number(row, col)).is_sorted_by(|a, b| a < b), "along a row: {p:?}");
+    }
+    for col in cells(p.width) {
+        assert!(cells(p.height).map(|row| number(row, col)).is_sorted_by(|a, b| a < b), "down a column: {p:?}");
+    }
+    let count = all.len();
+    all.sort();
+    all.dedup();
+    assert_eq!(all.len(), count, "no two cells share a number: {p:?}");
+    for n in [4, 8, 16, 32, 64].into_iter().filter(|n| (p.unit..=p.ctu).contains(n)) {
+        for (row, col) in (0..p.height / n).flat_map(|r| (0..p.width / n).map(move |c| (r * n, c * n))) {
+            let mut block: Vec<u32> = cells(n).flat_map(|r| cells(n).map(move |c| number(row + r, col + c))).collect();
+            block.sort();
+            assert!(block.iter().copied().eq((number(row, col)..).take(block.len())), "a block is a run: {p:?} {n} {row} {col}");
+        }
+    }
+}
+
+/// Of the Rust's flags about a place: what lies above or left of an available sample is available.
+fn closed(p: Picture, row: u32, col: u32) {
+    let there = |nr: u32, nc: u32| available_answer(p, row, col, nr as i64, nc as i64)[1] == 1;
+    for (nr, nc) in (0..p.height).flat_map(|r| (0..p.width).map(move |c| (r, c))).filter(|&(r, c)| there(r, c)) {
+        assert!((nr == 0 || there(nr - 1, nc)) && (nc == 0 || there(nr, nc - 1)), "closed: {p:?} {row} {col} {nr} {nc}");
+    }
+}
+
 pub fn order(t: &mut Tally) {
     // every sample, and two rows and columns past the picture
     for (width, height) in [(8, 8), (16, 24), (64, 40), (72, 40), (136, 136), (8, 4096), (4096, 8)] {
         for p in kinds(width, height) {
+            laws(p);
             for row in 0..height + 2 {
                 for col in 0..width + 2 {
                     ask_order(t, p, row, col);
@@ -129,6 +163,7 @@ pub fn availability(t: &mut Tally) {
         for p in kinds(width, height) {
             for row in (0..height).step_by(step) {
                 for col in (0..width).step_by(step) {
+                    closed(p, row, col);
                     for nr in -2..height as i64 + 2 {
                         for nc in -2..width as i64 + 2 {
                             ask_available(t, p, row, col, nr, nc);
