@@ -27,6 +27,11 @@ abbrev pub angularNo : ℕ → ℕ → ℕ → Lent → ℕ
 angularNo bits n mode l =
     firstFail ((1 unless depthOk bits) ∷ (2 unless sizeOk n) ∷ (3 unless (leb 2 mode && modeOk mode)) ∷ (5 unless enough n l) ∷ [])
 
+-- the number where rows of 2n entries are enough, and no table is lent
+unfoldable pub shortNo : ℕ → ℕ → ℕ → ℕ → ℕ → ℕ → ℕ
+shortNo bits n mode above left pred =
+    firstFail ((1 unless depthOk bits) ∷ (2 unless sizeOk n) ∷ (3 unless (leb 2 mode && modeOk mode)) ∷ (5 unless (leb (2 * n) above && leb (2 * n) left && leb (n * n) pred)) ∷ [])
+
 -- what a call that is served has
 pub record Fit (bits n mode : ℕ) (l : Lent) : Type 0 where
   pub depth : Depth bits
@@ -36,7 +41,7 @@ pub record Fit (bits n mode : ℕ) (l : Lent) : Type 0 where
   pub above : 2 * n ≤ l .above
   pub left : 2 * n ≤ l .left
   pub room : n * n ≤ l .pred
-  pub refs : 193 ≤ l .refs
+  pub refs : 129 ≤ l .refs
 
 -- a row that is long enough has the 2n entries that prediction reads
 long : (n k : ℕ) → Size n → predictorRow n ≤ k → 2 * n ≤ k
@@ -64,5 +69,28 @@ fit bits n mode l e =
       above = long n (l .above) size (leb-true _ _ (f .0));
       left = long n (l .left) size (leb-true _ _ (f .1));
       room = leb-true _ _ (d .1);
-      refs = leb-true _ _ (c .1);
+      refs = let h : 193 ≤ l .refs = leb-true _ _ (c .1) in omega arith;
+    }
+
+pub fit-short : (bits n mode above left pred : ℕ) → shortNo bits n mode above left pred ≡ 0
+    → Fit bits n mode (record { above = above; left = left; pred = pred; refs = 129; indices = 0; fractions = 0 })
+unfolding shortNo
+fit-short bits n mode above left pred e =
+    let p = passed (depthOk bits) _ 1 (omega arith) e in
+    let q = passed (sizeOk n) _ 2 (omega arith) (p .1) in
+    let r = passed (leb 2 mode && modeOk mode) _ 3 (omega arith) (q .1) in
+    let s = passed (leb (2 * n) above && leb (2 * n) left && leb (n * n) pred) _ 5 (omega arith) (r .1) in
+    let m = both-true (leb 2 mode) (modeOk mode) (r .0) in
+    let d = both-true _ (leb (n * n) pred) (s .0) in
+    let f = both-true (leb (2 * n) above) (leb (2 * n) left) (d .0) in
+    let top : mode ≤ 34 = leb-true mode 34 (m .1) in
+    record {
+      depth = depth-of bits (p .0);
+      size = size-of n (q .0);
+      low = leb-true 2 mode (m .0);
+      high = omega arith;
+      above = leb-true _ _ (f .0);
+      left = leb-true _ _ (f .1);
+      room = leb-true _ _ (d .1);
+      refs = omega arith;
     }

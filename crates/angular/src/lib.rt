@@ -14,7 +14,7 @@ ghost use Rattle.domain.specs.Facts.{Depth, Size};
 ghost use Rattle.angular.specs.Unsigned.{interpOf, fractionOf, sideOf, refAt, sampleAt, edgeOf, angularAt};
 ghost use Rattle.angular.specs.Lines.{turns, bends, lineStart, lineAt, firstOf, Reads};
 ghost use Rattle.angular.specs.Grid.{column};
-ghost use Rattle.angular.specs.Door.{Lent, enough, angularNo};
+ghost use Rattle.angular.specs.Door.{Lent, enough, angularNo, shortNo};
 
 // Between two references: 32 - f parts of x and f of y.
 fn interp(f: u32, x: u16, y: u16) -> u16
@@ -314,7 +314,7 @@ fn main_refs(main: &[u16], n: usize, refs: &mut [u16])
 
 // The references of a negative angle, as far as they are read.
 fn build(corner: u16, main: &[u16], side: &[u16], e: usize, inv: usize, n: usize, refs: &mut [u16])
-    requires { ⌜ (e < 32) × ((sideOf inv (firstOf e n) ≤ 2 * n) × (Size n × ((2 * n ≤ length (now main)) × ((2 * n ≤ length (now side)) × (193 ≤ length (now refs)))))) ⌝ }
+    requires { ⌜ (e < 32) × ((sideOf inv (firstOf e n) ≤ 2 * n) × (Size n × ((2 * n ≤ length (now main)) × ((2 * n ≤ length (now side)) × (129 ≤ length (now refs)))))) ⌝ }
     ensures { λ _. ⌜ now (refs .exit) ≡ run (λ (i : ℕ). refAt (fromRows corner (now (main .entry)) (now (side .entry))) inv (firstOf e n + i)) (firstOf e n) (65 + n - firstOf e n) (now (refs .entry)) ⌝ }
 {
     let lo = 65 + n * e / 32 - n;
@@ -376,7 +376,7 @@ fn vertical(
     pred: &mut [u16],
     refs: &mut [u16],
 )
-    requires { ⌜ Size n × ((d < 17) × ((2 * n ≤ length (now main)) × ((2 * n ≤ length (now side)) × ((n * n ≤ length (now pred)) × (193 ≤ length (now refs)))))) ⌝ }
+    requires { ⌜ Size n × ((d < 17) × ((2 * n ≤ length (now main)) × ((2 * n ≤ length (now side)) × ((n * n ≤ length (now pred)) × (129 ≤ length (now refs)))))) ⌝ }
     ensures { λ _. ⌜ now (pred .exit) ≡ block (sampleAt (fromRows corner (now (main .entry)) (now (side .entry))) (getD turns d 0) (getD bends d 0)) n (now (pred .entry)) ⌝ }
 {
     let e = turn(d);
@@ -406,7 +406,7 @@ fn horizontal(
     pred: &mut [u16],
     refs: &mut [u16],
 )
-    requires { ⌜ Size n × ((d < 17) × ((2 * n ≤ length (now main)) × ((2 * n ≤ length (now side)) × ((n * n ≤ length (now pred)) × (193 ≤ length (now refs)))))) ⌝ }
+    requires { ⌜ Size n × ((d < 17) × ((2 * n ≤ length (now main)) × ((2 * n ≤ length (now side)) × ((n * n ≤ length (now pred)) × (129 ≤ length (now refs)))))) ⌝ }
     ensures { λ _. ⌜ now (pred .exit) ≡ block (λ (r c : ℕ). sampleAt (fromRows corner (now (main .entry)) (now (side .entry))) (getD turns d 0) (getD bends d 0) c r) n (now (pred .entry)) ⌝ }
 {
     let e = turn(d);
@@ -488,7 +488,7 @@ fn work(
     pred: &mut [u16],
     refs: &mut [u16],
 )
-    requires { ⌜ Depth bits × (Size n × ((2 ≤ mode) × ((mode < 35) × ((2 * n ≤ length (now above)) × ((2 * n ≤ length (now left)) × ((n * n ≤ length (now pred)) × (193 ≤ length (now refs)))))))) ⌝ }
+    requires { ⌜ Depth bits × (Size n × ((2 ≤ mode) × ((mode < 35) × ((2 * n ≤ length (now above)) × ((2 * n ≤ length (now left)) × ((n * n ≤ length (now pred)) × (129 ≤ length (now refs)))))))) ⌝ }
     ensures { λ _. ⌜ now (pred .exit) ≡ block (λ (y x : ℕ). angular bits edge n mode (fromRows corner (now (above .entry)) (now (left .entry))) x y) n (now (pred .entry)) ⌝ }
 {
     match mode {
@@ -590,6 +590,56 @@ pub fn predict_angular_slices(
             bits,
             &mut *pred,
             &mut *refs,
+        );
+    }
+    no
+}
+
+// The number where rows of 2n entries are enough.
+fn short_no(bits: u32, n: usize, mode: u8, above: usize, left: usize, pred: usize) -> u32
+    ensures { λ r. ⌜ r ≡ shortNo bits n mode above left pred ⌝ }
+{
+    if !domain::depth_ok(bits) {
+        return 1;
+    }
+    if !domain::size_ok(n) {
+        return 2;
+    }
+    if !((mode >= 2) & domain::mode_ok(mode)) {
+        return 3;
+    }
+    if (above >= 2 * n) & (left >= 2 * n) & (pred >= n * n) {
+        return 0;
+    }
+    5
+}
+
+// From rows of 2n entries, all that is read, with a table of its own.
+pub fn angular_2n(
+    corner: u16,
+    above: &[u16],
+    left: &[u16],
+    n: usize,
+    mode: u8,
+    filter_boundary: bool,
+    bits: u32,
+    pred: &mut [u16],
+) -> u32
+    ensures { λ r. ⌜ (r ≡ shortNo bits n mode (length (now (above .entry))) (length (now (left .entry))) (length (now (pred .entry)))) × (now (pred .exit) ≡ served r (block (λ (y x : ℕ). angular bits «filter_boundary» n mode (fromRows corner (now (above .entry)) (now (left .entry))) x y) n (now (pred .entry))) (now (pred .entry))) ⌝ }
+{
+    let no = short_no(bits, n, mode, above.len(), left.len(), pred.len());
+    if no == 0 {
+        let mut refs = [0u16; 129];
+        work(
+            corner,
+            above,
+            left,
+            n,
+            mode as usize,
+            filter_boundary,
+            bits,
+            &mut *pred,
+            &mut refs,
         );
     }
     no

@@ -1,17 +1,17 @@
--- Samples stored as bytes: one more, a list after another, rows, and a block. Assumes nothing.
+-- Samples stored as bytes: one more, a list after another, and rows. Assumes nothing.
 use mathlib.Core.Path.{_≡_, refl, sym, ap, ap₂, _∙_}
 use mathlib.Core.List.{List, [], _∷_, _++_}
-use Prim.Native.Nat.{ℕ, zero, suc, _+_, _-_, _*_, _/_, _%_, _^_, _≤_, _<_}
+use Prim.Native.Nat.{ℕ, zero, suc, _+_, _*_, _/_, _%_, _^_, _<_}
 use native.Mathlib.Nat.{div-one, add-zero, add-suc, add-assoc}
 use native.Mathlib.Omega.{arith}
 use lib.ListN.{length, getD, set, List·getD-append}
 use lib.Seq.{getD-append-add}
-use Rattle.laws.specs.Fill.{fill, run, rows, block}
-use Rattle.laws.specs.FillLaws.{fill-none, fill-at, fill-run, run-none, run-more}
+use Rattle.laws.specs.Fill.{run}
+use Rattle.laws.specs.FillLaws.{run-none, run-more}
 use Rattle.laws.specs.Bytes.{byteOf, byte-at}
 use Rattle.bytes.specs.Bytes.{byte1}
 use Rattle.rows.specs.declared.Rows.{Rows}
-use Rattle.camera.specs.Entries.{sampleByte, inLine, rowsAt, blockIn}
+use Rattle.camera.specs.Entries.{sampleByte, inLine, rowsAt}
 
 -- the two bytes of sample i
 low-byte : (f : ℕ → ℕ) (i : ℕ) → f i % 256 ≡ byteOf 2 f (2 * i)
@@ -64,20 +64,3 @@ module _ (r : Rows) (at : ℕ) (d : List ℕ) (long : length (r .above) ≡ 65) 
       let one = p ∙ ap (λ (k : ℕ). set (set d (2 * k) (r .corner % 256)) (2 * k + 1) (byte1 (r .corner))) (sym (add-zero at)) ∙ sample-more line at 0 d (run-none (byteOf 2 line) (2 * at) d) refl in
       let two = q ∙ ap (run (sampleByte (r .above)) (2 * (at + 1)) (2 * 65)) one ∙ list-more line (r .above) at 1 65 d above-on in
       w ∙ ap (run (sampleByte (r .left)) (2 * (at + 66)) (2 * 65)) two ∙ list-more line (r .left) at 66 65 d (λ i h. left-on i)
-
--- the samples of a block that was predicted into a buffer of its own
-pub block-stored : (g : ℕ → ℕ → ℕ) (n : ℕ) (p₀ d : List ℕ) → n * n ≤ length p₀ → {b e : List ℕ} → b ≡ block g n p₀
-    → e ≡ run (sampleByte b) (2 * 0) (2 * (n * n)) d → e ≡ blockIn g n d
-unfolding blockIn rows
-block-stored g n p₀ d held {b} p q =
-    q ∙ ap (run (sampleByte b) (2 * 0) (2 * (n * n))) (fill-none (byteOf 2 at) d)
-    ∙ fill-run (byteOf 2 at) (sampleByte b) 0 (2 * (n * n)) d
-    (λ j l.
-    ap₂ (λ (x y : ℕ). x / 256 ^ y % 256)
-    (ap (λ (m : List ℕ). getD m (j / 2) 0) p ∙ fill-at at (n * n) p₀ (j / 2) 0 (omega arith) (omega arith)
-    ∙ ap at (let w : j / 2 ≡ (0 + j) / 2 = omega arith in w))
-    (let w : j % 2 ≡ (0 + j) % 2 = omega arith in w))
-    ∙ ap (λ (k : ℕ). fill (byteOf 2 at) k d) (let w : 0 + 2 * (n * n) ≡ 2 * (n * n) = omega arith in w)
-  where
-    at : ℕ → ℕ
-    at i = g (i / n) (i % n)

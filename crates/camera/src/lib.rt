@@ -1,17 +1,14 @@
 // What the camera's C firmware calls: gathering, prediction and replay on numbers and byte slices, samples of two bytes, the lower first.
 // Each entry gives back its number, and writes nothing where it refuses. Rests on the doors' contracts and on crate bytes.
 ghost use mathlib.Core.Path.{_≡_};
-ghost use mathlib.Core.Bool.{true};
 ghost use Prim.Native.Nat.{ℕ, _+_, _*_, _%_, _≤_, _<_};
 ghost use lib.ListN.{length, set};
 ghost use Rattle.laws.specs.Fill.{run};
 ghost use Rattle.bytes.specs.Bytes.{byte1};
-ghost use Rattle.domain.specs.Domain.{depthOk, modeOk};
-ghost use Rattle.domain.specs.Facts.{Size};
 ghost use Rattle.byte_replay.specs.Door.{replayed};
-ghost use Rattle.camera.specs.Entries.{wrote, sampleByte, rowsAt, lumaEntry, chromaEntry, rowOf, blockIn, room};
-ghost use Rattle.camera.specs.Entries.{flatEntryNo, planarIn, planarEntry, dcIn, dcEntry, modeEntryNo, angularMode, angularIn, angularEntry, chromaIn, chromaBlockEntry};
-ghost use Rattle.camera.specs.Checks.{roomNo, Fit};
+ghost use Rattle.byte_predict.specs.Entries.{wrote, planarEntry, dcEntry, angularEntry, chromaBlockEntry};
+ghost use Rattle.camera.specs.Entries.{sampleByte, rowsAt, lumaEntry, chromaEntry};
+ghost use Rattle.camera.specs.Checks.{roomNo};
 use fmt::ChromaCol;
 use fmt::ChromaRow;
 use fmt::LumaCol;
@@ -147,131 +144,12 @@ pub extern "C" fn salvrunde_chroma_refs(
     no
 }
 
-// The 65 samples of a row.
-fn row_of(row: &[u8]) -> [u16; 65]
-    requires { ⌜ 130 ≤ length (now row) ⌝ }
-    ensures { λ r. ⌜ r ≡ rowOf (now (row .entry)) ⌝ }
-{
-    let mut out = [0u16; 65];
-    let mut i = 0;
-    while i < 65 {
-        let low = 2 * i;
-        let high = low + 1;
-        out[i] = bytes::sample(row[low], row[high]);
-        i += 1;
-    }
-    out
-}
-
-// Whether two rows and a block's buffer are long enough, in bytes.
-fn has_room(n: usize, above: usize, left: usize, out: usize) -> bool
-    requires { ⌜ Size n ⌝ }
-    ensures { λ r. ⌜ r ≡ room n above left out ⌝ }
-{
-    (above >= 130) & (left >= 130) & (out >= 2 * (n * n))
-}
-
-fn flat_no(n: usize, above: usize, left: usize, out: usize) -> u32
-    ensures { λ r. ⌜ r ≡ flatEntryNo n above left out ⌝ }
-{
-    if !domain::size_ok(n) {
-        return 2;
-    }
-    if !has_room(n, above, left, out) {
-        return 5;
-    }
-    0
-}
-
-// The number of an entry that takes a mode; `taken` tells whether it takes this one.
-fn mode_no(bits: u32, n: usize, taken: bool, above: usize, left: usize, out: usize) -> u32
-    ensures { λ r. ⌜ r ≡ modeEntryNo bits n taken above left out ⌝ }
-{
-    if !domain::depth_ok(bits) {
-        return 1;
-    }
-    if !domain::size_ok(n) {
-        return 2;
-    }
-    if !taken {
-        return 3;
-    }
-    if !has_room(n, above, left, out) {
-        return 5;
-    }
-    0
-}
-
-// Predicts into a buffer of samples, and stores the block.
-fn planar_into(n: usize, above: &[u8], left: &[u8], pred: &mut [u16], out: &mut [u8])
-    requires { ⌜ Fit n (length (now above)) (length (now left)) (length (now out)) × (n * n ≤ length (now pred)) ⌝ }
-    ensures { λ _. ⌜ now (out .exit) ≡ blockIn (planarIn n (now (above .entry)) (now (left .entry))) n (now (out .entry)) ⌝ }
-{
-    let a = row_of(above);
-    let l = row_of(left);
-    flat::predict_planar_into(&a, &l, n, &mut *pred);
-    store(&*pred, n * n, &mut *out, 0);
-}
-
-// A buffer no larger than the side needs: clearing it costs.
-fn planar_block(n: usize, above: &[u8], left: &[u8], out: &mut [u8])
-    requires { ⌜ Fit n (length (now above)) (length (now left)) (length (now out)) ⌝ }
-    ensures { λ _. ⌜ now (out .exit) ≡ blockIn (planarIn n (now (above .entry)) (now (left .entry))) n (now (out .entry)) ⌝ }
-{
-    if n <= 8 {
-        let mut pred = [0u16; 64];
-        planar_into(n, above, left, &mut pred, &mut *out);
-        return;
-    }
-    if n <= 16 {
-        let mut pred = [0u16; 256];
-        planar_into(n, above, left, &mut pred, &mut *out);
-        return;
-    }
-    let mut pred = [0u16; 1024];
-    planar_into(n, above, left, &mut pred, &mut *out);
-}
-
 // The planar block of side n, in rows, in the first 2 · n · n bytes of `out`; each row has at least 130 bytes. Numbers 2, 5.
 #[no_mangle]
 pub extern "C" fn salvrunde_planar(n: u32, above: &[u8], left: &[u8], out: &mut [u8]) -> u32
     ensures { λ r. ⌜ wrote r (now (out .exit)) ≡ planarEntry n (now (above .entry)) (now (left .entry)) (now (out .entry)) ⌝ }
 {
-    let no = flat_no(n as usize, above.len(), left.len(), out.len());
-    if no == 0 {
-        planar_block(n as usize, above, left, &mut *out);
-    }
-    no
-}
-
-// Predicts into a buffer of samples, and stores the block.
-fn dc_into(n: usize, edge: bool, above: &[u8], left: &[u8], pred: &mut [u16], out: &mut [u8])
-    requires { ⌜ Fit n (length (now above)) (length (now left)) (length (now out)) × (n * n ≤ length (now pred)) ⌝ }
-    ensures { λ _. ⌜ now (out .exit) ≡ blockIn (dcIn edge n (now (above .entry)) (now (left .entry))) n (now (out .entry)) ⌝ }
-{
-    let a = row_of(above);
-    let l = row_of(left);
-    flat::predict_dc_into(&a, &l, n, edge, &mut *pred);
-    store(&*pred, n * n, &mut *out, 0);
-}
-
-// A buffer no larger than the side needs: clearing it costs.
-fn dc_block(n: usize, edge: bool, above: &[u8], left: &[u8], out: &mut [u8])
-    requires { ⌜ Fit n (length (now above)) (length (now left)) (length (now out)) ⌝ }
-    ensures { λ _. ⌜ now (out .exit) ≡ blockIn (dcIn edge n (now (above .entry)) (now (left .entry))) n (now (out .entry)) ⌝ }
-{
-    if n <= 8 {
-        let mut pred = [0u16; 64];
-        dc_into(n, edge, above, left, &mut pred, &mut *out);
-        return;
-    }
-    if n <= 16 {
-        let mut pred = [0u16; 256];
-        dc_into(n, edge, above, left, &mut pred, &mut *out);
-        return;
-    }
-    let mut pred = [0u16; 1024];
-    dc_into(n, edge, above, left, &mut pred, &mut *out);
+    byte_predict::planar(n, above, left, out)
 }
 
 // The DC block; an edge flag that is not 0 asks for filtered edges. Numbers 2, 5.
@@ -279,105 +157,7 @@ fn dc_block(n: usize, edge: bool, above: &[u8], left: &[u8], out: &mut [u8])
 pub extern "C" fn salvrunde_dc(n: u32, edge: u32, above: &[u8], left: &[u8], out: &mut [u8]) -> u32
     ensures { λ r. ⌜ wrote r (now (out .exit)) ≡ dcEntry n edge (now (above .entry)) (now (left .entry)) (now (out .entry)) ⌝ }
 {
-    let no = flat_no(n as usize, above.len(), left.len(), out.len());
-    if no == 0 {
-        dc_block(n as usize, edge != 0, above, left, &mut *out);
-    }
-    no
-}
-
-// Predicts into a buffer of samples, and stores the block.
-fn angular_into(
-    bits: u32,
-    n: usize,
-    mode: u8,
-    edge: bool,
-    corner: u16,
-    above: &[u8],
-    left: &[u8],
-    pred: &mut [u16],
-    out: &mut [u8],
-)
-    requires { ⌜ Fit n (length (now above)) (length (now left)) (length (now out)) × (depthOk bits ≡ true) × (angularMode mode ≡ true) × (n * n ≤ length (now pred)) ⌝ }
-    ensures { λ _. ⌜ now (out .exit) ≡ blockIn (angularIn bits edge n mode corner (now (above .entry)) (now (left .entry))) n (now (out .entry)) ⌝ }
-{
-    let a = row_of(above);
-    let l = row_of(left);
-    let mut refs = [0u16; 193];
-    let mut indices = [0u32; 32];
-    let mut fractions = [0u32; 32];
-    angular::predict_angular_slices(
-        corner,
-        &a,
-        &l,
-        n,
-        mode,
-        edge,
-        bits,
-        &mut *pred,
-        &mut refs,
-        &mut indices,
-        &mut fractions,
-    );
-    store(&*pred, n * n, &mut *out, 0);
-}
-
-// A buffer no larger than the side needs: clearing it costs.
-fn angular_block(
-    bits: u32,
-    n: usize,
-    mode: u8,
-    edge: bool,
-    corner: u16,
-    above: &[u8],
-    left: &[u8],
-    out: &mut [u8],
-)
-    requires { ⌜ Fit n (length (now above)) (length (now left)) (length (now out)) × (depthOk bits ≡ true) × (angularMode mode ≡ true) ⌝ }
-    ensures { λ _. ⌜ now (out .exit) ≡ blockIn (angularIn bits edge n mode corner (now (above .entry)) (now (left .entry))) n (now (out .entry)) ⌝ }
-{
-    if n <= 8 {
-        let mut pred = [0u16; 64];
-        angular_into(
-            bits,
-            n,
-            mode,
-            edge,
-            corner,
-            above,
-            left,
-            &mut pred,
-            &mut *out,
-        );
-        return;
-    }
-    if n <= 16 {
-        let mut pred = [0u16; 256];
-        angular_into(
-            bits,
-            n,
-            mode,
-            edge,
-            corner,
-            above,
-            left,
-            &mut pred,
-            &mut *out,
-        );
-        return;
-    }
-    let mut pred = [0u16; 1024];
-    angular_into(
-        bits,
-        n,
-        mode,
-        edge,
-        corner,
-        above,
-        left,
-        &mut pred,
-        &mut *out,
-    );
+    byte_predict::dc(n, edge, above, left, out)
 }
 
 // The block of an angular mode, 2 to 34. Numbers 1, 2, 3, 5.
@@ -394,82 +174,7 @@ pub extern "C" fn salvrunde_angular(
 ) -> u32
     ensures { λ r. ⌜ wrote r (now (out .exit)) ≡ angularEntry bits n mode edge corner (now (above .entry)) (now (left .entry)) (now (out .entry)) ⌝ }
 {
-    let taken = (mode >= 2) & (mode <= 34);
-    let no = mode_no(bits, n as usize, taken, above.len(), left.len(), out.len());
-    if no == 0 {
-        angular_block(
-            bits,
-            n as usize,
-            mode as u8,
-            edge != 0,
-            corner,
-            above,
-            left,
-            &mut *out,
-        );
-    }
-    no
-}
-
-// Predicts into a buffer of samples, and stores the block.
-fn chroma_into(
-    bits: u32,
-    n: usize,
-    mode: u8,
-    corner: u16,
-    above: &[u8],
-    left: &[u8],
-    pred: &mut [u16],
-    out: &mut [u8],
-)
-    requires { ⌜ Fit n (length (now above)) (length (now left)) (length (now out)) × (depthOk bits ≡ true) × (modeOk mode ≡ true) × (n * n ≤ length (now pred)) ⌝ }
-    ensures { λ _. ⌜ now (out .exit) ≡ blockIn (chromaIn bits n mode corner (now (above .entry)) (now (left .entry))) n (now (out .entry)) ⌝ }
-{
-    let a = row_of(above);
-    let l = row_of(left);
-    let mut refs = [0u16; 193];
-    let mut indices = [0u32; 32];
-    let mut fractions = [0u32; 32];
-    predict::predict_chroma_tb_slices(
-        mode,
-        corner,
-        &a,
-        &l,
-        n,
-        bits,
-        &mut *pred,
-        &mut refs,
-        &mut indices,
-        &mut fractions,
-    );
-    store(&*pred, n * n, &mut *out, 0);
-}
-
-// A buffer no larger than the side needs: clearing it costs.
-fn chroma_block(
-    bits: u32,
-    n: usize,
-    mode: u8,
-    corner: u16,
-    above: &[u8],
-    left: &[u8],
-    out: &mut [u8],
-)
-    requires { ⌜ Fit n (length (now above)) (length (now left)) (length (now out)) × (depthOk bits ≡ true) × (modeOk mode ≡ true) ⌝ }
-    ensures { λ _. ⌜ now (out .exit) ≡ blockIn (chromaIn bits n mode corner (now (above .entry)) (now (left .entry))) n (now (out .entry)) ⌝ }
-{
-    if n <= 8 {
-        let mut pred = [0u16; 64];
-        chroma_into(bits, n, mode, corner, above, left, &mut pred, &mut *out);
-        return;
-    }
-    if n <= 16 {
-        let mut pred = [0u16; 256];
-        chroma_into(bits, n, mode, corner, above, left, &mut pred, &mut *out);
-        return;
-    }
-    let mut pred = [0u16; 1024];
-    chroma_into(bits, n, mode, corner, above, left, &mut pred, &mut *out);
+    byte_predict::angular(bits, n, mode, edge, corner, above, left, out)
 }
 
 // A chroma block in any mode, 0 to 34: nothing is smoothed, and no edge is filtered. Numbers 1, 2, 3, 5.
@@ -485,18 +190,7 @@ pub extern "C" fn salvrunde_chroma_block(
 ) -> u32
     ensures { λ r. ⌜ wrote r (now (out .exit)) ≡ chromaBlockEntry bits n mode corner (now (above .entry)) (now (left .entry)) (now (out .entry)) ⌝ }
 {
-    let no = mode_no(
-        bits,
-        n as usize,
-        mode <= 34,
-        above.len(),
-        left.len(),
-        out.len(),
-    );
-    if no == 0 {
-        chroma_block(bits, n as usize, mode as u8, corner, above, left, &mut *out);
-    }
-    no
+    byte_predict::chroma(bits, n, mode, corner, above, left, out)
 }
 
 // Decodes the next blocks of a still, as many as are granted, in the plane's own bytes: exactly 2 · width · height of the plane, 4 · width · height of

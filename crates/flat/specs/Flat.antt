@@ -17,6 +17,10 @@ unfoldable pub flatNo : ℕ → ℕ → ℕ → ℕ → ℕ
 flatNo n a l p =
     firstFail ((2 unless sizeOk n) ∷ (5 unless (leb (predictorRow n) a && leb (predictorRow n) l && leb (n * n) p)) ∷ [])
 
+-- the same where rows of 2n entries are enough
+unfoldable pub shortNo : ℕ → ℕ → ℕ → ℕ → ℕ
+shortNo n a l p = firstFail ((2 unless sizeOk n) ∷ (5 unless (leb (2 * n) a && leb (2 * n) l && leb (n * n) p)) ∷ [])
+
 -- what the loops ask of the side and the rows: planar reads entries 0 .. n, DC less
 pub record Ready (n a l : ℕ) : Type 0 where
   pub size : Size n
@@ -42,6 +46,17 @@ ready n a l p e =
     let ha = leb-true (predictorRow n) a (v .0) in
     let hl = leb-true (predictorRow n) l (v .1) in
     (record { size = size; some = small .0; most = small .1; above = omega arith; left = omega arith }, leb-true (n * n) p (u .1))
+
+pub ready-short : (n a l p : ℕ) → shortNo n a l p ≡ 0 → Ready n a l × (n * n ≤ p)
+unfolding shortNo
+ready-short n a l p e =
+    let s = passed (sizeOk n) _ 2 (omega arith) e in
+    let t = passed (leb (2 * n) a && leb (2 * n) l && leb (n * n) p) 0 5 (omega arith) (s .1) in
+    let u = both-true (leb (2 * n) a && leb (2 * n) l) (leb (n * n) p) (t .0) in
+    let v = both-true (leb (2 * n) a) (leb (2 * n) l) (u .0) in
+    let size = size-of n (s .0) in
+    let small = size-small n size in
+    (record { size = size; some = small .0; most = small .1; above = leb-true (2 * n) a (v .0); left = leb-true (2 * n) l (v .1) }, leb-true (n * n) p (u .1))
 
 -- the first row is within the block
 pub wide : (n p : ℕ) → 0 < n → n * n ≤ p → n ≤ p

@@ -10,7 +10,7 @@ ghost use Rattle.domain.specs.Domain.{predictorRow};
 ghost use Rattle.h265.specs.Notation.{fromRows};
 ghost use Rattle.h265.specs.Planar.{planar};
 ghost use Rattle.h265.specs.Dc.{dc};
-ghost use Rattle.flat.specs.Flat.{flatNo, Ready, planarMix, blended, cornered};
+ghost use Rattle.flat.specs.Flat.{flatNo, shortNo, Ready, planarMix, blended, cornered};
 ghost use Rattle.flat.specs.Text.{Total};
 ghost use Rattle.flat.specs.Stores.{heads};
 ghost use Rattle.flat.specs.Edge.{edges};
@@ -31,6 +31,19 @@ fn flat_no(n: usize, a: usize, l: usize, p: usize) -> u32
     }
     let row = predictor_row(n);
     if (a >= row) & (l >= row) & (p >= n * n) {
+        return 0;
+    }
+    5
+}
+
+// The same where rows of 2n entries are enough.
+fn short_no(n: usize, a: usize, l: usize, p: usize) -> u32
+    ensures { λ r. ⌜ r ≡ shortNo n a l p ⌝ }
+{
+    if !domain::size_ok(n) {
+        return 2;
+    }
+    if (a >= 2 * n) & (l >= 2 * n) & (p >= n * n) {
         return 0;
     }
     5
@@ -157,6 +170,17 @@ pub fn predict_planar_into(above: &[u16], left: &[u16], n: usize, pred: &mut [u1
     no
 }
 
+// From rows of 2n entries, all that is read. Where n is a constant of the call, so are the lengths of all loops.
+pub fn planar_2n(above: &[u16], left: &[u16], n: usize, pred: &mut [u16]) -> u32
+    ensures { λ r. ⌜ (r ≡ shortNo n (length (now (above .entry))) (length (now (left .entry))) (length (now (pred .entry)))) × (now (pred .exit) ≡ served r (block (λ (y x : ℕ). planar n (fromRows 0 (now (above .entry)) (now (left .entry))) x y) n (now (pred .entry))) (now (pred .entry))) ⌝ }
+{
+    let no = short_no(n, above.len(), left.len(), pred.len());
+    if no == 0 {
+        planar_n(above, left, n, &mut *pred);
+    }
+    no
+}
+
 // The sum of n samples of both rows.
 fn total(above: &[u16], left: &[u16], n: usize) -> u32
     requires { ⌜ (n ≤ 32) × ((n ≤ length (now above)) × (n ≤ length (now left))) ⌝ }
@@ -271,6 +295,18 @@ pub fn predict_dc_into(
     let no = flat_no(n, above.len(), left.len(), pred.len());
     if no == 0 {
         dc_block(above, left, n, filter_boundary, &mut *pred);
+    }
+    no
+}
+
+// DC from rows of 2n entries.
+pub fn dc_2n(above: &[u16], left: &[u16], n: usize, filter_boundary: bool, pred: &mut [u16]) -> u32
+    ensures { λ r. ⌜ (r ≡ shortNo n (length (now (above .entry))) (length (now (left .entry))) (length (now (pred .entry)))) × (now (pred .exit) ≡ served r (block (λ (y x : ℕ). dc «filter_boundary» n (fromRows 0 (now (above .entry)) (now (left .entry))) x y) n (now (pred .entry))) (now (pred .entry))) ⌝ }
+{
+    let no = short_no(n, above.len(), left.len(), pred.len());
+    if no == 0 {
+        let all = total(above, left, n);
+        dc_n(above, left, all, n, filter_boundary, &mut *pred);
     }
     no
 }

@@ -18,7 +18,7 @@ use denote.Triple.Entry.{Args, Res}
 use Rattle.laws.specs.Choose.{served}
 use Rattle.walk.specs.Block.{World}
 use Rattle.byte_replay.specs.Door.{After}
-use Rattle.camera.specs.Entries.{Written, wrote}
+use Rattle.byte_predict.specs.Entries.{Written, wrote}
 use Rattle.bytes.proofs.sample.Reads as bytes-sample
 use Rattle.bytes.proofs.residual.Reads as bytes-residual
 use Rattle.bytes.proofs.byte_0.Reads as bytes-byte-0
@@ -83,7 +83,10 @@ use Rattle.probes.proofs.salvrunde_probe_get_reference_samples_chroma_pair.Read
 use Rattle.probes.proofs.salvrunde_probe_check_plan.Reads as probes-salvrunde-probe-check-plan
 use Rattle.flat.proofs.predict_planar_into.Reads as flat-predict-planar-into
 use Rattle.flat.proofs.predict_dc_into.Reads as flat-predict-dc-into
+use Rattle.flat.proofs.planar_2n.Reads as flat-planar-2n
+use Rattle.flat.proofs.dc_2n.Reads as flat-dc-2n
 use Rattle.angular.proofs.predict_angular_slices.Reads as angular-predict-angular-slices
+use Rattle.angular.proofs.angular_2n.Reads as angular-angular-2n
 use Rattle.predict.proofs.predict_chroma_tb_slices.Reads as predict-predict-chroma-tb-slices
 use Rattle.predict.proofs.predict_luma_tb_slices.Reads as predict-predict-luma-tb-slices
 use Rattle.scratch.proofs.AngularScratch.new.Reads as scratch-new
@@ -109,6 +112,10 @@ use Rattle.probes.proofs.salvrunde_probe_walk.Reads as probes-salvrunde-probe-w
 use Rattle.probes.proofs.salvrunde_probe_replay.Reads as probes-salvrunde-probe-replay
 use Rattle.probes.proofs.salvrunde_probe_walk_records as probes-salvrunde-probe-walk-records
 use Rattle.probes.proofs.salvrunde_probe_replay_records as probes-salvrunde-probe-replay-records
+use Rattle.byte_predict.proofs.planar.Reads as byte-predict-planar
+use Rattle.byte_predict.proofs.dc.Reads as byte-predict-dc
+use Rattle.byte_predict.proofs.angular.Reads as byte-predict-angular
+use Rattle.byte_predict.proofs.chroma.Reads as byte-predict-chroma
 use Rattle.camera.proofs.salvrunde_luma_refs.Reads as camera-salvrunde-luma-refs
 use Rattle.camera.proofs.salvrunde_chroma_refs.Reads as camera-salvrunde-chroma-refs
 use Rattle.camera.proofs.salvrunde_planar.Reads as camera-salvrunde-planar
@@ -337,9 +344,18 @@ flat-predict-planar-into-once κs a x y s t p q = by-number _ _ (p .0) (q .0) (p
 flat-predict-dc-into-once : (κs : Lfts 3) → OnceLeft (λ s. now (s .1 .1 .1 .1 .0)) (flat-predict-dc-into.Post κs)
 flat-predict-dc-into-once κs a x y s t p q = by-number _ _ (p .0) (q .0) (p .1) (q .1)
 
+flat-planar-2n-once : (κs : Lfts 3) → OnceLeft (λ s. now (s .1 .1 .1 .0)) (flat-planar-2n.Post κs)
+flat-planar-2n-once κs a x y s t p q = by-number _ _ (p .0) (q .0) (p .1) (q .1)
+
+flat-dc-2n-once : (κs : Lfts 3) → OnceLeft (λ s. now (s .1 .1 .1 .1 .0)) (flat-dc-2n.Post κs)
+flat-dc-2n-once κs a x y s t p q = by-number _ _ (p .0) (q .0) (p .1) (q .1)
+
 -- angular
 angular-predict-angular-slices-once : (κs : Lfts 6) → OnceLeft (λ s. now (s .1 .1 .1 .1 .1 .1 .1 .0)) (angular-predict-angular-slices.Post κs)
 angular-predict-angular-slices-once κs a x y s t p q = by-number _ _ (p .0) (q .0) (p .1 .0) (q .1 .0)
+
+angular-angular-2n-once : (κs : Lfts 3) → OnceLeft (λ s. now (s .1 .1 .1 .1 .1 .1 .1 .0)) (angular-angular-2n.Post κs)
+angular-angular-2n-once κs a x y s t p q = by-number _ _ (p .0) (q .0) (p .1) (q .1)
 
 -- predict
 predict-predict-chroma-tb-slices-once : (κs : Lfts 6) → OnceLeft (λ s. now (s .1 .1 .1 .1 .1 .1 .0)) (predict-predict-chroma-tb-slices.Post κs)
@@ -413,10 +429,23 @@ by-after p q = (ap (λ (v : After). v .number) (p ∙ sym q), ap (λ (v : After)
 byte-replay-replay-once : (κs : Lfts 4) → OnceLeft {L = List ℕ × List ℕ} (λ s. (now (s .1 .1 .1 .1 .0), now (s .1 .1 .1 .1 .1 .0))) (byte-replay-replay.Post κs)
 byte-replay-replay-once κs a x y s t p q = by-after p q
 
--- camera
+-- byte_predict
 by-written : {x y : ℕ} {l m : List ℕ} {w : Written} → wrote x l ≡ w → wrote y m ≡ w → (x ≡ y) × (l ≡ m)
 by-written p q = (ap (λ (v : Written). v .number) (p ∙ sym q), ap (λ (v : Written). v .bytes) (p ∙ sym q))
 
+byte-predict-planar-once : (κs : Lfts 3) → OnceLeft (λ s. now (s .1 .1 .1 .0)) (byte-predict-planar.Post κs)
+byte-predict-planar-once κs a x y s t p q = by-written p q
+
+byte-predict-dc-once : (κs : Lfts 3) → OnceLeft (λ s. now (s .1 .1 .1 .1 .0)) (byte-predict-dc.Post κs)
+byte-predict-dc-once κs a x y s t p q = by-written p q
+
+byte-predict-angular-once : (κs : Lfts 3) → OnceLeft (λ s. now (s .1 .1 .1 .1 .1 .1 .1 .0)) (byte-predict-angular.Post κs)
+byte-predict-angular-once κs a x y s t p q = by-written p q
+
+byte-predict-chroma-once : (κs : Lfts 3) → OnceLeft (λ s. now (s .1 .1 .1 .1 .1 .1 .0)) (byte-predict-chroma.Post κs)
+byte-predict-chroma-once κs a x y s t p q = by-written p q
+
+-- camera
 camera-salvrunde-luma-refs-once : (κs : Lfts 2) → OnceLeft (λ s. now (s .1 .1 .1 .1 .1 .1 .1 .1 .1 .0)) (camera-salvrunde-luma-refs.Post κs)
 camera-salvrunde-luma-refs-once κs a x y s t p q = by-written p q
 

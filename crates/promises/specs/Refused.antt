@@ -35,7 +35,7 @@ use Rattle.walk.specs.declared.Stepped.{Stepped}
 use Rattle.walk.specs.Block.{World}
 use Rattle.walk.specs.Door.{Tables, steppedBy, replayVerdict, replayAfter, walkVerdict, walkAfter}
 use Rattle.byte_replay.specs.Door.{Lent, byteVerdict, planeAfter, answered, resultAfter}
-use Rattle.camera.specs.Entries.{entry}
+use Rattle.byte_predict.specs.Entries.{entry}
 use Rattle.promises.specs.Exact.{number-in}
 
 -- what a call with a number gives, or leaves behind

@@ -5,7 +5,8 @@ use native.Mathlib.Omega.{arith}
 use lib.ListN.{length}
 use Rattle.rows.specs.declared.Rows.{Rows}
 use Rattle.camera.specs.Entries.{rowsAt, lumaEntry}
-use Rattle.camera.specs.Checks.{done, refused, luma-entry-no, luma-entry-rows}
+use Rattle.byte_predict.specs.Checks.{done, refused}
+use Rattle.camera.specs.Checks.{luma-entry-no, luma-entry-rows}
 use borrow.Author.Needs.{needs}
 use Rattle.camera.proofs.salvrunde_luma_refs.Statement.{statement}
 use Rattle.camera.proofs.salvrunde_luma_refs.Tie as tie

@@ -1,0 +1,48 @@
+-- Each kind of mode. Assumes nothing.
+use mathlib.Core.Path.{_∙_}
+use native.Mathlib.Omega.{arith}
+use Rattle.byte_predict.specs.Checks.{chroma-planar, chroma-dc, chroma-angular, upper}
+use borrow.Author.Needs.{needs}
+use Rattle.byte_predict.proofs.chroma_block.Statement.{statement}
+use Rattle.byte_predict.proofs.chroma_block.Tie as tie
+
+planar-block-requires : tie.Need-planar-block-requires
+planar-block-requires c κs = search needs
+
+dc-plain-requires : tie.Need-dc-plain-requires
+dc-plain-requires c κs = search needs
+
+angular-block-requires : tie.Need-angular-block-requires
+angular-block-requires c κs = let p = c .before .before .before .before .before .pre in let m = c .before .match .rest in (p .0, p .1, upper _ (m .0 .1) (m .1) (p .2))
+
+same-length : tie.Need-same-length
+same-length c = search needs
+
+returns : tie.Need-returns
+returns c = let a = c .before .before .before .before .before .before .before .before .args in c .before .before .planar-block .ensures ∙ chroma-planar (a .bits) (a .n) (a .mode) (a .corner) (a .above .now) (a .left .now) (a .out .now) (c .before .before .before .before .match .keys1)
+
+same-length-2 : tie.Need-same-length-2
+same-length-2 c = search needs
+
+returns-2 : tie.Need-returns-2
+returns-2 c = let a = c .before .before .before .before .before .before .before .before .args in c .before .before .dc-plain .ensures ∙ chroma-dc (a .bits) (a .n) (a .mode) (a .corner) (a .above .now) (a .left .now) (a .out .now) (c .before .before .before .before .match .keys2)
+
+same-length-3 : tie.Need-same-length-3
+same-length-3 c = search needs
+
+returns-3 : tie.Need-returns-3
+returns-3 c = let a = c .before .before .before .before .before .before .before .before .args in let m = c .before .before .before .before .match .rest in c .before .before .angular-block .ensures ∙ chroma-angular (a .bits) (a .n) (a .mode) (a .corner) (a .above .now) (a .left .now) (a .out .now) (m .0 .1) (m .1)
+
+pub chroma-block-spec : {M : Type 1} → statement M
+chroma-block-spec =
+    tie.close
+    (tie.spec
+    planar-block-requires
+    dc-plain-requires
+    angular-block-requires
+    same-length
+    returns
+    same-length-2
+    returns-2
+    same-length-3
+    returns-3)
