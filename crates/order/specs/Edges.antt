@@ -109,6 +109,12 @@ pub record Line (s : Shifts) (row col down across group most : ℕ) : Type 0 whe
   pub inside : (i : ℕ) → i < most → (i * down ≤ 4096) × (i * across ≤ 4096) × (row + i * down < 4096) × (col + i * across < 4096)
   pub same : (i : ℕ) → numberBy s (row + i * down) (col + i * across) ≡ numberBy s (row + i / group * group * down) (col + i / group * group * across)
 
+-- an edge of a block of side n, down or across, of which so many samples are in the plane
+pub record Edge (s : Shifts) (row col down across unit n room : ℕ) : Type 0 where
+  pub size : Size n
+  pub step : Step (down + across)
+  pub line : Line s row col down across (groupOf unit (down + across) n) (min (2 * n + 1) room)
+
 -- a block of side n in its plane, over a good grid
 pub record Placed (s : Shifts) (l : Plane) (unit n row col : ℕ) : Type 0 where
   pub small : Small s

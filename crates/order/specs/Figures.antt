@@ -1,8 +1,7 @@
--- Small evaluations: the orders of figure P6, and the place where 6.4.1 and document 01 part. Assumes nothing.
+-- A small evaluation: the place where 6.4.1 and document 01 part. Figure P6 is in the table of crate figures. Assumes nothing.
 use mathlib.Core.Path.{_≡_, refl}
 use mathlib.Core.Bool.{Bool, true, false}
 use mathlib.Core.List.{List, [], _∷_}
-use Prim.Native.Nat.{ℕ}
 use lib.IntN.{pos}
 use Rattle.h265.specs.Notation.{halvings}
 use Rattle.h265.specs.Order.{minTbAddrZs, zScan, interleaved}
@@ -12,13 +11,6 @@ use Rattle.order.specs.Order.{gridOf, numberAt, before, availableTo}
 
 abbrev sixteen : Picture
 sixteen = record { width = 32; height = 24; ctu = 16; unit = 8 }
-
-abbrev sixtyFour : Picture
-sixtyFour = record { width = 64; height = 64; ctu = 64; unit = 4 }
-
-pub p6 : _≡_ {A = List ℕ} (numberAt sixteen 0 8 ∷ numberAt sixteen 8 0 ∷ numberAt sixteen 0 16 ∷ numberAt sixteen 16 0 ∷ numberAt sixtyFour 4 8 ∷ []) (1 ∷ 2 ∷ 4 ∷ 8 ∷ 6 ∷ [])
-unfolding numberAt minTbAddrZs zScan interleaved halvings
-p6 = refl
 
 -- block (0, 4), neighbour (0, 3), in one cell of 8: available to the standard, not to document 01
 pub parts : _≡_ {A = List Bool} (available (gridOf sixteen) 4 0 (pos 3) (pos 0) ∷ availableTo sixteen (record { 0 = 0 }) (record { 0 = 4 }) (pos 0) (pos 3) ∷ []) (true ∷ false ∷ [])

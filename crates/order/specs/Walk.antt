@@ -15,7 +15,7 @@ use Rattle.order.specs.declared.Shifts.{Shifts}
 use Rattle.order.specs.declared.Plane.{Plane}
 use Rattle.order.specs.Reach.{leading, cornerHas, aboveHas, leftHas}
 use Rattle.order.specs.Leading.{leading-is, leading-none, leading-cut}
-use Rattle.order.specs.Edges.{numberBy, below, up, Step, groupOf, group, same-group, Line, Placed}
+use Rattle.order.specs.Edges.{numberBy, below, up, Step, groupOf, group, same-group, Line, Edge, Placed}
 
 -- after some groups: all samples before i hold
 pub record Walked (f : ℕ → Bool) (group most i : ℕ) : Type 0 where
@@ -85,7 +85,7 @@ span v i side step h b t =
     let a : suc (v + i) * step ≡ v * step + i * step + step = ap (λ (k : ℕ). k * step) (let e : suc (v + i) ≡ v + i + 1 = omega arith in e) ∙ add-mul (v + i) 1 step ∙ ap (λ (k : ℕ). k + 1 * step) (add-mul v i step) ∙ (let e : v * step + i * step + 1 * step ≡ v * step + i * step + step = omega arith in e) in
     (omega arith, omega arith)
 
-pub fixed : (v side step : ℕ) → v < side → side * step ≤ 4096 → Step step → v * step < 4096
+fixed : (v side step : ℕ) → v < side → side * step ≤ 4096 → Step step → v * step < 4096
 fixed v side step h b t =
     let r = span v 0 side step (omega arith) b t in
     omega arith
@@ -94,6 +94,11 @@ fixed v side step h b t =
 still : (r i g : ℕ) → r + i * 0 ≡ r + i / g * g * 0
 still r i g = omega arith
 
+-- where the samples past the room are not there, the count of the room is the count of the whole edge
+edge-count : (f g : ℕ → Bool) (most room : ℕ) → ((i : ℕ) → i < room → f i ≡ g i) → f room ≡ false → leading g (min most room) ≡ leading f most
+edge-count f g most room same end =
+    sym (leading-cut f g most (min most room) (omega arith) (λ i q. same i (omega arith)) (λ q. ap f (let e : min most room ≡ room = omega arith in e) ∙ end))
+
 module _ (s : Shifts) (l : Plane) (unit n row col : ℕ) (p : Placed s l unit n row col) where
   same-cells : (v step g i : ℕ) → Step step → v % n ≡ 0 → g ≡ groupOf unit step n → (v * step + i * step) / 2 ^ s .unit ≡ (v * step + i / g * g * step) / 2 ^ s .unit
   same-cells v step g i t e eg =
@@ -101,84 +106,88 @@ module _ (s : Shifts) (l : Plane) (unit n row col : ℕ) (p : Placed s l unit n 
       ∙ same-group unit step n v i (p .units) t (p .size) e
       ∙ ap₂ (λ (x u : ℕ). (v * step + i / x * x * step) / u) (sym eg) (sym (p .shift))
 
-  some : (step g : ℕ) → Step step → g ≡ groupOf unit step n → (0 < g) × (g ≤ 8)
-  some step g t e = let r = group unit step n (p .units) t (p .size) in (omega (arith, r .some), omega (arith, r .few))
+  -- places in luma samples
+  pub row-span : (v : ℕ) → v < l .height → v * l .down < 4096
+  row-span v h = fixed v (l .height) (l .down) h (p .tall) (p .downs)
+
+  pub col-span : (v : ℕ) → v < l .width → v * l .across < 4096
+  col-span v h = fixed v (l .width) (l .across) h (p .wide) (p .acrosses)
+
+  -- an edge, by the step that is not 0, the places that it passes, and that those of a group share a cell
+  edge : (r c down across step room : ℕ) → down + across ≡ step → Step step
+      → ((i : ℕ) → i < room → (i * down ≤ 4096) × (i * across ≤ 4096) × (r + i * down < 4096) × (c + i * across < 4096))
+      → ((g i : ℕ) → g ≡ groupOf unit step n → numberBy s (r + i * down) (c + i * across) ≡ numberBy s (r + i / g * g * down) (c + i / g * g * across))
+      → Edge s r c down across unit n room
+  edge r c down across step room e t inside same =
+      let g = group unit (down + across) n (p .units) (⊎-elim (λ q. inl (e ∙ q)) (λ q. inr (e ∙ q)) t) (p .size) in
+      record {
+        size = p .size;
+        step = ⊎-elim (λ q. inl (e ∙ q)) (λ q. inr (e ∙ q)) t;
+        line = record {
+          small = p .small;
+          some = g .some;
+          few = g .few;
+          short = omega (arith, size-small n (p .size));
+          inside = λ i q. inside i (omega arith);
+          same = λ i. same (groupOf unit (down + across) n) i (ap (λ (x : ℕ). groupOf unit x n) e);
+        };
+      }
 
   -- the row above
-  pub above-line : 0 < row → (g most : ℕ) → g ≡ groupOf unit (l .across) n → most ≡ min (2 * n + 1) (l .width - col)
-      → Line s ((row - 1) * l .down) (col * l .across) 0 (l .across) g most
-  above-line h g most eg em =
-      record {
-        small = p .small;
-        some = some (l .across) g (p .acrosses) eg .0;
-        few = some (l .across) g (p .acrosses) eg .1;
-        short = omega (arith, size-small n (p .size));
-        inside = λ i q.
-            let a = span col i (l .width) (l .across) (omega arith) (p .wide) (p .acrosses) in
-            let b = fixed (row - 1) (l .height) (l .down) (omega (arith, p .row-in, size-small n (p .size))) (p .tall) (p .downs) in
-            (omega arith, a .0, omega arith, a .1);
-        same = λ i. ap₂ (λ (y x : ℕ). zScan (s .levels) (s .ctus) x (y / 2 ^ s .unit)) (still ((row - 1) * l .down) i g) (same-cells col (l .across) g i (p .acrosses) (p .col-at) eg);
-      }
+  pub above-edge : 0 < row → Edge s ((row - 1) * l .down) (col * l .across) 0 (l .across) unit n (l .width - col)
+  above-edge h =
+      edge _ _ 0 (l .across) (l .across) _ (omega arith) (p .acrosses)
+      (λ i q.
+      let a = span col i (l .width) (l .across) (omega arith) (p .wide) (p .acrosses) in
+      let b = row-span (row - 1) (omega (arith, p .row-in)) in
+      (omega arith, a .0, omega arith, a .1))
+      (λ g i eg. ap₂ (λ (y x : ℕ). zScan (s .levels) (s .ctus) x (y / 2 ^ s .unit)) (still ((row - 1) * l .down) i g) (same-cells col (l .across) g i (p .acrosses) (p .col-at) eg))
 
   pub above-none : (limit : ℕ) → row ≡ 0 → 0 ≡ leading (aboveHas (below s l limit) row col) (2 * n + 1)
   unfolding below
   above-none limit e = sym (leading-none (aboveHas (below s l limit) row col) (2 * n + 1) (ap (λ (r : ℕ). below s l limit (pos r -ℤ pos 1) (pos (col + 0))) e))
 
-  pub above-count : (limit k most : ℕ) → 0 < row → most ≡ min (2 * n + 1) (l .width - col)
-      → k ≡ leading (λ (i : ℕ). ltb (numberBy s ((row - 1) * l .down + i * 0) (col * l .across + i * l .across)) limit) most
-      → k ≡ leading (aboveHas (below s l limit) row col) (2 * n + 1)
-  above-count limit k most h em ek =
-      ek ∙ ap (leading N) em
-      ∙ sym (leading-cut (aboveHas (below s l limit) row col) N (2 * n + 1) (min (2 * n + 1) (l .width - col)) (omega arith)
-      (λ i q. there i (omega arith))
-      (λ q. let c = p .col-in in ap (λ (z : ℤ). below s l limit z (pos (col + min (2 * n + 1) (l .width - col)))) (up row h) ∙ below-right s l limit (row - 1) (col + min (2 * n + 1) (l .width - col)) (omega arith)))
+  pub above-count : (limit : ℕ) → 0 < row
+      → leading (λ (i : ℕ). ltb (numberBy s ((row - 1) * l .down + i * 0) (col * l .across + i * l .across)) limit) (min (2 * n + 1) (l .width - col))
+      ≡ leading (aboveHas (below s l limit) row col) (2 * n + 1)
+  above-count limit h = edge-count (aboveHas (below s l limit) row col) _ (2 * n + 1) (l .width - col) there past
     where
-      N : ℕ → Bool
-      N i = ltb (numberBy s ((row - 1) * l .down + i * 0) (col * l .across + i * l .across)) limit
-
-      there : (i : ℕ) → i < l .width - col → aboveHas (below s l limit) row col i ≡ N i
+      there : (i : ℕ) → i < l .width - col → aboveHas (below s l limit) row col i ≡ ltb (numberBy s ((row - 1) * l .down + i * 0) (col * l .across + i * l .across)) limit
       there i q =
           ap (λ (z : ℤ). below s l limit z (pos (col + i))) (up row h)
           ∙ below-in s l limit (row - 1) (col + i) (omega (arith, p .row-in)) (omega arith)
           ∙ ap₂ (λ (y x : ℕ). ltb (numberBy s y x) limit) (let e : (row - 1) * l .down ≡ (row - 1) * l .down + i * 0 = omega arith in e) (add-mul col i (l .across))
 
+      past : aboveHas (below s l limit) row col (l .width - col) ≡ false
+      past = ap (λ (z : ℤ). below s l limit z (pos (col + (l .width - col)))) (up row h) ∙ below-right s l limit (row - 1) (col + (l .width - col)) (omega arith)
+
   -- the left column
-  pub left-line : 0 < col → (g most : ℕ) → g ≡ groupOf unit (l .down) n → most ≡ min (2 * n + 1) (l .height - row)
-      → Line s (row * l .down) ((col - 1) * l .across) (l .down) 0 g most
-  left-line h g most eg em =
-      record {
-        small = p .small;
-        some = some (l .down) g (p .downs) eg .0;
-        few = some (l .down) g (p .downs) eg .1;
-        short = omega (arith, size-small n (p .size));
-        inside = λ i q.
-            let a = span row i (l .height) (l .down) (omega arith) (p .tall) (p .downs) in
-            let b = fixed (col - 1) (l .width) (l .across) (omega (arith, p .col-in, size-small n (p .size))) (p .wide) (p .acrosses) in
-            (a .0, omega arith, a .1, omega arith);
-        same = λ i. ap₂ (λ (y x : ℕ). zScan (s .levels) (s .ctus) (x / 2 ^ s .unit) y) (same-cells row (l .down) g i (p .downs) (p .row-at) eg) (still ((col - 1) * l .across) i g);
-      }
+  pub left-edge : 0 < col → Edge s (row * l .down) ((col - 1) * l .across) (l .down) 0 unit n (l .height - row)
+  left-edge h =
+      edge _ _ (l .down) 0 (l .down) _ (omega arith) (p .downs)
+      (λ i q.
+      let a = span row i (l .height) (l .down) (omega arith) (p .tall) (p .downs) in
+      let b = col-span (col - 1) (omega (arith, p .col-in)) in
+      (a .0, omega arith, a .1, omega arith))
+      (λ g i eg. ap₂ (λ (y x : ℕ). zScan (s .levels) (s .ctus) (x / 2 ^ s .unit) y) (same-cells row (l .down) g i (p .downs) (p .row-at) eg) (still ((col - 1) * l .across) i g))
 
   pub left-none : (limit : ℕ) → col ≡ 0 → 0 ≡ leading (leftHas (below s l limit) row col) (2 * n + 1)
   unfolding below
   left-none limit e = sym (leading-none (leftHas (below s l limit) row col) (2 * n + 1) (ap (λ (c : ℕ). below s l limit (pos (row + 0)) (pos c -ℤ pos 1)) e))
 
-  pub left-count : (limit k most : ℕ) → 0 < col → most ≡ min (2 * n + 1) (l .height - row)
-      → k ≡ leading (λ (i : ℕ). ltb (numberBy s (row * l .down + i * l .down) ((col - 1) * l .across + i * 0)) limit) most
-      → k ≡ leading (leftHas (below s l limit) row col) (2 * n + 1)
-  left-count limit k most h em ek =
-      ek ∙ ap (leading N) em
-      ∙ sym (leading-cut (leftHas (below s l limit) row col) N (2 * n + 1) (min (2 * n + 1) (l .height - row)) (omega arith)
-      (λ i q. there i (omega arith))
-      (λ q. let c = p .row-in in ap (λ (z : ℤ). below s l limit (pos (row + min (2 * n + 1) (l .height - row))) z) (up col h) ∙ below-under s l limit (row + min (2 * n + 1) (l .height - row)) (col - 1) (omega arith)))
+  pub left-count : (limit : ℕ) → 0 < col
+      → leading (λ (i : ℕ). ltb (numberBy s (row * l .down + i * l .down) ((col - 1) * l .across + i * 0)) limit) (min (2 * n + 1) (l .height - row))
+      ≡ leading (leftHas (below s l limit) row col) (2 * n + 1)
+  left-count limit h = edge-count (leftHas (below s l limit) row col) _ (2 * n + 1) (l .height - row) there past
     where
-      N : ℕ → Bool
-      N i = ltb (numberBy s (row * l .down + i * l .down) ((col - 1) * l .across + i * 0)) limit
-
-      there : (i : ℕ) → i < l .height - row → leftHas (below s l limit) row col i ≡ N i
+      there : (i : ℕ) → i < l .height - row → leftHas (below s l limit) row col i ≡ ltb (numberBy s (row * l .down + i * l .down) ((col - 1) * l .across + i * 0)) limit
       there i q =
           ap (λ (z : ℤ). below s l limit (pos (row + i)) z) (up col h)
           ∙ below-in s l limit (row + i) (col - 1) (omega arith) (omega (arith, p .col-in))
           ∙ ap₂ (λ (y x : ℕ). ltb (numberBy s y x) limit) (add-mul row i (l .down)) (let e : (col - 1) * l .across ≡ (col - 1) * l .across + i * 0 = omega arith in e)
+
+      past : leftHas (below s l limit) row col (l .height - row) ≡ false
+      past = ap (λ (z : ℤ). below s l limit (pos (row + (l .height - row))) z) (up col h) ∙ below-under s l limit (row + (l .height - row)) (col - 1) (omega arith)
 
   -- the corner
   pub corner-top : (limit : ℕ) → row ≡ 0 → false ≡ cornerHas (below s l limit) row col

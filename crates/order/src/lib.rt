@@ -10,7 +10,7 @@ ghost use Rattle.order.specs.Order.{gridOf, pictureOk, placeOk, numberAt
 ghost use Rattle.order.specs.Good.{Good, Power, Small, shiftsOf};
 ghost use Rattle.order.specs.Spread.{spread};
 ghost use Rattle.order.specs.Reach.{leading, cornerHas, aboveHas, leftHas, inPlane, reachBy, lumaHas, lumaReachNo, lumaReach, colour, chromaBlockOk, chromaHas, chromaReachNo, chromaReach};
-ghost use Rattle.order.specs.Edges.{numberBy, below, Step, groupOf, Line, Placed, edgesOf};
+ghost use Rattle.order.specs.Edges.{numberBy, below, Step, groupOf, Line, Edge, Placed, edgesOf};
 ghost use Rattle.domain.specs.Facts.{Size};
 use fmt::ChromaCol;
 use fmt::ChromaFormat;
@@ -273,6 +273,27 @@ fn group_of(unit: usize, step: usize, n: usize) -> usize
     lesser(unit, n)
 }
 
+// How many of an edge's 2n + 1 entries have a number below `limit`, from the luma place (row, col) on, where the plane has `room` for
+// so many. The edge goes down or across, so one of the two steps is 0.
+fn edge_reach(
+    s: Shifts,
+    limit: usize,
+    row: usize,
+    col: usize,
+    down: usize,
+    across: usize,
+    unit: usize,
+    n: usize,
+    room: usize,
+) -> usize
+    requires { ⌜ Edge s row col down across unit n room ⌝ }
+    ensures { λ r. ⌜ r ≡ leading (λ (i : ℕ). ltb (numberBy s (row + i * down) (col + i * across)) limit) (min (2 * n + 1) room) ⌝ }
+{
+    let group = group_of(unit, down + across, n);
+    let most = lesser(2 * n + 1, room);
+    leads(s, limit, row, col, down, across, group, most)
+}
+
 // How many entries of the row above a block are there.
 fn above_reach(
     s: Shifts,
@@ -289,19 +310,18 @@ fn above_reach(
     if row == 0 {
         return 0;
     }
-    let down = l.down;
     let across = l.across;
-    let group = group_of(unit, across, n);
-    let most = lesser(2 * n + 1, l.width - col);
-    leads(
+    let from = (row - 1) * l.down;
+    edge_reach(
         s,
         limit,
-        (row - 1) * down,
+        from,
         col * across,
         0,
         across,
-        group,
-        most,
+        unit,
+        n,
+        l.width - col,
     )
 }
 
@@ -322,19 +342,8 @@ fn left_reach(
         return 0;
     }
     let down = l.down;
-    let across = l.across;
-    let group = group_of(unit, down, n);
-    let most = lesser(2 * n + 1, l.height - row);
-    leads(
-        s,
-        limit,
-        row * down,
-        (col - 1) * across,
-        down,
-        0,
-        group,
-        most,
-    )
+    let from = (col - 1) * l.across;
+    edge_reach(s, limit, row * down, from, down, 0, unit, n, l.height - row)
 }
 
 // Whether the corner of a block is there.

@@ -32,6 +32,12 @@ use Rattle.domain.proofs.side_ok.Reads as domain-side-ok
 use Rattle.domain.proofs.ctu_ok.Reads as domain-ctu-ok
 use Rattle.domain.proofs.unit_ok.Reads as domain-unit-ok
 use Rattle.listing.proofs.word.Reads as listing-word
+use Rattle.listing.proofs.other.Reads as listing-other
+use Rattle.listing.proofs.sample.Reads as listing-sample
+use Rattle.listing.proofs.draw_into.Reads as listing-draw-into
+use Rattle.listing.proofs.row.Reads as listing-row
+use Rattle.listing.proofs.same_run.Reads as listing-same-run
+use Rattle.listing.proofs.Count.with.Reads as listing-with
 use Rattle.fmt.proofs.BitDepth.from_bits.Reads as fmt-from-bits
 use Rattle.fmt.proofs.BitDepth.bits.Reads as fmt-bits
 use Rattle.fmt.proofs.BitDepth.max_val.Reads as fmt-max-val
@@ -183,6 +189,24 @@ domain-unit-ok-once a x y s t p q = p ∙ sym q
 -- listing
 listing-word-once : (κs : Lfts 1) → Once (listing-word.Post κs)
 listing-word-once κs a x y s t p q = p ∙ sym q
+
+listing-other-once : Once (listing-other.Post tt)
+listing-other-once a x y s t p q = p ∙ sym q
+
+listing-sample-once : Once (listing-sample.Post tt)
+listing-sample-once a x y s t p q = p ∙ sym q
+
+listing-draw-into-once : (κs : Lfts 1) → OnceLeft (λ s. now (s .1 .1 .0)) (listing-draw-into.Post κs)
+listing-draw-into-once κs a x y s t p q = (refl, p ∙ sym q)
+
+listing-row-once : Once (listing-row.Post tt)
+listing-row-once a x y s t p q = p ∙ sym q
+
+listing-same-run-once : (κs : Lfts 2) → Once (listing-same-run.Post κs)
+listing-same-run-once κs a x y s t p q = p ∙ sym q
+
+listing-with-once : Once (listing-with.Post tt)
+listing-with-once a x y s t p q = p ∙ sym q
 
 -- fmt
 fmt-from-bits-once : Once (fmt-from-bits.Post tt)

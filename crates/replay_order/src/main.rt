@@ -10,6 +10,7 @@ use fmt::DepthFrom;
 use fmt::FormatFrom;
 use fmt::LumaCol;
 use fmt::LumaRow;
+use listing::Count;
 use order::LumaNeighbour;
 use order::Picture;
 
@@ -98,31 +99,12 @@ fn differs(kind: u32, call: [u32; 10]) -> bool {
     }
 }
 
-struct Count {
-    calls: u64,
-    differ: u64,
-}
-
-impl Count {
-    // The count with one call more.
-    fn with(self, kind: u32, list: &[u8], line: u16) -> Count
-        requires { ⌜ (self .calls + 1 < 4294967296) × (self .differ + 1 < 4294967296) ⌝ }
-        ensures { λ r. ⌜ (r .calls ≤ self .calls + 1) × (r .differ ≤ self .differ + 1) ⌝ }
-    {
-        if word(list, line, 0) != kind {
-            return self;
-        }
-        if differs(kind, call_of(list, line)) {
-            return Count {
-                calls: self.calls + 1,
-                differ: self.differ + 1,
-            };
-        }
-        Count {
-            calls: self.calls + 1,
-            differ: self.differ,
-        }
+// The count with a line's call, if it is one of the kind.
+fn with(count: Count, kind: u32, list: &[u8], line: u16) -> Count {
+    if word(list, line, 0) != kind {
+        return count;
     }
+    count.with(!differs(kind, call_of(list, line)))
 }
 
 // Whole lines, 4096 at most.
@@ -143,7 +125,7 @@ fn replay(list: &[u8], kind: u32) -> Count {
         differ: 0,
     };
     for line in 0..lines_in(list.len()) {
-        count = count.with(kind, list, line as u16);
+        count = with(count, kind, list, line as u16);
     }
     count
 }

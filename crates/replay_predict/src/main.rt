@@ -12,6 +12,7 @@
 ghost use Prim.Native.Nat.{_+_, _≤_, _<_};
 ghost use lib.ListN.{length};
 ghost use mathlib.Core.Path.{_≡_};
+use listing::Count;
 use rows::Rows;
 
 // What a line gives a call, and the number and the value that it wants.
@@ -23,7 +24,7 @@ struct Call {
     seed: u32,
     top: u32,
     entries: usize,
-    place: usize,
+    place: u32,
     no: u32,
     value: u32,
 }
@@ -46,102 +47,51 @@ fn call_of(line: &[u8]) -> Call {
         seed: listing::word(line, 5),
         top: listing::word(line, 6),
         entries: listing::word(line, 7) as usize,
-        place: listing::word(line, 8) as usize,
+        place: listing::word(line, 8),
         no: listing::word(line, 9),
         value: listing::word(line, 10),
     }
 }
 
-fn next(x: u32) -> u32 {
-    ((x % 65537) * 75 + 74) % 65537
-}
-
-fn other(x: u32) -> u32 {
-    ((x % 65537) * 171 + 11213) % 65537
-}
-
-fn sample(x: u32, top: u32) -> u16 {
-    match top {
-        0 => 0,
-        1 => ((x % 2) * 65535) as u16,
-        255 => (x % 256) as u16,
-        1023 => (x % 1024) as u16,
-        4095 => (x % 4096) as u16,
-        _ => (x % 65536) as u16,
-    }
-}
-
-// The numbers that follow a seed, as a row and as a block.
-fn row_of(seed: u32, top: u32) -> [u16; 65]
-    ensures { λ r. ⌜ 65 ≡ length r ⌝ }
-{
-    let mut row = [0u16; 65];
-    let mut x = seed;
-    for i in 0..65 {
-        x = next(x);
-        row[i] = sample(x, top);
-    }
-    row
-}
-
 fn block_of(seed: u32, top: u32) -> [u16; 1024] {
     let mut block = [0u16; 1024];
-    let mut x = seed;
-    for i in 0..1024 {
-        x = next(x);
-        block[i] = sample(x, top);
-    }
+    listing::draw_into(seed, top, &mut block);
     block
 }
 
-// A place from which 32 entries of so many can be read.
-fn within(place: usize, entries: usize) -> usize
-    requires { ⌜ 32 ≤ entries ⌝ }
-    ensures { λ r. ⌜ r + 32 ≤ entries ⌝ }
-{
-    if place > entries - 32 {
-        return 0;
-    }
-    place
-}
-
-fn is(wanted: u32, sample: u16) -> bool {
-    wanted == (sample as u32)
-}
-
-// Whether the 32 entries from a place on are those of the line.
-fn same(line: &[u8], written: &[u16], place: usize) -> bool
-    requires { ⌜ 32 ≤ length (now written) ⌝ }
-{
-    let from = within(place, written.len());
-    let mut all = true;
-    for i in 0..32 {
-        all = all & is(listing::word(line, 11 + (i as u32)), written[from + i]);
-    }
-    all
+// Whether the 32 entries from the call's place on are those of the line.
+fn same(line: &[u8], written: &[u16], call: Call) -> bool {
+    listing::same_run(line, 11, written, call.place)
 }
 
 fn difference(o: u16, p: u16) -> i32 {
     (o as i32) - (p as i32)
 }
 
+// 0 past the end.
+fn residual_at(written: &[i32], at: usize) -> i32 {
+    if at < written.len() {
+        return written[at];
+    }
+    0
+}
+
 fn is_residual(wanted: u32, residual: i32) -> bool {
     residual == difference((wanted / 65536) as u16, (wanted % 65536) as u16)
 }
 
-fn same_residuals(line: &[u8], written: &[i32], place: usize) -> bool
-    requires { ⌜ 32 ≤ length (now written) ⌝ }
-{
-    let from = within(place, written.len());
+// The same of residuals, which are another kind of number.
+fn same_residuals(line: &[u8], written: &[i32], call: Call) -> bool {
     let mut all = true;
-    for i in 0..32 {
-        all = all & is_residual(listing::word(line, 11 + (i as u32)), written[from + i]);
+    for i in 0..32u32 {
+        let found = residual_at(written, (call.place as usize) + (i as usize));
+        all = all & is_residual(listing::word(line, 11 + i), found);
     }
     all
 }
 
-fn row_same(line: &[u8], row: [u16; 65], place: usize) -> bool {
-    same(line, &row, place)
+fn row_same(line: &[u8], row: [u16; 65], call: Call) -> bool {
+    same(line, &row, call)
 }
 
 fn rule_same(call: Call) -> bool {
@@ -151,38 +101,43 @@ fn rule_same(call: Call) -> bool {
 
 // The row above, or where the edge is asked for the row on the left.
 fn weak_same(line: &[u8], call: Call, above: &[u16], left: &[u16]) -> bool {
-    let answer = smooth::filter_references(sample(call.seed, call.top), above, left, call.n);
+    let answer = smooth::filter_references(
+        listing::sample(call.seed, call.top),
+        above,
+        left,
+        call.n,
+    );
     let up = answer.above;
     let side = answer.left;
     let number = answer.no == call.no;
     if call.edge {
-        return number & row_same(line, side, call.place);
+        return number & row_same(line, side, call);
     }
-    number & row_same(line, up, call.place)
+    number & row_same(line, up, call)
 }
 
 fn luma_same(line: &[u8], call: Call, above: &[u16], left: &[u16]) -> bool {
-    let corner = sample(call.seed, call.top);
+    let corner = listing::sample(call.seed, call.top);
     let answer = smooth::filter_luma_refs(corner, above, left, call.n, call.bits);
     let up = answer.rows.above;
     let side = answer.rows.left;
     let number = (answer.no == call.no) & ((answer.rows.corner as u32) == call.value);
     if call.edge {
-        return number & row_same(line, side, call.place);
+        return number & row_same(line, side, call);
     }
-    number & row_same(line, up, call.place)
+    number & row_same(line, up, call)
 }
 
 fn planar_same(line: &[u8], call: Call, above: &[u16], left: &[u16]) -> bool {
     let mut pred = [4660u16; 1024];
     let no = flat::predict_planar_into(above, left, call.n, &mut pred);
-    (no == call.no) & same(line, &pred, call.place)
+    (no == call.no) & same(line, &pred, call)
 }
 
 fn dc_same(line: &[u8], call: Call, above: &[u16], left: &[u16]) -> bool {
     let mut pred = [4660u16; 1024];
     let no = flat::predict_dc_into(above, left, call.n, call.edge, &mut pred);
-    (no == call.no) & same(line, &pred, call.place)
+    (no == call.no) & same(line, &pred, call)
 }
 
 fn angular_same(line: &[u8], call: Call, above: &[u16], left: &[u16]) -> bool {
@@ -191,7 +146,7 @@ fn angular_same(line: &[u8], call: Call, above: &[u16], left: &[u16]) -> bool {
     let mut indices = [4660u32; 32];
     let mut fractions = [4660u32; 32];
     let no = angular::predict_angular_slices(
-        sample(call.seed, call.top),
+        listing::sample(call.seed, call.top),
         above,
         left,
         call.n,
@@ -203,27 +158,27 @@ fn angular_same(line: &[u8], call: Call, above: &[u16], left: &[u16]) -> bool {
         &mut indices,
         &mut fractions,
     );
-    (no == call.no) & same(line, &pred, call.place)
+    (no == call.no) & same(line, &pred, call)
 }
 
 // The residual of the two blocks.
 fn residual_same(line: &[u8], call: Call) -> bool {
     let pred = block_of(call.seed, call.top);
-    let orig = block_of(other(call.seed), call.top);
+    let orig = block_of(listing::other(call.seed), call.top);
     let mut residual = [4660i32; 1024];
     let no = residual::compute_residual_i32_into(&orig, &pred, call.n, &mut residual);
-    (no == call.no) & same_residuals(line, &residual, call.place)
+    (no == call.no) & same_residuals(line, &residual, call)
 }
 
 // The residual of the two blocks, added to the first: the number is that of the second call, the value that of the first.
 fn rebuilt_same(line: &[u8], call: Call) -> bool {
     let pred = block_of(call.seed, call.top);
-    let orig = block_of(other(call.seed), call.top);
+    let orig = block_of(listing::other(call.seed), call.top);
     let mut residual = [0i32; 1024];
     let mut out = [4660u16; 1024];
     let first = residual::compute_residual_i32_into(&orig, &pred, call.n, &mut residual);
     let no = residual::reconstruct_into(&pred, &residual, call.n, call.bits, &mut out);
-    (first == call.value) & (no == call.no) & same(line, &out, call.place)
+    (first == call.value) & (no == call.no) & same(line, &out, call)
 }
 
 fn chroma_block_same(line: &[u8], call: Call, above: &[u16], left: &[u16]) -> bool {
@@ -233,7 +188,7 @@ fn chroma_block_same(line: &[u8], call: Call, above: &[u16], left: &[u16]) -> bo
     let mut fractions = [4660u32; 32];
     let no = predict::predict_chroma_tb_slices(
         call.mode,
-        sample(call.seed, call.top),
+        listing::sample(call.seed, call.top),
         above,
         left,
         call.n,
@@ -243,15 +198,15 @@ fn chroma_block_same(line: &[u8], call: Call, above: &[u16], left: &[u16]) -> bo
         &mut indices,
         &mut fractions,
     );
-    (no == call.no) & same(line, &pred, call.place)
+    (no == call.no) & same(line, &pred, call)
 }
 
 // A luma block's rows are whole by their type.
 fn luma_block_same(line: &[u8], call: Call) -> bool {
     let rows = Rows {
-        corner: sample(call.seed, call.top),
-        above: row_of(call.seed, call.top),
-        left: row_of(other(call.seed), call.top),
+        corner: listing::sample(call.seed, call.top),
+        above: listing::row(call.seed, call.top),
+        left: listing::row(listing::other(call.seed), call.top),
     };
     let mut pred = [4660u16; 1024];
     let mut refs = [4660u16; 193];
@@ -267,14 +222,14 @@ fn luma_block_same(line: &[u8], call: Call) -> bool {
         &mut indices,
         &mut fractions,
     );
-    (no == call.no) & same(line, &pred, call.place)
+    (no == call.no) & same(line, &pred, call)
 }
 
 // Whether a door gives what the line has. Kinds 1 to 10; others never do.
 fn agrees(line: &[u8], kind: u32) -> bool {
     let call = call_of(line);
-    let above = row_of(call.seed, call.top);
-    let row = row_of(other(call.seed), call.top);
+    let above = listing::row(call.seed, call.top);
+    let row = listing::row(listing::other(call.seed), call.top);
     let left = &row[..at_most(call.entries, 65)];
     match kind {
         1 => rule_same(call),
@@ -291,31 +246,12 @@ fn agrees(line: &[u8], kind: u32) -> bool {
     }
 }
 
-struct Count {
-    calls: u64,
-    differ: u64,
-}
-
-impl Count {
-    // The count with one line more, of which so many bytes were read.
-    fn with(self, line: &[u8], read: usize) -> Count
-        requires { ⌜ (1 ≤ length (now line)) × ((self .calls + 1 < 4294967296) × (self .differ + 1 < 4294967296)) ⌝ }
-        ensures { λ r. ⌜ (r .calls ≤ self .calls + 1) × (r .differ ≤ self .differ + 1) ⌝ }
-    {
-        if (read != 387) | (line[0] == 35) {
-            return self;
-        }
-        if agrees(line, listing::word(line, 0)) {
-            return Count {
-                calls: self.calls + 1,
-                differ: self.differ,
-            };
-        }
-        Count {
-            calls: self.calls + 1,
-            differ: self.differ + 1,
-        }
+// The count with one line more, of which so many bytes were read.
+fn with(count: Count, line: [u8; 387], read: usize) -> Count {
+    if (read != 387) | (line[0] == 35) {
+        return count;
     }
+    count.with(agrees(&line, listing::word(&line, 0)))
 }
 
 // Reads the list line by line, 4096 at most.
@@ -327,7 +263,7 @@ fn replay() -> Count {
     for i in 0..4096usize {
         let mut line = [0u8; 387];
         let read = io::read_full(0, &mut line);
-        count = count.with(&line, read);
+        count = with(count, line, read);
     }
     count
 }

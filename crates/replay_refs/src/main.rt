@@ -18,6 +18,7 @@ use fmt::ChromaCol;
 use fmt::ChromaRow;
 use fmt::LumaCol;
 use fmt::LumaRow;
+use listing::Count;
 use order::Picture;
 use refs::ChromaRefGeometry;
 use refs::Flags;
@@ -40,7 +41,7 @@ struct Call {
     top: u32,
     entries: usize,
     which: u32,
-    place: usize,
+    place: u32,
     no: u32,
     corner: u32,
 }
@@ -70,46 +71,18 @@ fn call_of(line: &[u8]) -> Call {
         top: listing::word(line, 12),
         entries: listing::word(line, 13) as usize,
         which: listing::word(line, 14),
-        place: listing::word(line, 15) as usize,
+        place: listing::word(line, 15),
         no: listing::word(line, 16),
         corner: listing::word(line, 17),
     }
 }
 
-fn next(x: u32) -> u32 {
-    ((x % 65537) * 75 + 74) % 65537
-}
-
-fn other(x: u32) -> u32 {
-    ((x % 65537) * 171 + 11213) % 65537
-}
-
-fn sample(x: u32, top: u32) -> u16 {
-    match top {
-        0 => 0,
-        1 => ((x % 2) * 65535) as u16,
-        255 => (x % 256) as u16,
-        _ => (x % 65536) as u16,
-    }
-}
-
-// The numbers that follow a seed, as a row, as flags and as a plane.
-fn row_of(seed: u32, top: u32) -> [u16; 65] {
-    let mut row = [0u16; 65];
-    let mut x = seed;
-    for i in 0..65 {
-        x = next(x);
-        row[i] = sample(x, top);
-    }
-    row
-}
-
+// A seed's numbers as flags and as a plane.
 fn flags_of(seed: u32, odds: u32, one: usize) -> [bool; 65] {
+    let drawn = listing::row(seed, 65535);
     let mut flags = [false; 65];
-    let mut x = seed;
     for i in 0..65 {
-        x = next(x);
-        flags[i] = (x % 16 < odds) | (i == one);
+        flags[i] = (((drawn[i] % 16) as u32) < odds) | (i == one);
     }
     flags
 }
@@ -118,43 +91,13 @@ fn plane_of(seed: u32, top: u32) -> [u16; 4096]
     ensures { λ r. ⌜ 4096 ≡ length r ⌝ }
 {
     let mut plane = [0u16; 4096];
-    let mut x = seed;
-    for i in 0..4096 {
-        x = next(x);
-        plane[i] = sample(x, top);
-    }
+    listing::draw_into(seed, top, &mut plane);
     plane
 }
 
-// A place from which 32 entries of so many can be read.
-fn within(place: usize, entries: usize) -> usize
-    requires { ⌜ 32 ≤ entries ⌝ }
-    ensures { λ r. ⌜ r + 32 ≤ entries ⌝ }
-{
-    if place > entries - 32 {
-        return 0;
-    }
-    place
-}
-
-fn is(wanted: u32, sample: u16) -> bool {
-    wanted == (sample as u32)
-}
-
 // Whether the 32 entries from a place on are those of the line.
-fn same(line: &[u8], row: &[u16], place: usize) -> bool
-    requires { ⌜ 32 ≤ length (now row) ⌝ }
-{
-    let from = within(place, row.len());
-    let mut all = true;
-    for i in 0..32 {
-        all = all & is(listing::word(line, 18 + (i as u32)), row[from + i]);
-    }
-    all
-}
-
-fn row_same(line: &[u8], row: [u16; 65], place: usize) -> bool {
-    same(line, &row, place)
+fn row_same(line: &[u8], row: [u16; 65], place: u32) -> bool {
+    listing::same_run(line, 18, &row, place)
 }
 
 // Whether an answer's number, corner and row are those of the line.
@@ -170,9 +113,9 @@ fn rows_same(line: &[u8], call: Call, no: u32, rows: Rows) -> bool {
 
 fn substitution_same(line: &[u8], call: Call) -> bool {
     let rows = Rows {
-        corner: sample(call.seed, call.top),
-        above: row_of(call.seed, call.top),
-        left: row_of(other(call.seed), call.top),
+        corner: listing::sample(call.seed, call.top),
+        above: listing::row(call.seed, call.top),
+        left: listing::row(listing::other(call.seed), call.top),
     };
     let flags = Flags {
         corner: call.ctu == 1,
@@ -225,7 +168,7 @@ fn chroma_same(line: &[u8], call: Call, cb: &[u16], cr: &[u16]) -> bool {
 fn agrees(line: &[u8], kind: u32) -> bool {
     let call = call_of(line);
     let first = plane_of(call.seed, call.top);
-    let second = plane_of(other(call.seed), call.top);
+    let second = plane_of(listing::other(call.seed), call.top);
     let entries = at_most(call.entries, 4096);
     let plane = &first[..entries];
     let beside = &second[..entries];
@@ -237,31 +180,12 @@ fn agrees(line: &[u8], kind: u32) -> bool {
     }
 }
 
-struct Count {
-    calls: u64,
-    differ: u64,
-}
-
-impl Count {
-    // The count with one line more, of which so many bytes were read.
-    fn with(self, line: &[u8], read: usize) -> Count
-        requires { ⌜ (1 ≤ length (now line)) × ((self .calls + 1 < 4294967296) × (self .differ + 1 < 4294967296)) ⌝ }
-        ensures { λ r. ⌜ (r .calls ≤ self .calls + 1) × (r .differ ≤ self .differ + 1) ⌝ }
-    {
-        if (read != 450) | (line[0] == 35) {
-            return self;
-        }
-        if agrees(line, listing::word(line, 0)) {
-            return Count {
-                calls: self.calls + 1,
-                differ: self.differ,
-            };
-        }
-        Count {
-            calls: self.calls + 1,
-            differ: self.differ + 1,
-        }
+// The count with one line more, of which so many bytes were read.
+fn with(count: Count, line: [u8; 450], read: usize) -> Count {
+    if (read != 450) | (line[0] == 35) {
+        return count;
     }
+    count.with(agrees(&line, listing::word(&line, 0)))
 }
 
 // Reads the list line by line, 4096 at most.
@@ -273,7 +197,7 @@ fn replay() -> Count {
     for i in 0..4096usize {
         let mut line = [0u8; 450];
         let read = io::read_full(0, &mut line);
-        count = count.with(&line, read);
+        count = with(count, line, read);
     }
     count
 }

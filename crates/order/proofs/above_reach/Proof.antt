@@ -1,8 +1,9 @@
--- `order::above_reach` meets its contract: the walk's count is the edge's own.
-use Prim.Native.Nat.{_-_}
+-- `order::above_reach` meets its contract: the edge's count is that of the block's samples.
+use mathlib.Core.Path.{_∙_}
+use Prim.Native.Nat.{_-_, _*_, _<_}
 use native.Mathlib.Omega.{arith}
 use Rattle.domain.specs.Facts.{size-small}
-use Rattle.order.specs.Walk.{fixed, above-none, above-line, above-count}
+use Rattle.order.specs.Walk.{row-span, col-span, above-none, above-edge, above-count}
 use borrow.Author.Needs.{needs}
 use Rattle.order.proofs.above_reach.Statement.{statement}
 use Rattle.order.proofs.above_reach.Tie as tie
@@ -10,48 +11,32 @@ use Rattle.order.proofs.above_reach.Tie as tie
 returns : tie.Need-returns
 returns c = above-none _ _ _ _ _ _ (c .before .pre) _ (c .if1 .taken)
 
-group-of-requires : tie.Need-group-of-requires
-group-of-requires c κs = c .before .pre .acrosses
+sub-from : tie.Need-sub-from
+sub-from c = search needs
 
-mul-lesser : tie.Need-mul-lesser
-mul-lesser c = record { fits = omega (arith, size-small _ (c .before .before .pre .size)) }
+mul-from : tie.Need-mul-from
+mul-from c = record { fits = omega (arith, row-span _ _ _ _ _ _ (c .before .before .pre) (c .before .before .args .row - 1) (omega (arith, c .before .before .pre .row-in))) }
 
-add-lesser : tie.Need-add-lesser
-add-lesser c = record { fits = omega (arith, size-small _ (c .before .before .pre .size)) }
+mul-edge-reach : tie.Need-mul-edge-reach
+mul-edge-reach c = record { fits = omega (arith, col-span _ _ _ _ _ _ (c .before .before .pre) (c .before .before .args .col) (omega (arith, c .before .before .pre .col-in, size-small _ (c .before .before .pre .size)))) }
 
-sub-lesser : tie.Need-sub-lesser
-sub-lesser c = omega (arith, c .before .before .before .pre .row-in, c .before .before .before .pre .col-in)
+sub-edge-reach : tie.Need-sub-edge-reach
+sub-edge-reach c = omega (arith, c .before .before .before .pre .col-in)
 
-lesser-requires : tie.Need-lesser-requires
-lesser-requires c κs = search needs
-
-sub-leads : tie.Need-sub-leads
-sub-leads c = search needs
-
-mul-leads : tie.Need-mul-leads
-mul-leads c = record { fits = let h = fixed (c .before .before .before .before .args .row - 1) (c .before .before .before .before .args .l .height) (c .before .before .before .before .args .l .down) (omega (arith, c .before .before .before .before .pre .row-in)) (c .before .before .before .before .pre .tall) (c .before .before .before .before .pre .downs) in omega arith }
-
-mul-leads-2 : tie.Need-mul-leads-2
-mul-leads-2 c = record { fits = let h = fixed (c .before .before .before .before .args .col) (c .before .before .before .before .args .l .width) (c .before .before .before .before .args .l .across) (omega (arith, c .before .before .before .before .pre .col-in, size-small _ (c .before .before .before .before .pre .size))) (c .before .before .before .before .pre .wide) (c .before .before .before .before .pre .acrosses) in omega arith }
-
-leads-requires : tie.Need-leads-requires
-leads-requires c κs = above-line _ _ _ _ _ _ (c .before .before .before .before .pre) (omega arith) _ _ (c .before .before .group-of .ensures) (c .lesser .ensures)
+edge-reach-requires : tie.Need-edge-reach-requires
+edge-reach-requires c κs = above-edge _ _ _ _ _ _ (c .before .before .before .pre) (omega arith)
 
 returns-2 : tie.Need-returns-2
-returns-2 c = above-count _ _ _ _ _ _ (c .before .before .before .before .before .pre) _ _ _ (omega arith) (c .before .lesser .ensures) (c .leads .ensures)
+returns-2 c = c .edge-reach .ensures ∙ above-count _ _ _ _ _ _ (c .before .before .before .before .pre) _ (omega arith)
 
 pub above-reach-spec : {M : Type 1} → statement M
 above-reach-spec =
     tie.close
     (tie.spec
     returns
-    group-of-requires
-    mul-lesser
-    add-lesser
-    sub-lesser
-    lesser-requires
-    sub-leads
-    mul-leads
-    mul-leads-2
-    leads-requires
+    sub-from
+    mul-from
+    mul-edge-reach
+    sub-edge-reach
+    edge-reach-requires
     returns-2)

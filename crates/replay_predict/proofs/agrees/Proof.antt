@@ -9,14 +9,14 @@ use Rattle.replay_predict.proofs.agrees.Tie as tie
 call-of-requires : tie.Need-call-of-requires
 call-of-requires c κs = search needs
 
-row-of-requires : tie.Need-row-of-requires
-row-of-requires c κs = search needs
+row-requires : tie.Need-row-requires
+row-requires c κs = search needs
 
 other-requires : tie.Need-other-requires
 other-requires c κs = search needs
 
-row-of-requires-2 : tie.Need-row-of-requires-2
-row-of-requires-2 c κs = search needs
+row-requires-2 : tie.Need-row-requires-2
+row-requires-2 c κs = search needs
 
 at-most-requires : tie.Need-at-most-requires
 at-most-requires c κs = search needs
@@ -25,7 +25,7 @@ array-share-prefix-row : tie.Need-array-share-prefix-row
 array-share-prefix-row c = search needs
 
 slice-aggregate-left : tie.Need-slice-aggregate-left
-slice-aggregate-left c = sym (length-take-le _ _ (omega (arith, c .before .at-most .ensures, c .before .before .row-of2 .ensures)))
+slice-aggregate-left c = sym (length-take-le _ _ (omega (arith, c .before .at-most .ensures)))
 
 rule-same-requires : tie.Need-rule-same-requires
 rule-same-requires c κs = search needs
@@ -113,9 +113,9 @@ agrees-spec =
     tie.close
     (tie.spec
     call-of-requires
-    row-of-requires
+    row-requires
     other-requires
-    row-of-requires-2
+    row-requires-2
     at-most-requires
     array-share-prefix-row
     slice-aggregate-left

@@ -1,39 +1,35 @@
--- `replay_predict::same_residuals` meets its contract. The entries are read in what was written.
-use Prim.Native.Nat.{_+_, _-_, _≤_}
-use lib.ListN.{length}
+-- `replay_predict::same_residuals` meets its contract: it reads 32 words.
+use Prim.Native.Nat.{_-_, _≤_}
 use borrow.Author.Needs.{needs}
 use Rattle.replay_predict.proofs.same_residuals.Statement.{statement}
 use Rattle.replay_predict.proofs.same_residuals.Tie as tie
 
 abbrev Inv-loop : tie.InvT-loop
-Inv-loop line written place from all₀ i₀ all i = (i ≤ 32) × (from + 32 ≤ length written)
+Inv-loop line written call all₀ i₀ all i = i ≤ 32
 
 abbrev μ-loop : tie.MeasureT-loop
-μ-loop line written place from all₀ i₀ all i = 32 - i
-
-within-requires : tie.Need-within-requires Inv-loop μ-loop
-within-requires c κs = search needs
+μ-loop line written call all₀ i₀ all i = 32 - i
 
 loop-holds : tie.Need-loop-holds Inv-loop μ-loop
 loop-holds c = search needs
 
-cast-word : tie.Need-cast-word Inv-loop μ-loop
-cast-word c = search needs
+cast-residual-at : tie.Need-cast-residual-at Inv-loop μ-loop
+cast-residual-at c = search needs
+
+cast-residual-at-2 : tie.Need-cast-residual-at-2 Inv-loop μ-loop
+cast-residual-at-2 c = search needs
+
+add-residual-at : tie.Need-add-residual-at Inv-loop μ-loop
+add-residual-at c = search needs
+
+residual-at-requires : tie.Need-residual-at-requires Inv-loop μ-loop
+residual-at-requires c κs = search needs
 
 add-word : tie.Need-add-word Inv-loop μ-loop
 add-word c = search needs
 
 word-requires : tie.Need-word-requires Inv-loop μ-loop
 word-requires c κs = search needs
-
-add-is-residual : tie.Need-add-is-residual Inv-loop μ-loop
-add-is-residual c = search needs
-
-mul-is-residual : tie.Need-mul-is-residual Inv-loop μ-loop
-mul-is-residual c = search needs
-
-shared-slice-copy-out-is-residual : tie.Need-shared-slice-copy-out-is-residual Inv-loop μ-loop
-shared-slice-copy-out-is-residual c = search needs
 
 is-residual-requires : tie.Need-is-residual-requires Inv-loop μ-loop
 is-residual-requires c κs = search needs
@@ -56,14 +52,13 @@ same-residuals-spec =
     (tie.spec
     Inv-loop
     μ-loop
-    within-requires
     loop-holds
-    cast-word
+    cast-residual-at
+    cast-residual-at-2
+    add-residual-at
+    residual-at-requires
     add-word
     word-requires
-    add-is-residual
-    mul-is-residual
-    shared-slice-copy-out-is-residual
     is-residual-requires
     add-i
     loop-less

@@ -1,4 +1,4 @@
--- `replay_refs::flags_of` meets its contract. Every entry is written in the flags.
+-- `replay_refs::flags_of` meets its contract. Every entry is read in the row and written in the flags.
 use Prim.Native.Nat.{_-_, _≤_}
 use mathlib.Core.Path.{_≡_}
 use lib.ListN.{length}
@@ -7,16 +7,25 @@ use Rattle.replay_refs.proofs.flags_of.Statement.{statement}
 use Rattle.replay_refs.proofs.flags_of.Tie as tie
 
 abbrev Inv-loop : tie.InvT-loop
-Inv-loop seed odds one flags₀ x₀ i₀ flags x i = (i ≤ 65) × (65 ≡ length flags)
+Inv-loop seed odds one drawn flags₀ i₀ flags i = (i ≤ 65) × (65 ≡ length flags) × (65 ≡ length drawn)
 
 abbrev μ-loop : tie.MeasureT-loop
-μ-loop seed odds one flags₀ x₀ i₀ flags x i = 65 - i
+μ-loop seed odds one drawn flags₀ i₀ flags i = 65 - i
+
+row-requires : tie.Need-row-requires Inv-loop μ-loop
+row-requires c κs = search needs
 
 loop-holds : tie.Need-loop-holds Inv-loop μ-loop
 loop-holds c = search needs
 
-next-requires : tie.Need-next-requires Inv-loop μ-loop
-next-requires c κs = search needs
+mul-flags : tie.Need-mul-flags Inv-loop μ-loop
+mul-flags c = search needs
+
+array-read-flags : tie.Need-array-read-flags Inv-loop μ-loop
+array-read-flags c = search needs
+
+cast-flags : tie.Need-cast-flags Inv-loop μ-loop
+cast-flags c = search needs
 
 array-write-flags : tie.Need-array-write-flags Inv-loop μ-loop
 array-write-flags c = search needs
@@ -39,8 +48,11 @@ flags-of-spec =
     (tie.spec
     Inv-loop
     μ-loop
+    row-requires
     loop-holds
-    next-requires
+    mul-flags
+    array-read-flags
+    cast-flags
     array-write-flags
     add-i
     loop-less

