@@ -17,7 +17,8 @@ at row col side mode = row ∷ col ∷ side ∷ mode ∷ []
 abbrev gives : ℕ → ℕ → Verdict
 gives n k = record { no = n; block = k }
 
--- good; one alone; exchanged; the first twice; then a block outside, a mode above 34, a side of 5, a block of 32 in CTUs of 16, sides of 12
+-- good; one alone; exchanged; the first twice; then a block outside, a mode above 34, a side of 5, a block of 32 in CTUs of 16, sides of 12;
+-- 24 by 16, where of the second CTU there is the left half alone, and its cells come after all of the first
 pub figures : _≡_ {A = List Verdict}
     (planVerdict (still 16 8) (planOf (at 0 0 8 1 ∷ at 0 8 8 1 ∷ []))
     ∷ planVerdict (still 16 8) (planOf (at 0 0 8 1 ∷ []))
@@ -28,14 +29,9 @@ pub figures : _≡_ {A = List Verdict}
     ∷ planVerdict (still 16 8) (planOf (at 0 0 5 35 ∷ []))
     ∷ planVerdict (still 32 32) (planOf (at 0 0 32 0 ∷ []))
     ∷ planVerdict (still 12 8) (planOf [])
+    ∷ planVerdict (still 24 16) (planOf (at 0 0 16 0 ∷ at 0 16 8 0 ∷ at 8 16 8 0 ∷ []))
+    ∷ planVerdict (still 24 16) (planOf (at 0 0 8 0 ∷ at 0 8 8 0 ∷ at 0 16 8 0 ∷ []))
     ∷ [])
-    (gives 0 0 ∷ gives 10 0 ∷ gives 9 0 ∷ gives 9 1 ∷ gives 6 2 ∷ gives 3 1 ∷ gives 2 0 ∷ gives 6 0 ∷ gives 4 0 ∷ [])
+    (gives 0 0 ∷ gives 10 0 ∷ gives 9 0 ∷ gives 9 1 ∷ gives 6 2 ∷ gives 3 1 ∷ gives 2 0 ∷ gives 6 0 ∷ gives 4 0 ∷ gives 0 0 ∷ gives 9 2 ∷ [])
 unfolding planVerdict verdictFrom blockNo ahead aheadBy halvings
 figures = refl
-
--- 24 by 16: of the second CTU there is the left half alone; and its cells come after all of the first
-pub half-ctu : _≡_ {A = List Verdict}
-    (planVerdict (still 24 16) (planOf (at 0 0 16 0 ∷ at 0 16 8 0 ∷ at 8 16 8 0 ∷ [])) ∷ planVerdict (still 24 16) (planOf (at 0 0 8 0 ∷ at 0 8 8 0 ∷ at 0 16 8 0 ∷ [])) ∷ [])
-    (gives 0 0 ∷ gives 9 2 ∷ [])
-unfolding planVerdict verdictFrom blockNo ahead aheadBy halvings
-half-ctu = refl

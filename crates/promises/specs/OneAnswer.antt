@@ -38,6 +38,11 @@ use Rattle.listing.proofs.draw_into.Reads as listing-draw-into
 use Rattle.listing.proofs.row.Reads as listing-row
 use Rattle.listing.proofs.same_run.Reads as listing-same-run
 use Rattle.listing.proofs.Count.with.Reads as listing-with
+use Rattle.file.proofs.trailer_of.Reads as file-trailer-of
+use Rattle.file.proofs.area_of.Reads as file-area-of
+use Rattle.file.proofs.file_ok.Reads as file-file-ok
+use Rattle.file.proofs.read_samples.Reads as file-read-samples
+use Rattle.file.proofs.read_plan.Reads as file-read-plan
 use Rattle.fmt.proofs.BitDepth.from_bits.Reads as fmt-from-bits
 use Rattle.fmt.proofs.BitDepth.bits.Reads as fmt-bits
 use Rattle.fmt.proofs.BitDepth.max_val.Reads as fmt-max-val
@@ -207,6 +212,22 @@ listing-same-run-once κs a x y s t p q = p ∙ sym q
 
 listing-with-once : Once (listing-with.Post tt)
 listing-with-once a x y s t p q = p ∙ sym q
+
+-- file
+file-trailer-of-once : (κs : Lfts 1) → Once (file-trailer-of.Post κs)
+file-trailer-of-once κs a x y s t p q = p ∙ sym q
+
+file-area-of-once : Once (file-area-of.Post tt)
+file-area-of-once a x y s t p q = p .0 ∙ sym (q .0)
+
+file-file-ok-once : (κs : Lfts 1) → Once (file-file-ok.Post κs)
+file-file-ok-once κs a x y s t p q = p ∙ sym q
+
+file-read-samples-once : (κs : Lfts 1) → Once (file-read-samples.Post κs)
+file-read-samples-once κs a x y s t p q = p ∙ sym q
+
+file-read-plan-once : (κs : Lfts 1) → Once (file-read-plan.Post κs)
+file-read-plan-once κs a x y s t p q = p ∙ sym q
 
 -- fmt
 fmt-from-bits-once : Once (fmt-from-bits.Post tt)

@@ -10,7 +10,7 @@ use lib.Dec.{eqb}
 use lib.ListN.{length, getD, length-replicate}
 use borrow.Author.Tests.{eq-eqb, eqb-true}
 use Rattle.laws.specs.Chain.{sum}
-use Rattle.report.specs.File.{fileOk}
+use Rattle.file.specs.File.{fileOk}
 use Rattle.report.specs.Told.{tables, zeros, blank, verdict, residuals, replayed, agree, lines, refusal, ending, told, printed, jobOf}
 use Rattle.report.specs.Told.{Job as File}
 use Rattle.promises.specs.Calls.{Job, calls}

@@ -21,9 +21,9 @@ use Rattle.plan.specs.Plan.{pictureOf, planOf}
 use Rattle.walk.specs.declared.Stepped.{Stepped}
 use Rattle.walk.specs.Block.{largestOf}
 use Rattle.walk.specs.Door.{steppedBy}
-use Rattle.report.specs.File.{trailerOf, area, fileOk, stillOf, sourceOf, recordsOf}
+use Rattle.file.specs.File.{trailerOf, area, fileOk, sourceOf, recordsOf}
 use Rattle.report.specs.Text.{spell, number}
-use Rattle.report.specs.Told.{Job, jobOf, tables, fresh, blank, verdict, residuals, replayed, agree, lines, refusal, ending, told, printed}
+use Rattle.report.specs.Told.{Job, stillOf, jobOf, tables, fresh, blank, verdict, residuals, replayed, agree, lines, refusal, ending, told, printed}
 use Rattle.promises.specs.Exact.{Row, _when_, _or_, First, ExactFirst, Tells, first-exact, first-test, all-of, at-most}
 use Rattle.promises.specs.Table.{BadPicture}
 use Rattle.promises.specs.TableWalk.{about, done, blockRows, Uncovered, planRows, Some, lastRows, BadPlane, BadTables, verdictIn, walk}

@@ -1,4 +1,4 @@
--- What joins the functions that read the file and lay the text. Rests on the kit's laws of lists.
+-- What joins the functions that lay the text. Rests on the kit's laws of lists.
 use mathlib.Core.Path.{_≡_, refl, sym, ap, ap₂, _∙_, subst}
 use mathlib.Core.Bool.{Bool, true, false, cond, _&&_}
 use mathlib.Core.List.{List, [], _∷_, _++_, append-assoc}
@@ -14,7 +14,6 @@ use borrow.Author.Tests.{lt-ltb, ltb-true, ltb-false}
 use Rattle.io.specs.Digits.{digits, glyph, Fewest}
 use Rattle.laws.specs.Fill.{fill}
 use Rattle.laws.specs.FillLaws.{length-fill}
-use Rattle.laws.specs.Bytes.{leAt}
 use Rattle.plan.specs.declared.Block.{Block}
 use Rattle.plan.specs.Plan.{Plan, place}
 use Rattle.walk.specs.declared.Stepped.{Stepped}
@@ -23,18 +22,6 @@ use Rattle.walk.specs.Door.{steppedBy, walkVerdict, walkAfter}
 use Rattle.walk.specs.Laws.{place-in}
 use Rattle.report.specs.Text.{spell, laid}
 use Rattle.report.specs.Told.{Job, tables, fresh, agree, absolutes, line, lines}
-
--- little-endian numbers of two bytes and of four
-pub le-two : (b : List ℕ) (i : ℕ) {x y : ℕ} → x ≡ getD b i 0 → y ≡ getD b (i + 1) 0 → x + 256 * y ≡ leAt 2 b i
-unfolding leAt
-le-two b i p q = omega arith
-
-pub le-four : (b : List ℕ) (i : ℕ) {x y : ℕ} → x ≡ leAt 2 b i → y ≡ leAt 2 b (i + 2) → x + 65536 * y ≡ leAt 4 b i
-unfolding leAt
-le-four b i p q =
-    let e : i + 1 + 1 ≡ i + 2 = omega arith in
-    let f : leAt 2 b (i + 1 + 1) ≡ leAt 2 b (i + 2) = ap (leAt 2 b) e in
-    omega (arith, f)
 
 -- a plan whose blocks have their residuals among so many, and of which the text has room
 pub record Listed (plan : Plan) (residuals : ℕ) : Type 0 where
@@ -167,10 +154,6 @@ lines-none plan v d = record { over = refl; ends = refl; short = omega arith }
 pub lines-more : (plan : ℕ → Block) (v : List ℤ) (k : ℕ) → lines plan v k ++ line (plan k) (absolutes v (place plan k) (plan k .side * plan k .side)) ≡ lines plan v (k + 1)
 unfolding lines
 lines-more plan v k = rw add-one
-
--- the area of two sides of 16 bits
-pub sides-small : (h w : ℕ) → h < 65536 → w < 65536 → h * w < 4294967296
-sides-small h w p q = let a : h ≤ 65535 = omega arith in let b : w ≤ 65535 = omega arith in let m = mul-le-mul a b in omega (arith, m)
 
 -- a line more
 module _ (plan : Plan) (v : List ℤ) (ok : Listed plan (length v)) (k at : ℕ) (b : Block) (l : k < plan .count) (e : at ≡ place (plan .block) k) (q : b ≡ plan .block k) where

@@ -13,7 +13,8 @@ use Rattle.walk.specs.declared.Progress.{Progress}
 use Rattle.walk.specs.Block.{World}
 use Rattle.walk.specs.Door.{Tables, walkVerdict, walkAfter, replayAfter}
 use Rattle.report.specs.declared.Printout.{Printout}
-use Rattle.report.specs.File.{trailerOf, fileOk, stillOf, sourceOf, recordsOf}
+use Rattle.file.specs.declared.Trailer.{Trailer}
+use Rattle.file.specs.File.{trailerOf, fileOk, sourceOf, recordsOf}
 use Rattle.report.specs.Text.{number, laid}
 
 -- a file's contents: the still, its plan and its source
@@ -21,6 +22,10 @@ pub record Job : Type 0 where
   pub still : Still
   pub plan : Plan
   pub source : List ℕ
+
+-- the still that a trailer names
+abbrev pub stillOf : Trailer → Still
+stillOf t = record { bits = t .bits; frame = record { width = t .width; height = t .height; ctu = t .ctu } }
 
 abbrev pub jobOf : List ℕ → Job
 jobOf b = let t = trailerOf b in record { still = stillOf t; plan = planOf (recordsOf b t); source = sourceOf b t }

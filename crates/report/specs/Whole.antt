@@ -2,7 +2,7 @@
 use mathlib.Core.Path.{_≡_, refl, sym, ap, ap₂, _∙_, subst}
 use mathlib.Core.Bool.{Bool, true, false, cond, _&&_}
 use mathlib.Core.List.{List, _++_}
-use Prim.Native.Nat.{ℕ, _+_, _-_, _*_, _≤_}
+use Prim.Native.Nat.{ℕ, _+_, _-_, _*_, _≤_, min}
 use native.Mathlib.Omega.{arith}
 use lib.Dec.{leb, eqb}
 use lib.IntN.{ℤ, pos}
@@ -14,6 +14,8 @@ use Rattle.laws.specs.FillLaws.{length-fill}
 use Rattle.laws.specs.Bytes.{leAt}
 use Rattle.laws.specs.Choose.{if-yes, if-no, both-true, unserved}
 use Rattle.domain.specs.Facts.{size-small}
+use Rattle.file.specs.declared.Trailer.{Trailer}
+use Rattle.file.specs.File.{trailerOf, area, regionsOk, fileOk, sourceOf, recordAt, recordsOf}
 use Rattle.plan.specs.declared.Verdict.{Verdict}
 use Rattle.plan.specs.Plan.{Plan, planOf}
 use Rattle.plan.specs.Cover.{area as plan-area}
@@ -24,10 +26,8 @@ use Rattle.walk.specs.Block.{World}
 use Rattle.walk.specs.Door.{steppedBy, walkVerdict, walkAfter, replayAfter}
 use Rattle.walk.specs.Ready.{Sound}
 use Rattle.walk.specs.Laws.{walk-sound}
-use Rattle.report.specs.declared.Trailer.{Trailer}
 use Rattle.report.specs.declared.Printout.{Printout}
-use Rattle.report.specs.File.{trailerOf, area, regionsOk, fileOk, stillOf, sourceOf, recordAt, recordsOf}
-use Rattle.report.specs.Told.{Job, jobOf, tables, fresh, zeros, blank, verdict, residuals, replayed, agree, lines, refusal, ending, told, printed, reportOf}
+use Rattle.report.specs.Told.{Job, stillOf, jobOf, tables, fresh, zeros, blank, verdict, residuals, replayed, agree, lines, refusal, ending, told, printed, reportOf}
 use Rattle.report.specs.Text.{laid}
 use Rattle.report.specs.Laws.{Laid, Listed, Walked, take-fill}
 
@@ -104,12 +104,6 @@ pub record Held (b : List ℕ) (t : Trailer) : Type 0 where
   pub samples-in : t .samples + 2 * area t ≤ length b
   pub plan-in : t .plan + 6 * t .blocks ≤ length b
 
-pub long-file : (b : List ℕ) → fileOk b ≡ true → 16 ≤ length b
-unfolding fileOk
-long-file b e =
-    let x = both-true (leb 16 (length b) && leb (length b) 65536) (regionsOk (trailerOf b) (length b - 16)) e in
-    leb-true 16 (length b) (both-true (leb 16 (length b)) (leb (length b) 65536) (x .0) .0)
-
 pub held-file : (b : List ℕ) (t : Trailer) → fileOk b ≡ true → t ≡ trailerOf b → Held b t
 unfolding fileOk
 held-file b t e q =
@@ -134,8 +128,8 @@ part-long n d e h = sym (length-take-le n d (omega arith))
 pub zeros-long : {A : Type 0} (n m : ℕ) (z : A) {d : List A} → d ≡ replicate m z → n ≤ m → n ≡ length (take n d)
 zeros-long n m z {d} e h = part-long n d (ap length e ∙ length-replicate m z) h
 
-pub fill-long : {A : Type 0} (f : ℕ → A) (k m : ℕ) (z : A) {d : List A} → d ≡ fill f k (replicate m z) → k ≤ m → k ≡ length (take k d)
-fill-long f k m z {d} e h = part-long k d (ap length e ∙ length-fill f k (replicate m z) ∙ length-replicate m z) h
+pub fill-long : {A : Type 0} (f : ℕ → A) (k m : ℕ) (z : A) {d : List A} → d ≡ fill f (min k m) (replicate m z) → k ≤ m → k ≡ length (take k d)
+fill-long f k m z {d} e h = part-long k d (ap length e ∙ length-fill f (min k m) (replicate m z) ∙ length-replicate m z) h
 
 take-zeros : {A : Type 0} (n m : ℕ) (z : A) → n ≤ m → take n (replicate m z) ≡ replicate n z
 unfolding fill
@@ -154,12 +148,14 @@ blank-part s t n blocks room d e v h i m k r p q u =
 
 -- what is read is what the file asks to be walked
 pub job-is : (b : List ℕ) (t : Trailer) (s : Still) (n : ℕ) (plan : List (List ℕ)) (source : List ℕ) → Held b t → s ≡ stillOf t → n ≡ area t
-    → plan ≡ fill (λ (k : ℕ). recordAt b (t .plan + 6 * k)) (t .blocks) (replicate 512 (replicate 4 0))
-    → source ≡ fill (λ (i : ℕ). leAt 2 b (t .samples + 2 * i)) n (replicate 8192 0)
+    → plan ≡ fill (λ (k : ℕ). recordAt b (t .plan + 6 * k)) (min (t .blocks) 512) (replicate 512 (replicate 4 0))
+    → source ≡ fill (λ (i : ℕ). leAt 2 b (t .samples + 2 * i)) (min n 8192) (replicate 8192 0)
     → record { still = s; plan = planOf (take (t .blocks) plan); source = take n source } ≡ jobOf b
 job-is b t s n plan source h e m p q =
-    let x : take (t .blocks) plan ≡ recordsOf b t = ap (take (t .blocks)) p ∙ take-fill _ (t .blocks) (t .blocks) 512 (replicate 4 0) (omega arith) (h .blocks-few) in
-    let y : take n source ≡ sourceOf b t = ap (take n) q ∙ ap (λ (k : ℕ). take k (fill (λ (i : ℕ). leAt 2 b (t .samples + 2 * i)) k (replicate 8192 0))) m ∙ take-fill _ (area t) (area t) 8192 0 (omega arith) (h .samples-few) in
+    let few : min (t .blocks) 512 ≡ t .blocks = omega (arith, h .blocks-few) in
+    let all : min n 8192 ≡ area t = omega (arith, h .samples-few, m) in
+    let x : take (t .blocks) plan ≡ recordsOf b t = ap (take (t .blocks)) p ∙ ap (λ (j : ℕ). take (t .blocks) (fill (λ (k : ℕ). recordAt b (t .plan + 6 * k)) j (replicate 512 (replicate 4 0)))) few ∙ take-fill _ (t .blocks) (t .blocks) 512 (replicate 4 0) (omega arith) (h .blocks-few) in
+    let y : take n source ≡ sourceOf b t = ap (take n) q ∙ ap₂ (λ (j k : ℕ). take j (fill (λ (i : ℕ). leAt 2 b (t .samples + 2 * i)) k (replicate 8192 0))) m all ∙ take-fill _ (area t) (area t) 8192 0 (omega arith) (h .samples-few) in
     (λ i. record { still = e i; plan = planOf (x i); source = y i }) ∙ ap (λ (u : Trailer). record { still = stillOf u; plan = planOf (recordsOf b u); source = sourceOf b u }) (h .trailer)
 
 -- the whole text of an input

@@ -5,15 +5,13 @@ ghost use Prim.Native.Nat.{ℕ, _+_, _-_, _*_, _≤_, _<_};
 ghost use lib.ListN.{replicate};
 ghost use lib.ListN.{length as count};
 ghost use lib.IntN.{pos, natAbs};
-ghost use Rattle.laws.specs.Fill.{fill};
-ghost use Rattle.laws.specs.Bytes.{leAt};
-ghost use Rattle.report.specs.File.{trailerOf, area, regionsOk, fileOk, stillOf, recordAt};
 ghost use Rattle.report.specs.Text.{number};
 ghost use Rattle.plan.specs.Plan.{planOf};
 ghost use Rattle.walk.specs.Door.{replayAfter};
-ghost use Rattle.report.specs.Told.{tables, fresh, agree, line, lines, absolutes, refusal, ending, told, jobOf, printed, reportOf};
+ghost use Rattle.report.specs.Told.{stillOf, tables, fresh, agree, line, lines, absolutes, refusal, ending, told, jobOf, printed, reportOf};
 ghost use Rattle.report.specs.Laws.{Laid, Listed, Walked};
 ghost use Rattle.report.specs.Whole.{Blank, Held};
+use file::Trailer;
 use plan::Block;
 use plan::Frame;
 use walk::Progress;
@@ -24,86 +22,6 @@ use walk::Still;
 pub struct Printout {
     pub text: [u8; 65536],
     pub length: usize,
-}
-
-// The last 16 bytes of the input.
-struct Trailer {
-    samples: u32,
-    plan: u32,
-    blocks: u16,
-    width: u16,
-    height: u16,
-    bits: u8,
-    ctu: u8,
-}
-
-// Two bytes, the lowest first.
-fn two_at(b: &[u8], i: usize) -> u16
-    requires { ⌜ i + 2 ≤ count (now b) ⌝ }
-    ensures { λ r. ⌜ r ≡ leAt 2 (now (b .entry)) i ⌝ }
-{
-    bytes::sample(b[i], b[i + 1])
-}
-
-// Four bytes, the lowest first.
-fn four_at(b: &[u8], i: usize) -> u32
-    requires { ⌜ i + 4 ≤ count (now b) ⌝ }
-    ensures { λ r. ⌜ r ≡ leAt 4 (now (b .entry)) i ⌝ }
-{
-    (two_at(b, i) as u32) + 65536 * (two_at(b, i + 2) as u32)
-}
-
-fn trailer_of(b: &[u8]) -> Trailer
-    requires { ⌜ 16 ≤ count (now b) ⌝ }
-    ensures { λ r. ⌜ r ≡ trailerOf (now (b .entry)) ⌝ }
-{
-    let t = b.len() - 16;
-    let samples = four_at(b, t);
-    let plan = four_at(b, t + 4);
-    let blocks = two_at(b, t + 8);
-    let width = two_at(b, t + 10);
-    let height = two_at(b, t + 12);
-    Trailer {
-        samples,
-        plan,
-        blocks,
-        width,
-        height,
-        bits: b[t + 14],
-        ctu: b[t + 15],
-    }
-}
-
-// How many samples the picture has.
-fn area_of(t: Trailer) -> usize
-    ensures { λ r. ⌜ (r ≡ area t) × (r < 4294967296) ⌝ }
-{
-    (t.height as usize) * (t.width as usize)
-}
-
-// Whether counts and regions are within their limits; the trailer starts at `start`.
-fn regions_ok(t: Trailer, start: usize) -> bool
-    ensures { λ r. ⌜ r ≡ regionsOk t start ⌝ }
-{
-    let samples = area_of(t);
-    let blocks = t.blocks as usize;
-    (samples <= 8192)
-        & (blocks <= 512)
-        & ((t.samples as usize) + 2 * samples <= start)
-        & ((t.plan as usize) + 6 * blocks <= start)
-}
-
-// Whether number 12 is not given.
-fn file_ok(b: &[u8]) -> bool
-    ensures { λ r. ⌜ r ≡ fileOk (now (b .entry)) ⌝ }
-{
-    if b.len() < 16 {
-        return false;
-    }
-    if b.len() > 65536 {
-        return false;
-    }
-    regions_ok(trailer_of(b), b.len() - 16)
 }
 
 // Room for a plane, for a picture's residuals and for the text, each of zeros.
@@ -123,52 +41,6 @@ fn blank_text() -> [u8; 65536]
     ensures { λ r. ⌜ (r ≡ replicate 65536 0) × (count r ≡ 65536) ⌝ }
 {
     [0; 65536]
-}
-
-// So many samples from `at` on.
-fn read_samples(b: &[u8], at: usize, many: usize) -> [u16; 8192]
-    requires { ⌜ (at + 2 * many ≤ count (now b)) × (many ≤ 8192) ⌝ }
-    ensures { λ r. ⌜ r ≡ fill (λ (i : ℕ). leAt 2 (now (b .entry)) (at + 2 * i)) many (replicate 8192 0) ⌝ }
-{
-    let mut source = [0u16; 8192];
-    let mut i = 0;
-    while i < many {
-        source[i] = two_at(b, at + 2 * i);
-        i += 1;
-    }
-    source
-}
-
-fn wide(x: u8) -> u32
-    ensures { λ r. ⌜ r ≡ x ⌝ }
-{
-    x as u32
-}
-
-// A block record.
-fn record_at(b: &[u8], at: usize) -> [u32; 4]
-    requires { ⌜ at + 6 ≤ count (now b) ⌝ }
-    ensures { λ r. ⌜ r ≡ recordAt (now (b .entry)) at ⌝ }
-{
-    let row = two_at(b, at) as u32;
-    let col = two_at(b, at + 2) as u32;
-    let side = wide(b[at + 4]);
-    let mode = wide(b[at + 5]);
-    [row, col, side, mode]
-}
-
-// So many block records from `at` on.
-fn read_plan(b: &[u8], at: usize, many: usize) -> [[u32; 4]; 512]
-    requires { ⌜ (at + 6 * many ≤ count (now b)) × (many ≤ 512) ⌝ }
-    ensures { λ r. ⌜ r ≡ fill (λ (k : ℕ). recordAt (now (b .entry)) (at + 6 * k)) many (replicate 512 (replicate 4 0)) ⌝ }
-{
-    let mut plan = [[0u32; 4]; 512];
-    let mut k = 0;
-    while k < many {
-        plan[k] = record_at(b, at + 6 * k);
-        k += 1;
-    }
-    plan
 }
 
 // Lays a text over a buffer from `at` on, and tells where it ends.
@@ -385,10 +257,10 @@ fn tell_file(out: &mut [u8], b: &[u8], t: Trailer) -> usize
     requires { ⌜ Held (now b) t × (65536 ≤ count (now out)) ⌝ }
     ensures { λ r. ⌜ Laid 0 (told (jobOf (now (b .entry)))) (now (out .entry)) (now (out .exit)) r 65536 ⌝ }
 {
-    let samples = area_of(t);
+    let samples = file::area_of(t);
     let blocks = t.blocks as usize;
-    let source = read_samples(b, t.samples as usize, samples);
-    let plan = read_plan(b, t.plan as usize, blocks);
+    let source = file::read_samples(b, t.samples, samples);
+    let plan = file::read_plan(b, t.plan, blocks);
     let mut work = blank_plane();
     let mut residuals = blank_residuals();
     let mut plane = blank_plane();
@@ -408,10 +280,10 @@ fn lay_report(out: &mut [u8], input: &[u8]) -> usize
     requires { ⌜ 65536 ≤ count (now out) ⌝ }
     ensures { λ r. ⌜ Laid 0 (printed (now (input .entry))) (now (out .entry)) (now (out .exit)) r 65536 ⌝ }
 {
-    if !file_ok(input) {
+    if !file::file_ok(input) {
         return lay_refusal(&mut *out, 12, 0);
     }
-    let t = trailer_of(input);
+    let t = file::trailer_of(input);
     tell_file(&mut *out, input, t)
 }
 

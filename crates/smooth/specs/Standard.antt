@@ -104,17 +104,3 @@ module _ (n : ℕ) (p q : Neighbours) (a : Agree n p q) where
           above = weak-agrees n (p .corner) (q .corner) (p .above) (q .above) (a .corner) (a .above);
           left = weak-agrees n (p .corner) (q .corner) (p .left) (q .left) (a .corner) (a .left);
         })
-
--- so rows that agree there are smoothed to rows that agree there
-pub smoothed-agrees : (allowed : Bool) (bits n c d : ℕ) (above left over beside : List ℕ) → 0 < n → n ≤ 32
-    → Agree n (fromRows c above left) (fromRows d over beside)
-    → Agree n (neighboursOf (smoothed allowed bits n c above left)) (neighboursOf (smoothed allowed bits n d over beside))
-smoothed-agrees allowed bits n c d above left over beside h k a =
-    let s = is-standard allowed bits n c above left k in
-    let t = is-standard allowed bits n d over beside k in
-    let f = filtered-agrees n (fromRows c above left) (fromRows d over beside) a allowed bits h in
-    record {
-      corner = s .corner ∙ f .corner ∙ sym (t .corner);
-      above = λ i l. s .above i l ∙ f .above i l ∙ sym (t .above i l);
-      left = λ i l. s .left i l ∙ f .left i l ∙ sym (t .left i l);
-    }

@@ -4,7 +4,7 @@ use mathlib.Core.Bool.{true, false}
 use native.Mathlib.Omega.{arith}
 use borrow.Author.Tests.{not-true, not-false}
 use Rattle.report.specs.Laws.{said}
-use Rattle.report.specs.Whole.{long-file, held-file, printed-is}
+use Rattle.report.specs.Whole.{held-file, printed-is}
 use borrow.Author.Needs.{needs}
 use Rattle.report.proofs.lay_report.Statement.{statement}
 use Rattle.report.proofs.lay_report.Tie as tie
@@ -22,7 +22,7 @@ returns : tie.Need-returns
 returns c = said _ 65536 (c .before .before .lay-refusal .ensures) (printed-is _ false (sym (c .before .before .before .before .before .file-ok .ensures) ∙ not-true _ (c .before .before .before .before .if1 .taken))) (omega arith)
 
 trailer-of-requires : tie.Need-trailer-of-requires
-trailer-of-requires c κs = long-file _ (sym (c .before .file-ok .ensures) ∙ not-false _ (c .if1 .left))
+trailer-of-requires c κs = search needs
 
 tell-file-requires : tie.Need-tell-file-requires
 tell-file-requires c κs = (held-file _ _ (sym (c .before .before .before .file-ok .ensures) ∙ not-false _ (c .before .before .if1 .left)) (c .before .trailer-of .ensures), search needs)

@@ -16,14 +16,8 @@ area-of-requires c κs = search needs
 cast-blocks : tie.Need-cast-blocks
 cast-blocks c = search needs
 
-cast-read-samples : tie.Need-cast-read-samples
-cast-read-samples c = search needs
-
 read-samples-requires : tie.Need-read-samples-requires
 read-samples-requires c κs = search needs
-
-cast-read-plan : tie.Need-cast-read-plan
-cast-read-plan c = search needs
 
 read-plan-requires : tie.Need-read-plan-requires
 read-plan-requires c κs = search needs
@@ -44,42 +38,42 @@ array-share-prefix-plan : tie.Need-array-share-prefix-plan
 array-share-prefix-plan c = search needs
 
 slice-aggregate-tell : tie.Need-slice-aggregate-tell
-slice-aggregate-tell c = fill-long _ _ 512 (replicate 4 0) (c .before .before .before .before .before .before .read-plan .ensures) (c .before .before .before .before .before .before .before .before .before .before .before .before .before .before .pre .0 .blocks-few)
+slice-aggregate-tell c = fill-long _ _ 512 (replicate 4 0) (c .before .before .before .before .before .before .read-plan .ensures) (c .before .before .before .before .before .before .before .before .before .before .before .before .pre .0 .blocks-few)
 
 array-share-prefix-source : tie.Need-array-share-prefix-source
 array-share-prefix-source c = search needs
 
 slice-aggregate-tell-2 : tie.Need-slice-aggregate-tell-2
-slice-aggregate-tell-2 c = fill-long _ _ 8192 0 (c .before .before .before .before .before .before .before .before .before .read-samples .ensures) (omega (arith, c .before .before .before .before .before .before .before .before .before .before .before .before .area-of .ensures .0, c .before .before .before .before .before .before .before .before .before .before .before .before .before .before .before .pre .0 .samples-few))
+slice-aggregate-tell-2 c = fill-long _ _ 8192 0 (c .before .before .before .before .before .before .before .before .read-samples .ensures) (omega (arith, c .before .before .before .before .before .before .before .before .before .before .area-of .ensures .0, c .before .before .before .before .before .before .before .before .before .before .before .before .before .pre .0 .samples-few))
 
 array-borrow-prefix-work : tie.Need-array-borrow-prefix-work
 array-borrow-prefix-work c = search needs
 
 slice-aggregate-tell-3 : tie.Need-slice-aggregate-tell-3
-slice-aggregate-tell-3 c = zeros-long _ 8192 0 (c .before .before .before .before .before .before .before .blank-plane .ensures) (omega (arith, c .before .before .before .before .before .before .before .before .before .before .before .before .before .area-of .ensures .0, c .before .before .before .before .before .before .before .before .before .before .before .before .before .before .before .before .pre .0 .samples-few))
+slice-aggregate-tell-3 c = zeros-long _ 8192 0 (c .before .before .before .before .before .before .before .blank-plane .ensures) (omega (arith, c .before .before .before .before .before .before .before .before .before .before .before .area-of .ensures .0, c .before .before .before .before .before .before .before .before .before .before .before .before .before .before .pre .0 .samples-few))
 
 array-borrow-prefix-residuals : tie.Need-array-borrow-prefix-residuals
-array-borrow-prefix-residuals c = omega (arith, c .before .before .before .before .before .before .before .before .before .before .before .before .before .area-of .ensures .0, c .before .before .before .before .before .before .before .before .before .before .before .before .before .before .before .before .pre .0 .samples-few)
+array-borrow-prefix-residuals c = omega (arith, c .before .before .before .before .before .before .before .before .before .before .before .area-of .ensures .0, c .before .before .before .before .before .before .before .before .before .before .before .before .before .before .pre .0 .samples-few)
 
 slice-aggregate-tell-4 : tie.Need-slice-aggregate-tell-4
-slice-aggregate-tell-4 c = zeros-long _ 8192 (pos 0) (c .before .before .before .before .before .before .before .blank-residuals .ensures) (omega (arith, c .before .before .before .before .before .before .before .before .before .before .before .before .before .before .area-of .ensures .0, c .before .before .before .before .before .before .before .before .before .before .before .before .before .before .before .before .before .pre .0 .samples-few))
+slice-aggregate-tell-4 c = zeros-long _ 8192 (pos 0) (c .before .before .before .before .before .before .before .blank-residuals .ensures) (omega (arith, c .before .before .before .before .before .before .before .before .before .before .before .before .area-of .ensures .0, c .before .before .before .before .before .before .before .before .before .before .before .before .before .before .before .pre .0 .samples-few))
 
 array-borrow-prefix-plane : tie.Need-array-borrow-prefix-plane
-array-borrow-prefix-plane c = omega (arith, c .before .before .before .before .before .before .before .before .before .before .before .before .before .before .area-of .ensures .0, c .before .before .before .before .before .before .before .before .before .before .before .before .before .before .before .before .before .pre .0 .samples-few)
+array-borrow-prefix-plane c = omega (arith, c .before .before .before .before .before .before .before .before .before .before .before .before .area-of .ensures .0, c .before .before .before .before .before .before .before .before .before .before .before .before .before .before .before .pre .0 .samples-few)
 
 slice-aggregate-tell-5 : tie.Need-slice-aggregate-tell-5
-slice-aggregate-tell-5 c = zeros-long _ 8192 0 (c .before .before .before .before .before .before .before .blank-plane2 .ensures) (omega (arith, c .before .before .before .before .before .before .before .before .before .before .before .before .before .before .before .area-of .ensures .0, c .before .before .before .before .before .before .before .before .before .before .before .before .before .before .before .before .before .before .pre .0 .samples-few))
+slice-aggregate-tell-5 c = zeros-long _ 8192 0 (c .before .before .before .before .before .before .before .blank-plane2 .ensures) (omega (arith, c .before .before .before .before .before .before .before .before .before .before .before .before .before .area-of .ensures .0, c .before .before .before .before .before .before .before .before .before .before .before .before .before .before .before .before .pre .0 .samples-few))
 
 tell-requires : tie.Need-tell-requires
 tell-requires c κs =
-    blank-part _ _ _ _ _ _ _ _ (c .before .before .before .before .before .before .before .before .before .before .before .before .before .before .before .before .before .before .pre .0) (c .before .before .before .before .before .still-of .ensures) (c .before .before .before .before .before .before .before .before .before .before .before .before .before .before .before .area-of .ensures .0) (sym (fill-long _ _ 512 (replicate 4 0) (c .before .before .before .before .before .before .before .before .before .before .read-plan .ensures) (c .before .before .before .before .before .before .before .before .before .before .before .before .before .before .before .before .before .before .pre .0 .blocks-few))) (c .before .before .before .before .before .before .before .before .before .before .before .before .before .before .before .before .before .before .pre .1) (c .before .before .before .before .before .before .before .before .before .blank-plane .ensures) (c .before .before .before .before .before .before .before .before .blank-residuals .ensures) (c .before .before .before .before .before .before .before .blank-plane2 .ensures)
+    blank-part _ _ _ _ _ _ _ _ (c .before .before .before .before .before .before .before .before .before .before .before .before .before .before .before .before .pre .0) (c .before .before .before .before .before .still-of .ensures) (c .before .before .before .before .before .before .before .before .before .before .before .before .before .area-of .ensures .0) (sym (fill-long _ _ 512 (replicate 4 0) (c .before .before .before .before .before .before .before .before .before .before .read-plan .ensures) (c .before .before .before .before .before .before .before .before .before .before .before .before .before .before .before .before .pre .0 .blocks-few))) (c .before .before .before .before .before .before .before .before .before .before .before .before .before .before .before .before .pre .1) (c .before .before .before .before .before .before .before .before .before .blank-plane .ensures) (c .before .before .before .before .before .before .before .before .blank-residuals .ensures) (c .before .before .before .before .before .before .before .blank-plane2 .ensures)
 
 same-length : tie.Need-same-length
 same-length c = search needs
 
 returns : tie.Need-returns
 returns c =
-    said _ 65536 (c .before .before .before .before .before .tell .ensures) (ap told (job-is _ (c .before .before .before .before .before .before .before .before .before .before .before .before .before .before .before .before .before .before .before .before .before .before .before .before .args .t) _ _ _ _ (c .before .before .before .before .before .before .before .before .before .before .before .before .before .before .before .before .before .before .before .before .before .before .before .before .pre .0) (c .before .before .before .before .before .before .before .before .before .before .before .still-of .ensures) (c .before .before .before .before .before .before .before .before .before .before .before .before .before .before .before .before .before .before .before .before .before .area-of .ensures .0) (c .before .before .before .before .before .before .before .before .before .before .before .before .before .before .before .before .read-plan .ensures) (c .before .before .before .before .before .before .before .before .before .before .before .before .before .before .before .before .before .before .read-samples .ensures))) (omega arith)
+    said _ 65536 (c .before .before .before .before .before .tell .ensures) (ap told (job-is _ (c .before .before .before .before .before .before .before .before .before .before .before .before .before .before .before .before .before .before .before .before .before .before .args .t) _ _ _ _ (c .before .before .before .before .before .before .before .before .before .before .before .before .before .before .before .before .before .before .before .before .before .before .pre .0) (c .before .before .before .before .before .before .before .before .before .before .before .still-of .ensures) (c .before .before .before .before .before .before .before .before .before .before .before .before .before .before .before .before .before .before .before .area-of .ensures .0) (c .before .before .before .before .before .before .before .before .before .before .before .before .before .before .before .before .read-plan .ensures) (c .before .before .before .before .before .before .before .before .before .before .before .before .before .before .before .before .before .read-samples .ensures))) (omega arith)
 
 pub tell-file-spec : {M : Type 1} → statement M
 tell-file-spec =
@@ -87,9 +81,7 @@ tell-file-spec =
     (tie.spec
     area-of-requires
     cast-blocks
-    cast-read-samples
     read-samples-requires
-    cast-read-plan
     read-plan-requires
     blank-plane-requires
     blank-residuals-requires

@@ -1,13 +1,13 @@
--- `report::file_ok` meets its contract. Each way out has what its tests told.
+-- `file::file_ok` meets its contract. Each way out has what its tests told.
 use lib.ListN.{length}
 use Prim.Native.Nat.{_-_}
 use mathlib.Core.Path.{ap, _∙_}
 use borrow.Author.Tests.{le-leb, lt-leb}
-use Rattle.report.specs.declared.Trailer.{Trailer}
-use Rattle.report.specs.File.{fileOk, regionsOk}
+use Rattle.file.specs.declared.Trailer.{Trailer}
+use Rattle.file.specs.File.{fileOk, regionsOk}
 use borrow.Author.Needs.{needs}
-use Rattle.report.proofs.file_ok.Statement.{statement}
-use Rattle.report.proofs.file_ok.Tie as tie
+use Rattle.file.proofs.file_ok.Statement.{statement}
+use Rattle.file.proofs.file_ok.Tie as tie
 
 returns : tie.Need-returns
 unfolding fileOk

@@ -1,8 +1,8 @@
--- `report::four_at` meets its contract: two halves make the whole.
-use Rattle.report.specs.Laws.{le-four}
+-- `file::four_at` meets its contract: two halves make the whole.
+use Rattle.file.specs.Laws.{le-four}
 use borrow.Author.Needs.{needs}
-use Rattle.report.proofs.four_at.Statement.{statement}
-use Rattle.report.proofs.four_at.Tie as tie
+use Rattle.file.proofs.four_at.Statement.{statement}
+use Rattle.file.proofs.four_at.Tie as tie
 
 two-at-requires : tie.Need-two-at-requires
 two-at-requires c κs = search needs

@@ -1,10 +1,10 @@
--- `report::area_of` meets its contract: two sides of 16 bits.
+-- `file::area_of` meets its contract: two sides of 16 bits.
 use native.Mathlib.Omega.{arith}
 use mathlib.Core.Path.{refl}
-use Rattle.report.specs.Laws.{sides-small}
+use Rattle.file.specs.Laws.{sides-small}
 use borrow.Author.Needs.{needs}
-use Rattle.report.proofs.area_of.Statement.{statement}
-use Rattle.report.proofs.area_of.Tie as tie
+use Rattle.file.proofs.area_of.Statement.{statement}
+use Rattle.file.proofs.area_of.Tie as tie
 
 cast-result : tie.Need-cast-result
 cast-result c = search needs

@@ -1,7 +1,7 @@
--- `report::regions_ok` meets its contract.
+-- `file::regions_ok` meets its contract.
 use borrow.Author.Needs.{needs}
-use Rattle.report.proofs.regions_ok.Statement.{statement}
-use Rattle.report.proofs.regions_ok.Tie as tie
+use Rattle.file.proofs.regions_ok.Statement.{statement}
+use Rattle.file.proofs.regions_ok.Tie as tie
 
 area-of-requires : tie.Need-area-of-requires
 area-of-requires c κs = search needs

@@ -1,4 +1,4 @@
--- Document 01, 'The program': the input's trailer, its two regions and number 12, and the still, the source and the plan in it. Assumes nothing.
+-- Document 01, 'The program': the input's trailer, its two regions and number 12, and the source and the plan in it. Assumes nothing.
 use Prim.Native.Nat.{ℕ, _+_, _-_, _*_}
 use mathlib.Core.Bool.{Bool, _&&_}
 use mathlib.Core.List.{List, [], _∷_}
@@ -6,8 +6,7 @@ use lib.Dec.{leb}
 use lib.ListN.{length, getD, replicate}
 use Rattle.laws.specs.Fill.{fill}
 use Rattle.laws.specs.Bytes.{leAt}
-use Rattle.walk.specs.declared.Still.{Still}
-use Rattle.report.specs.declared.Trailer.{Trailer}
+use Rattle.file.specs.declared.Trailer.{Trailer}
 
 -- the last 16 bytes, little-endian
 abbrev pub trailerOf : List ℕ → Trailer
@@ -38,9 +37,6 @@ fileOk b = leb 16 (length b) && leb (length b) 65536 && regionsOk (trailerOf b) 
 -- the list f 0, f 1, .., f (k - 1), whose entries are like z
 abbrev pub listed : {A : Type 0} → (ℕ → A) → ℕ → A → List A
 listed f k z = fill f k (replicate k z)
-
-abbrev pub stillOf : Trailer → Still
-stillOf t = record { bits = t .bits; frame = record { width = t .width; height = t .height; ctu = t .ctu } }
 
 -- samples of two bytes
 abbrev pub sourceOf : List ℕ → Trailer → List ℕ
