@@ -6,7 +6,7 @@ use lib.Dec.{leb}
 use lib.ListN.{length, getD, replicate}
 use Rattle.laws.specs.Fill.{fill}
 use Rattle.laws.specs.Bytes.{leAt}
-use Rattle.walk.specs.declared.Still.{Still}
+use Rattle.still.specs.declared.Still.{Still}
 use Rattle.report.specs.declared.Trailer.{Trailer}
 
 -- the last 16 bytes, little-endian
