@@ -1,6 +1,6 @@
 -- Document 01, 'use from C': what a call of the replay on bytes refuses, gives and leaves behind, by the plan, the samples and the residuals
 -- that the bytes spell. Assumes nothing.
-use Prim.Native.Nat.{ℕ, _+_, _*_}
+use Prim.Native.Nat.{ℕ, _*_}
 use mathlib.Core.Bool.{Bool, cond, _&&_}
 use mathlib.Core.List.{List, [], _∷_}
 use lib.Dec.{leb, eqb}
@@ -11,13 +11,14 @@ use Rattle.bytes.specs.Bytes.{samplesOf, bytesOf, residualsOf, pairInto}
 use Rattle.domain.specs.Domain.{depthOk}
 use Rattle.order.specs.Order.{pictureOk}
 use Rattle.plan.specs.declared.Verdict.{Verdict}
-use Rattle.plan.specs.Plan.{pictureOf, Plan}
+use Rattle.plan.specs.Plan.{pictureOf}
 use Rattle.plan.specs.Records.{recordsOf, wholeRecords}
-use Rattle.walk.specs.declared.Still.{Still}
+use Rattle.still.specs.declared.Still.{Still}
+use Rattle.still.specs.Checks.{every, residualOk}
+use Rattle.block.specs.Block.{replayUnit}
 use Rattle.walk.specs.declared.Progress.{Progress}
 use Rattle.walk.specs.declared.Stepped.{Stepped}
-use Rattle.walk.specs.Block.{replayUnit}
-use Rattle.walk.specs.Door.{every, residualOk, doing, verdictOf, steppedBy}
+use Rattle.walk.specs.Door.{doing, verdictOf, steppedBy}
 
 -- what a call is lent: the plan's and the residuals' bytes, and how many the plane and the result buffer have
 pub record Lent : Type 0 where

@@ -7,7 +7,12 @@ use native.Mathlib.Omega.{arith}
 use lib.Dec.{leb, eqb}
 use lib.ListN.{length, set}
 use borrow.Author.Tests.{eqb-true, eqb-false, eq-eqb, ne-eqb, le-leb, lt-leb}
-use Rattle.laws.specs.Choose.{if-yes, if-no, passed, both-true, worked, unserved}
+use Rattle.laws.specs.Choose.{served, if-yes, if-no, passed, both-true, worked, unserved}
+use Rattle.laws.specs.Fill.{block}
+use Rattle.h265.specs.Setting.{lumaAt, first}
+use Rattle.h265.specs.Prediction.{predSamples}
+use Rattle.rows.specs.Neighbours.{neighboursOf}
+use Rattle.plan.specs.declared.Block.{Block}
 use Rattle.laws.specs.Chain.{units}
 use Rattle.bytes.specs.Bytes.{byte1, byte2, byte3, samplesOf, bytesOf, residualsOf}
 use Rattle.bytes.specs.Laws.{AreBytes, length-samples, length-residuals, bytes-back, pair-stored}
@@ -18,21 +23,29 @@ use Rattle.plan.specs.declared.Verdict.{Verdict}
 use Rattle.plan.specs.Plan.{pictureOf}
 use Rattle.plan.specs.Check.{planVerdict}
 use Rattle.plan.specs.Records.{recordsOf, wholeRecords, bytesVerdict}
-use Rattle.walk.specs.declared.Still.{Still}
+use Rattle.refs.specs.declared.Gathered.{Gathered}
+use Rattle.refs.specs.Door.{lumaDoor}
+use Rattle.predict.specs.Door.{predictNo}
+use Rattle.still.specs.declared.Still.{Still}
+use Rattle.still.specs.Checks.{every, Tables, residualOk, callNo, replayFits, settle}
+use Rattle.block.specs.Block.{replayUnit}
+use Rattle.block.specs.Bridge.{geoOf, geo-fine}
+use Rattle.block.specs.Ready.{Ready, Predicted}
+use Rattle.block.specs.Laws.{predicts, predicted-is, holds-it}
 use Rattle.walk.specs.declared.Progress.{Progress}
 use Rattle.walk.specs.declared.Stepped.{Stepped}
-use Rattle.walk.specs.Block.{replayUnit}
-use Rattle.walk.specs.Door.{every, Tables, roomy, residualOk, doing, verdictOf, replayVerdict}
-use Rattle.walk.specs.Ready.{Small, Sound}
-use Rattle.walk.specs.Laws.{callNo, replayFits, replay-sound, verdict-zero, refused-is, stepped-is}
-use Rattle.byte_replay.specs.Door.{Lent, bytesFit, byteVerdict, byteStep, planeAfter, answered, resultAfter, After, replayed}
+use Rattle.walk.specs.Door.{doing, verdictOf, replayVerdict}
+use Rattle.walk.specs.Ready.{Sound}
+use Rattle.walk.specs.Laws.{replay-sound, verdict-zero, refused-is, stepped-is}
+use Rattle.walk.specs.Listed.{settle-is}
+use Rattle.byte_replay.specs.Door.{Lent, bytesFit, byteVerdict, planeAfter, answered, resultAfter, replayed}
 
 -- the tables that a call makes for itself
 abbrev pub own : Tables
 own = record { refs = 193; indices = 32; fractions = 32 }
 
 -- a plan's verdict, where its bytes are whole records
-pub whole-verdict : (f : Frame) (b : List ℕ) → wholeRecords b ≡ true → bytesVerdict f b ≡ planVerdict f (recordsOf b)
+whole-verdict : (f : Frame) (b : List ℕ) → wholeRecords b ≡ true → bytesVerdict f b ≡ planVerdict f (recordsOf b)
 unfolding bytesVerdict planVerdict
 whole-verdict f b e = rw e
 
@@ -84,7 +97,7 @@ module _ (s : Still) (p : Progress) (l : Lent) where
       ap (λ (t : Bool). verdictOf s (recordsOf (l .plan)) p (callNo s t 8 (every residualOk (residualsOf (l .residuals))))) both
 
   -- the verdict, from the number of the checks before the plan's
-  pub verdict-from : (v : Verdict) (early : ℕ) → early ≡ byteNo s l → v ≡ verdictOf s (recordsOf (l .plan)) p early → v ≡ byteVerdict s p l
+  verdict-from : (v : Verdict) (early : ℕ) → early ≡ byteNo s l → v ≡ verdictOf s (recordsOf (l .plan)) p early → v ≡ byteVerdict s p l
   unfolding byteVerdict
   verdict-from v early e q = q ∙ ap (verdictOf s (recordsOf (l .plan)) p) e
 
@@ -98,26 +111,43 @@ module _ (s : Still) (p : Progress) (l : Lent) where
       passed (bytesFit s l) _ 5 (omega arith) (b .1) .0
 
   pub served-sound : byteVerdict s p l .no ≡ 0
-      → Sound s (recordsOf (l .plan)) (l .plane / 2) (length (residualsOf (l .residuals))) own × (Small (residualsOf (l .residuals)) × (p .done ≤ length (l .plan) / 6))
+      → Sound s (recordsOf (l .plan)) (l .plane / 2) (length (residualsOf (l .residuals))) own × (p .done ≤ length (l .plan) / 6)
   served-sound z =
       replay-sound s (recordsOf (l .plan)) own p (l .plane / 2) (residualsOf (l .residuals)) (ap (λ (v : Verdict). v .no) (sym (verdict-alike (served-fits z))) ∙ z)
 
 -- a plane of so many bytes: what its samples ask for
 pub serves : (s : Still) (p : Progress) (plan residuals plane : List ℕ) (result : ℕ)
     → byteVerdict s p (record { plan = plan; residuals = residuals; plane = length plane; result = result }) .no ≡ 0
-    → Sound s (recordsOf plan) (length (samplesOf plane)) (length (residualsOf residuals)) own × (Small (residualsOf residuals) × ((p .done ≤ length plan / 6) × (length plane % 2 ≡ 0)))
+    → Sound s (recordsOf plan) (length (samplesOf plane)) (length (residualsOf residuals)) own × ((p .done ≤ length plan / 6) × (length plane % 2 ≡ 0))
 serves s p plan residuals plane result z =
     let l : Lent = record { plan = plan; residuals = residuals; plane = length plane; result = result } in
     let q = served-sound s p l z in
     let f = fitting s l (served-fits s p l z) in
-    (subst (λ (k : ℕ). Sound s (recordsOf plan) k (length (residualsOf residuals)) own) (sym (length-samples plane)) (q .0), (q .1 .0, (q .1 .1, omega (arith, f .plane))))
+    (subst (λ (k : ℕ). Sound s (recordsOf plan) k (length (residualsOf residuals)) own) (sym (length-samples plane)) (q .0), (q .1, omega (arith, f .plane)))
 
 -- number 0 of 1, 4, 5, 8: the picture is good, and the plan is whole records
-pub early-good : (s : Still) (l : Lent) → byteNo s l ≡ 0 → (pictureOk (pictureOf (s .frame)) ≡ true) × (wholeRecords (l .plan) ≡ true)
+early-good : (s : Still) (l : Lent) → byteNo s l ≡ 0 → (pictureOk (pictureOf (s .frame)) ≡ true) × (wholeRecords (l .plan) ≡ true)
 early-good s l z =
     let a = passed (depthOk (s .bits)) _ 1 (omega arith) z in
     let b = passed (pictureOk (pictureOf (s .frame))) _ 4 (omega arith) (a .1) in
     (b .0, fitting s l (passed (bytesFit s l) _ 5 (omega arith) (b .1) .0) .records)
+
+-- the verdict, from the plan's on its bytes
+pub settled-bytes : (s : Still) (p : Progress) (l : Lent) (found v : Verdict) (early : ℕ) → early ≡ byteNo s l → found ≡ bytesVerdict (s .frame) (l .plan)
+    → v ≡ settle found (length (l .plan) / 6) (p .done) early → v ≡ byteVerdict s p l
+settled-bytes s p l found v early e f q =
+    let good : early ≡ 0 → (pictureOk (pictureOf (s .frame)) ≡ true) × (wholeRecords (l .plan) ≡ true) = λ z. early-good s l (sym e ∙ z) in
+    verdict-from s p l v early e (q ∙ settle-is s (recordsOf (l .plan)) p early found (λ z. f ∙ whole-verdict (s .frame) (l .plan) (good z .1)) (λ z. good z .0))
+
+-- a block that is ready is predicted
+pub predicted-there : (s : Still) (b : Block) (plane : List ℕ) (t : Tables) → Ready s b (length plane) t → (k : ℕ) (g : Gathered) (d out : List ℕ) → b .side * b .side ≤ length d → g ≡ lumaDoor plane (geoOf s b)
+    → k ≡ predictNo (s .bits) (b .side) (b .mode) (record { above = 65; left = 65; pred = length d; refs = t .refs; indices = t .indices; fractions = t .fractions })
+    → out ≡ served k (block (λ (y x : ℕ). predSamples (lumaAt (s .bits)) (first true) (b .side) (b .mode) (neighboursOf (g .rows)) x y) (b .side) d) d
+    → Predicted s b plane out
+unfolding lumaDoor
+predicted-there s b plane t h k g d out room e n o =
+    let z = ap (λ (x : Gathered). x .no) e ∙ geo-fine s b (h .picture) (h .placed) (h .depth) plane (h .plane-len) in
+    holds-it s b plane d out k room (n ∙ predicts s b plane t h (length d) room) (predicted-is s b plane t h k g d out room e z o)
 
 -- four stores of a number, and two numbers that answer a call
 abbrev pub wordAt : List ℕ → ℕ → ℕ → List ℕ

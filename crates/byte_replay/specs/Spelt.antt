@@ -1,8 +1,8 @@
 -- What the replay on bytes leaves spells what the replay of the spelt samples leaves. Rests on the verdict's being the same, and on samples of 16 bits.
 use mathlib.Core.Path.{_≡_, refl, sym, ap, ap₂, _∙_}
-use mathlib.Core.Bool.{Bool, true}
+use mathlib.Core.Bool.{true}
 use mathlib.Core.List.{List, [], _∷_}
-use Prim.Native.Nat.{ℕ, zero, suc, _+_, _-_, _*_, _/_, _%_, _^_, _≤_, _<_}
+use Prim.Native.Nat.{ℕ, zero, suc, _+_, _-_, _*_, _/_, _^_, _<_}
 use native.Mathlib.Omega.{arith}
 use native.Mathlib.Decide.{ℕ-discrete}
 use lib.ListN.{length, getD, set}
@@ -10,7 +10,7 @@ use lib.IntN.{ℤ, pos, _+ℤ_}
 use Rattle.laws.specs.Fill.{run}
 use Rattle.laws.specs.Paint.{paint}
 use Rattle.laws.specs.Chain.{units}
-use Rattle.laws.specs.Choose.{served, worked, unserved}
+use Rattle.laws.specs.Choose.{worked, unserved}
 use Rattle.bytes.specs.Bytes.{samplesOf, bytesOf, residualsOf}
 use Rattle.bytes.specs.Laws.{AreBytes, length-samples, length-bytes, two-bytes}
 use Rattle.domain.specs.Facts.{Depth, at-depth}
@@ -19,11 +19,12 @@ use Rattle.plan.specs.declared.Block.{Block}
 use Rattle.plan.specs.declared.Verdict.{Verdict}
 use Rattle.plan.specs.Plan.{place}
 use Rattle.plan.specs.Records.{recordsOf}
-use Rattle.walk.specs.declared.Still.{Still}
+use Rattle.still.specs.declared.Still.{Still}
+use Rattle.still.specs.Checks.{largestOf}
+use Rattle.block.specs.Block.{predictedAt, rebuilt, replayUnit}
+use Rattle.block.specs.Laws.{rebuilt-length}
 use Rattle.walk.specs.declared.Progress.{Progress}
-use Rattle.walk.specs.Block.{largestOf, predictedAt, rebuilt, replayUnit}
 use Rattle.walk.specs.Door.{doing, replayVerdict, replayAfter}
-use Rattle.walk.specs.Picture.{rebuild-ok}
 use Rattle.byte_replay.specs.Door.{Lent, bytesFit, byteVerdict, planeAfter}
 use Rattle.byte_replay.specs.Laws.{own, fitting, verdict-alike, served-sound}
 
@@ -84,7 +85,7 @@ module _ (s : Still) (depth : Depth (s .bits)) (plan : ℕ → Block) (v : List 
   length-units : (i k : ℕ) (w : List ℕ) → length (units (replayUnit s plan v) i k w) ≡ length w
   unfolding units
   length-units i zero w = refl
-  length-units i (suc k) w = length-units (suc i) k (replayUnit s plan v i w) ∙ rebuild-ok s plan i v w
+  length-units i (suc k) w = length-units (suc i) k (replayUnit s plan v i w) ∙ rebuilt-length s (plan i) (place plan i) v w
 
 -- a call on a plane of bytes that all fit
 module _ (s : Still) (p : Progress) (l : Lent) (grant : ℕ) (plane : List ℕ) (same : l .plane ≡ length plane) (fit : bytesFit s l ≡ true) (bytes : AreBytes plane) where

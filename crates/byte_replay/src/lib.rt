@@ -1,28 +1,28 @@
 // The replay of a luma still on lent bytes: plane, residuals and plan as the C firmware has them (document 01, 'use from C').
-// It works in place and copies no plane. Rests on the contracts of the byte gather, of the prediction and of the plan check alone.
+// It works in place and copies no plane. Rests on the contracts of the byte gather, of the prediction, of a still's checks and of the plan check alone.
 ghost use mathlib.Core.Path.{_≡_};
-ghost use mathlib.Core.Bool.{true, _&&_};
-ghost use mathlib.Core.List.{[], _∷_};
-ghost use Prim.Native.Nat.{ℕ, min, _+_, _-_, _*_, _/_, _%_, _^_, _≤_, _<_};
+ghost use mathlib.Core.Bool.{cond, _&&_};
+ghost use Prim.Native.Nat.{ℕ, _+_, _-_, _*_, _/_, _%_, _≤_, _<_};
+ghost use lib.Dec.{leb};
 ghost use lib.ListN.{length, getD, set};
-ghost use lib.IntN.{pos, natAbs, _+ℤ_};
+ghost use lib.IntN.{pos, _+ℤ_};
 ghost use Rattle.laws.specs.Fill.{run};
 ghost use Rattle.laws.specs.Paint.{paint};
 ghost use Rattle.laws.specs.Chain.{units};
 ghost use Rattle.h265.specs.Notation.{clipTo};
-ghost use Rattle.domain.specs.Facts.{Depth};
 ghost use Rattle.bytes.specs.Bytes.{samplesOf, residualsOf};
-ghost use Rattle.plan.specs.Plan.{place};
 ghost use Rattle.plan.specs.Records.{recordsOf};
-ghost use Rattle.walk.specs.Block.{rebuilt, replayUnit};
-ghost use Rattle.walk.specs.Door.{every, residualOk, doing};
-ghost use Rattle.walk.specs.Ready.{Small, RowIn, RowsIn, Ready, Lies, Predicted, Sound};
+ghost use Rattle.still.specs.Checks.{every, residualOk};
+ghost use Rattle.block.specs.Block.{rebuilt, replayUnit};
+ghost use Rattle.block.specs.Ready.{RowIn, RowsIn, Ready, Lies, Predicted};
+ghost use Rattle.walk.specs.Door.{doing};
+ghost use Rattle.walk.specs.Ready.{Sound};
 ghost use Rattle.byte_replay.specs.Door.{wholeBy, byteVerdict, answered, replayed};
 ghost use Rattle.byte_replay.specs.Laws.{own, wordAt, byteNo};
 use plan::Block;
 use plan::Verdict;
+use still::Still;
 use walk::Progress;
-use walk::Still;
 
 // Residual i.
 fn residual_at(b: &[u8], i: usize) -> i32
@@ -43,26 +43,6 @@ fn put_sample(b: &mut [u8], i: usize, v: u16)
     b[at + 1] = bytes::byte_1(v as u32);
 }
 
-// The largest sample.
-fn largest_of(bits: u32) -> u16
-    requires { ⌜ Depth bits ⌝ }
-    ensures { λ r. ⌜ r ≡ 2 ^ bits - 1 ⌝ }
-{
-    match bits {
-        8 => 255,
-        10 => 1023,
-        _ => 4095,
-    }
-}
-
-// Prediction plus residual, clamped.
-fn restored(p: u16, r: i32, largest: u16) -> u16
-    requires { ⌜ natAbs r ≤ 65535 ⌝ }
-    ensures { λ s. ⌜ s ≡ clipTo largest (pos p +ℤ r) ⌝ }
-{
-    helpers::clamp((p as i32) + r, largest)
-}
-
 // A row of n samples from base on, its predictions from `from` on, its residuals from `at` on.
 fn rebuild_row(
     plane: &mut [u8],
@@ -74,13 +54,13 @@ fn rebuild_row(
     at: usize,
     largest: u16,
 )
-    requires { ⌜ RowIn (length (samplesOf (now plane))) (length (now pred)) (length (residualsOf (now residuals))) n base from at × (Small (residualsOf (now residuals)) × (length (now plane) % 2 ≡ 0)) ⌝ }
+    requires { ⌜ RowIn (length (samplesOf (now plane))) (length (now pred)) (length (residualsOf (now residuals))) n base from at × (length (now plane) % 2 ≡ 0) ⌝ }
     ensures { λ _. ⌜ samplesOf (now (plane .exit)) ≡ run (λ (c : ℕ). clipTo largest (pos (getD (now (pred .entry)) (from + c) 0) +ℤ getD (residualsOf (now (residuals .entry))) (at + c) (pos 0))) base n (samplesOf (now (plane .entry))) ⌝ }
 {
     let mut c = 0;
     while c < n {
         let r = residual_at(residuals, at + c);
-        put_sample(plane, base + c, restored(pred[from + c], r, largest));
+        put_sample(plane, base + c, block::restored(pred[from + c], r, largest));
         c += 1;
     }
 }
@@ -96,7 +76,7 @@ fn rebuild_rows(
     at: usize,
     largest: u16,
 )
-    requires { ⌜ RowsIn (length (samplesOf (now plane))) (length (now pred)) (length (residualsOf (now residuals))) n base width at × (Small (residualsOf (now residuals)) × (length (now plane) % 2 ≡ 0)) ⌝ }
+    requires { ⌜ RowsIn (length (samplesOf (now plane))) (length (now pred)) (length (residualsOf (now residuals))) n base width at × (length (now plane) % 2 ≡ 0) ⌝ }
     ensures { λ _. ⌜ samplesOf (now (plane .exit)) ≡ paint base width n (λ (r c : ℕ). clipTo largest (pos (getD (now (pred .entry)) (r * n + c) 0) +ℤ getD (residualsOf (now (residuals .entry))) (at + r * n + c) (pos 0))) n (samplesOf (now (plane .entry))) ⌝ }
 {
     let mut r = 0;
@@ -123,7 +103,7 @@ fn residuals_ok(residuals: &[u8]) -> bool
     let mut ok = true;
     let mut i = 0;
     while i < count {
-        ok = ok & walk::residual_ok(residual_at(residuals, i));
+        ok = ok & still::residual_ok(residual_at(residuals, i));
         i += 1;
     }
     ok
@@ -143,7 +123,7 @@ fn early_no(s: Still, plan: &[u8], residuals: &[u8], plane: usize, result: usize
     ensures { λ r. ⌜ r ≡ byteNo s (record { plan = now (plan .entry); residuals = now (residuals .entry); plane = plane; result = result }) ⌝ }
 {
     let planes = are_whole(s, plane, residuals.len());
-    let no = walk::opening_no(s, planes & (plan.len() % 6 == 0) & (result >= 8));
+    let no = still::opening_no(s, planes & (plan.len() % 6 == 0) & (result >= 8));
     if no != 0 {
         return no;
     }
@@ -162,35 +142,8 @@ fn verdict(
     ensures { λ v. ⌜ v ≡ byteVerdict s p (record { plan = now (plan .entry); residuals = now (residuals .entry); plane = plane; result = result }) ⌝ }
 {
     let early = early_no(s, plan, residuals, plane, result);
-    if early != 0 {
-        return Verdict {
-            no: early,
-            block: 0,
-        };
-    }
-    let v = plan::check_plan_bytes(s.frame, plan);
-    if v.no != 0 {
-        return v;
-    }
-    if (p.done as usize) <= plan.len() / 6 {
-        return Verdict { no: 0, block: 0 };
-    }
-    Verdict { no: 11, block: 0 }
-}
-
-// Where the residuals of block k begin.
-fn place_of(plan: &[u8], k: usize) -> usize
-    requires { ⌜ place (recordsOf (now plan) .block) k ≤ 16777216 ⌝ }
-    ensures { λ r. ⌜ r ≡ place (recordsOf (now (plan .entry)) .block) k ⌝ }
-{
-    let mut at: usize = 0;
-    let mut i: usize = 0;
-    while i < k {
-        let n = plan::record_at(plan, i).side as usize;
-        at += n * n;
-        i += 1;
-    }
-    at
+    let found = plan::check_plan_bytes(s.frame, plan);
+    still::settled(p.done, plan.len() / 6, found, early)
 }
 
 // Stores a number of four bytes.
@@ -214,39 +167,30 @@ fn answer(result: &mut [u8], block: u32, next: Progress)
     }
 }
 
-// The lesser of the grant and what remains.
-fn doing_of(count: usize, done: u32, grant: u32) -> u32
-    requires { ⌜ (count ≤ 16777216) × (done ≤ count) ⌝ }
-    ensures { λ r. ⌜ r ≡ min grant (count - done) ⌝ }
-{
-    helpers::min(grant, (count as u32) - done)
-}
-
 // A block's prediction from a plane, in rows.
 fn predict_block(
     s: Still,
     b: Block,
     plane: &[u8],
+    pred: &mut [u16],
     refs: &mut [u16],
     indices: &mut [u32],
     fractions: &mut [u32],
-) -> [u16; 1024]
-    requires { ⌜ Ready s b (length (samplesOf (now plane))) (record { refs = length (now refs); indices = length (now indices); fractions = length (now fractions) }) × (length (now plane) % 2 ≡ 0) ⌝ }
-    ensures { λ p. ⌜ Predicted s b (samplesOf (now (plane .entry))) p ⌝ }
+)
+    requires { ⌜ Ready s b (length (samplesOf (now plane))) (record { refs = length (now refs); indices = length (now indices); fractions = length (now fractions) }) × ((length (now plane) % 2 ≡ 0) × (1024 ≤ length (now pred))) ⌝ }
+    ensures { λ _. ⌜ Predicted s b (samplesOf (now (plane .entry))) (now (pred .exit)) ⌝ }
 {
-    let mut pred = [0u16; 1024];
-    let g = refs::get_reference_samples_bytes(plane, walk::geometry(s, b));
+    let g = refs::get_reference_samples_bytes(plane, block::geometry(s, b));
     predict::predict_luma_tb_slices(
         b.mode as u8,
         g.rows,
         b.side as usize,
         s.bits,
-        &mut pred,
+        &mut *pred,
         &mut *refs,
         &mut *indices,
         &mut *fractions,
     );
-    pred
 }
 
 // A block of the replay.
@@ -260,26 +204,66 @@ fn rebuild_block(
     indices: &mut [u32],
     fractions: &mut [u32],
 )
-    requires { ⌜ Ready s b (length (samplesOf (now plane))) (record { refs = length (now refs); indices = length (now indices); fractions = length (now fractions) }) × (Lies s b (length (residualsOf (now residuals))) at × (Small (residualsOf (now residuals)) × (length (now plane) % 2 ≡ 0))) ⌝ }
+    requires { ⌜ Ready s b (length (samplesOf (now plane))) (record { refs = length (now refs); indices = length (now indices); fractions = length (now fractions) }) × (Lies b (length (residualsOf (now residuals))) at × (length (now plane) % 2 ≡ 0)) ⌝ }
     ensures { λ _. ⌜ samplesOf (now (plane .exit)) ≡ rebuilt s b at (residualsOf (now (residuals .entry))) (samplesOf (now (plane .entry))) ⌝ }
 {
-    let pred = predict_block(s, b, plane, &mut *refs, &mut *indices, &mut *fractions);
-    let n = b.side as usize;
-    let width = s.frame.width as usize;
-    let base = (b.row as usize) * width + (b.col as usize);
+    let mut pred = [0u16; 1024];
+    predict_block(
+        s,
+        b,
+        plane,
+        &mut pred,
+        &mut *refs,
+        &mut *indices,
+        &mut *fractions,
+    );
     rebuild_rows(
         &mut *plane,
         &pred,
         residuals,
-        n,
-        base,
-        width,
+        b.side as usize,
+        block::base_of(s, b),
+        s.frame.width as usize,
         at,
-        largest_of(s.bits),
+        still::largest_of(s.bits),
     );
 }
 
-// `did` blocks of a plan from block `from` on.
+// Block k, whose residuals begin at `at`: rebuilt unless it was done before. Gives the next block's place.
+fn replay_turn(
+    s: Still,
+    b: Block,
+    at: usize,
+    k: usize,
+    from: u32,
+    residuals: &[u8],
+    plane: &mut [u8],
+    refs: &mut [u16],
+    indices: &mut [u32],
+    fractions: &mut [u32],
+) -> usize
+    requires { ⌜ Ready s b (length (samplesOf (now plane))) (record { refs = length (now refs); indices = length (now indices); fractions = length (now fractions) }) × (Lies b (length (residualsOf (now residuals))) at × (length (now plane) % 2 ≡ 0)) ⌝ }
+    ensures { λ r. ⌜ (r ≡ at + b .side * b .side) × (samplesOf (now (plane .exit)) ≡ cond (leb from k) (rebuilt s b at (residualsOf (now (residuals .entry))) (samplesOf (now (plane .entry)))) (samplesOf (now (plane .entry)))) ⌝ }
+{
+    let n = b.side as usize;
+    let next = at + n * n;
+    if k < (from as usize) {
+        return next;
+    }
+    rebuild_block(
+        s,
+        b,
+        at,
+        residuals,
+        &mut *plane,
+        &mut *refs,
+        &mut *indices,
+        &mut *fractions,
+    );
+    next
+}
+
+// The records of a plan up to block `upto`: those from block `from` on are rebuilt.
 fn replay_blocks(
     s: Still,
     plan: &[u8],
@@ -288,29 +272,28 @@ fn replay_blocks(
     refs: &mut [u16],
     indices: &mut [u32],
     fractions: &mut [u32],
-    from: usize,
-    did: usize,
+    from: u32,
+    upto: usize,
 )
-    requires { ⌜ Sound s (recordsOf (now plan)) (length (samplesOf (now plane))) (length (residualsOf (now residuals))) (record { refs = length (now refs); indices = length (now indices); fractions = length (now fractions) }) × (Small (residualsOf (now residuals)) × ((from + did ≤ length (now plan) / 6) × (length (now plane) % 2 ≡ 0))) ⌝ }
-    ensures { λ _. ⌜ samplesOf (now (plane .exit)) ≡ units (replayUnit s (recordsOf (now (plan .entry)) .block) (residualsOf (now (residuals .entry)))) from did (samplesOf (now (plane .entry))) ⌝ }
+    requires { ⌜ Sound s (recordsOf (now plan)) (length (samplesOf (now plane))) (length (residualsOf (now residuals))) (record { refs = length (now refs); indices = length (now indices); fractions = length (now fractions) }) × ((upto ≤ length (now plan) / 6) × (length (now plane) % 2 ≡ 0)) ⌝ }
+    ensures { λ _. ⌜ samplesOf (now (plane .exit)) ≡ units (replayUnit s (recordsOf (now (plan .entry)) .block) (residualsOf (now (residuals .entry)))) from (upto - from) (samplesOf (now (plane .entry))) ⌝ }
 {
-    let upto = from + did;
-    let mut at = place_of(plan, from);
-    let mut k = from;
+    let mut at: usize = 0;
+    let mut k: usize = 0;
     while k < upto {
         let b = plan::record_at(plan, k);
-        rebuild_block(
+        at = replay_turn(
             s,
             b,
             at,
+            k,
+            from,
             residuals,
             &mut *plane,
             &mut *refs,
             &mut *indices,
             &mut *fractions,
         );
-        let n = b.side as usize;
-        at += n * n;
         k += 1;
     }
 }
@@ -324,13 +307,13 @@ fn serve(
     plane: &mut [u8],
     grant: u32,
 ) -> Progress
-    requires { ⌜ Sound s (recordsOf (now plan)) (length (samplesOf (now plane))) (length (residualsOf (now residuals))) own × (Small (residualsOf (now residuals)) × ((p .done ≤ length (now plan) / 6) × (length (now plane) % 2 ≡ 0))) ⌝ }
+    requires { ⌜ Sound s (recordsOf (now plan)) (length (samplesOf (now plane))) (length (residualsOf (now residuals))) own × ((p .done ≤ length (now plan) / 6) × (length (now plane) % 2 ≡ 0)) ⌝ }
     ensures { λ r. ⌜ (r ≡ record { done = p .done + doing (recordsOf (now (plan .entry))) p grant }) × (samplesOf (now (plane .exit)) ≡ units (replayUnit s (recordsOf (now (plan .entry)) .block) (residualsOf (now (residuals .entry)))) (p .done) (doing (recordsOf (now (plan .entry))) p grant) (samplesOf (now (plane .entry)))) ⌝ }
 {
     let mut refs = [0u16; 193];
     let mut indices = [0u32; 32];
     let mut fractions = [0u32; 32];
-    let did = doing_of(plan.len() / 6, p.done, grant);
+    let did = still::doing_of(plan.len() / 6, p.done, grant);
     replay_blocks(
         s,
         plan,
@@ -339,8 +322,8 @@ fn serve(
         &mut refs,
         &mut indices,
         &mut fractions,
-        p.done as usize,
-        did as usize,
+        p.done,
+        (p.done as usize) + (did as usize),
     );
     Progress { done: p.done + did }
 }

@@ -18,8 +18,8 @@ use plan::Frame;
 use refs::ChromaRefGeometry;
 use refs::LumaRefGeometry;
 use rows::Rows;
+use still::Still;
 use walk::Progress;
-use walk::Still;
 
 // Stores the sample at a place of a buffer, counted in samples.
 fn put(out: &mut [u8], at: usize, v: u16)

@@ -37,7 +37,7 @@ placed-of f b s e =
     let q = in-plane (f .height) (f .width) (b .row) (b .col) (b .side) (m .0) in
     record { size = s; small = leb-true (b .side) (f .ctu) (m .1); row-at = q .row-at; col-at = q .col-at; row-in = q .row-in; col-in = q .col-in }
 
-of-placed : (f : Frame) (b : Block) → Placed f b → placedOk f b ≡ true
+pub of-placed : (f : Frame) (b : Block) → Placed f b → placedOk f b ≡ true
 of-placed f b p =
     simp (
       eq-eqb (b .row % b .side) 0 (p .row-at),

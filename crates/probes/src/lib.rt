@@ -43,9 +43,9 @@ use refs::Flags;
 use refs::LumaRefGeometry;
 use rows::Rows;
 use scratch::AngularScratch;
+use still::Still;
 use walk::Progress;
 use walk::Stepped;
-use walk::Still;
 
 // A depth's figures, all 0 where the call is refused.
 #[repr(C)]

@@ -13,17 +13,19 @@ use Rattle.domain.specs.Domain.{depthOk}
 use Rattle.domain.specs.Facts.{Depth, depth-of, at-depth}
 use Rattle.order.specs.Order.{pictureOk}
 use Rattle.plan.specs.declared.Verdict.{Verdict}
-use Rattle.plan.specs.Plan.{pictureOf, Plan}
+use Rattle.plan.specs.Plan.{pictureOf, Plan, place}
 use Rattle.plan.specs.Check.{blocksVerdict, planVerdict}
 use Rattle.plan.specs.Tests.{good-picture}
 use Rattle.plan.specs.Verdict.{Accepted, verdict-good, good-verdict}
-use Rattle.walk.specs.declared.Still.{Still}
+use Rattle.still.specs.declared.Still.{Still}
 use Rattle.walk.specs.declared.Progress.{Progress}
 use Rattle.walk.specs.declared.Stepped.{Stepped}
-use Rattle.walk.specs.Block.{largestOf, World, walked, replayUnit, walkUnit}
-use Rattle.walk.specs.Door.{every, whole, roomy, verdictOf, residualOk, replayVerdict, replayAfter, walkVerdict, walkAfter}
-use Rattle.walk.specs.Picture.{Whole, rebuild-ok, store-ok}
-use Rattle.walk.specs.Replay.{units-kept}
+use Rattle.still.specs.Checks.{largestOf, every, whole, roomy, residualOk}
+use Rattle.block.specs.Block.{World, walked, replayUnit, walkUnit}
+use Rattle.walk.specs.Door.{verdictOf, replayVerdict, replayAfter, walkVerdict, walkAfter}
+use Rattle.block.specs.Laws.{rebuilt-length, stored-length}
+use Rattle.lossless.specs.Picture.{Whole}
+use Rattle.lossless.specs.Replay.{units-kept}
 use Rattle.promises.specs.Calls.{Job, Held, blocks, count, walkNo, walkCall, replayNo, replayCall}
 use Rattle.promises.specs.Chains.{next, Steps}
 
@@ -171,8 +173,8 @@ module _ (j : Job) where
         (record {
           asked = further (w .asked) grant;
           source-whole = w .source-whole;
-          work-whole = units-kept (walkUnit s (blocks j) source) (λ (u : World). length (u .work)) _ _ (x .world) (λ k u l m. rebuild-ok s (blocks j) k _ (u .work)) ∙ w .work-whole;
-          residuals-whole = units-kept (walkUnit s (blocks j) source) (λ (u : World). length (u .residuals)) _ _ (x .world) (λ k u l m. store-ok s (blocks j) source k (u .work) (u .residuals)) ∙ w .residuals-whole;
+          work-whole = units-kept (walkUnit s (blocks j) source) (λ (u : World). length (u .work)) _ _ (x .world) (λ k u l m. rebuilt-length s (blocks j k) (place (blocks j) k) _ (u .work)) ∙ w .work-whole;
+          residuals-whole = units-kept (walkUnit s (blocks j) source) (λ (u : World). length (u .residuals)) _ _ (x .world) (λ k u l m. stored-length s source (blocks j k) (place (blocks j) k) (u .work) (u .residuals)) ∙ w .residuals-whole;
           samples = w .samples;
         });
   }
@@ -186,7 +188,7 @@ module _ (j : Job) where
         replay-fine residuals (next (replayUnit s (blocks j) residuals) (count j) x grant)
         (record {
           asked = further (w .asked) grant;
-          plane-whole = units-kept (replayUnit s (blocks j) residuals) length _ _ (x .world) (λ k u l m. rebuild-ok s (blocks j) k residuals u) ∙ w .plane-whole;
+          plane-whole = units-kept (replayUnit s (blocks j) residuals) length _ _ (x .world) (λ k u l m. rebuilt-length s (blocks j k) (place (blocks j) k) residuals u) ∙ w .plane-whole;
           residuals-whole = w .residuals-whole;
           in-range = w .in-range;
         });

@@ -7,10 +7,11 @@ use lib.ListN.{length, getD}
 use Rattle.plan.specs.declared.Block.{Block}
 use Rattle.plan.specs.declared.Verdict.{Verdict}
 use Rattle.plan.specs.Plan.{Plan, place}
-use Rattle.walk.specs.declared.Still.{Still}
+use Rattle.still.specs.declared.Still.{Still}
 use Rattle.walk.specs.declared.Progress.{Progress}
-use Rattle.walk.specs.Block.{World}
-use Rattle.walk.specs.Door.{Tables, steppedBy, walkVerdict, walkAfter, replayVerdict, replayAfter}
+use Rattle.block.specs.Block.{World}
+use Rattle.still.specs.Checks.{Tables}
+use Rattle.walk.specs.Door.{steppedBy, walkVerdict, walkAfter, replayVerdict, replayAfter}
 
 -- what all calls share: the still, its plan, and how long the lent scratch tables are
 pub record Job : Type 0 where

@@ -8,9 +8,9 @@ use Rattle.laws.specs.Chain.{sum}
 use Rattle.plan.specs.declared.Verdict.{Verdict}
 use Rattle.plan.specs.Plan.{In, Of, Covered}
 use Rattle.walk.specs.declared.Progress.{Progress}
-use Rattle.walk.specs.Block.{World, sampleAt, predictedAt}
+use Rattle.block.specs.Block.{World, sampleAt, predictedAt}
 use Rattle.walk.specs.Door.{steppedBy}
-use Rattle.walk.specs.Picture.{Whole}
+use Rattle.lossless.specs.Picture.{Whole}
 use Rattle.promises.specs.Calls.{Job, Held, Served, blocks, count, residualAt, fresh, calls, walkNo, walkCall, replayNo, replayCall}
 
 -- The whole picture is walked: the record says so, each block's residual is the source less H.265's prediction from the source itself, and the

@@ -16,7 +16,7 @@ use denote.Ref.{now}
 use denote.Triple.Clauses.{Ended, AtExit, Clauses}
 use denote.Triple.Entry.{Args, Res}
 use Rattle.laws.specs.Choose.{served}
-use Rattle.walk.specs.Block.{World}
+use Rattle.block.specs.Block.{World}
 use Rattle.byte_replay.specs.Door.{After}
 use Rattle.byte_predict.specs.Entries.{Written, wrote}
 use Rattle.bytes.proofs.sample.Reads as bytes-sample
@@ -76,9 +76,22 @@ use Rattle.plan.proofs.check_plan_bytes.Reads as plan-check-plan-bytes
 use Rattle.plan.proofs.check_plan_numbers.Reads as plan-check-plan-numbers
 use Rattle.plan.proofs.check_plan as plan-check-plan
 use Rattle.walk.proofs.Progress.fresh.Reads as walk-fresh
-use Rattle.walk.proofs.geometry.Reads as walk-geometry
-use Rattle.walk.proofs.opening_no.Reads as walk-opening-no
-use Rattle.walk.proofs.residual_ok.Reads as walk-residual-ok
+use Rattle.still.proofs.largest_of.Reads as still-largest-of
+use Rattle.still.proofs.picture_ok.Reads as still-picture-ok
+use Rattle.still.proofs.is_whole.Reads as still-is-whole
+use Rattle.still.proofs.is_roomy.Reads as still-is-roomy
+use Rattle.still.proofs.opening_no.Reads as still-opening-no
+use Rattle.still.proofs.residual_ok.Reads as still-residual-ok
+use Rattle.still.proofs.replay_no.Reads as still-replay-no
+use Rattle.still.proofs.walk_no.Reads as still-walk-no
+use Rattle.still.proofs.settled.Reads as still-settled
+use Rattle.still.proofs.doing_of.Reads as still-doing-of
+use Rattle.block.proofs.restored.Reads as block-restored
+use Rattle.block.proofs.geometry.Reads as block-geometry
+use Rattle.block.proofs.base_of.Reads as block-base-of
+use Rattle.block.proofs.predict_block.Reads as block-predict-block
+use Rattle.block.proofs.rebuild_block.Reads as block-rebuild-block
+use Rattle.block.proofs.walk_block.Reads as block-walk-block
 use Rattle.probes.proofs.salvrunde_probe_depth.Reads as probes-salvrunde-probe-depth
 use Rattle.probes.proofs.salvrunde_probe_format.Reads as probes-salvrunde-probe-format
 use Rattle.probes.proofs.salvrunde_probe_on_luma.Reads as probes-salvrunde-probe-on-luma
@@ -333,14 +346,55 @@ plan-check-plan-bytes-once κs a x y s t p q = p ∙ sym q
 walk-fresh-once : Once (walk-fresh.Post tt)
 walk-fresh-once a x y s t p q = p ∙ sym q
 
-walk-geometry-once : Once (walk-geometry.Post tt)
-walk-geometry-once a x y s t p q = p ∙ sym q
+-- still
+still-largest-of-once : Once (still-largest-of.Post tt)
+still-largest-of-once a x y s t p q = p ∙ sym q
 
-walk-opening-no-once : Once (walk-opening-no.Post tt)
-walk-opening-no-once a x y s t p q = p ∙ sym q
+still-picture-ok-once : Once (still-picture-ok.Post tt)
+still-picture-ok-once a x y s t p q = p ∙ sym q
 
-walk-residual-ok-once : Once (walk-residual-ok.Post tt)
-walk-residual-ok-once a x y s t p q = p ∙ sym q
+still-is-whole-once : Once (still-is-whole.Post tt)
+still-is-whole-once a x y s t p q = p ∙ sym q
+
+still-is-roomy-once : Once (still-is-roomy.Post tt)
+still-is-roomy-once a x y s t p q = p ∙ sym q
+
+still-opening-no-once : Once (still-opening-no.Post tt)
+still-opening-no-once a x y s t p q = p ∙ sym q
+
+still-residual-ok-once : Once (still-residual-ok.Post tt)
+still-residual-ok-once a x y s t p q = p ∙ sym q
+
+still-replay-no-once : (κs : Lfts 1) → Once (still-replay-no.Post κs)
+still-replay-no-once κs a x y s t p q = p ∙ sym q
+
+still-walk-no-once : (κs : Lfts 1) → Once (still-walk-no.Post κs)
+still-walk-no-once κs a x y s t p q = p ∙ sym q
+
+still-settled-once : Once (still-settled.Post tt)
+still-settled-once a x y s t p q = p ∙ sym q
+
+still-doing-of-once : Once (still-doing-of.Post tt)
+still-doing-of-once a x y s t p q = p ∙ sym q
+
+-- block
+block-restored-once : Once (block-restored.Post tt)
+block-restored-once a x y s t p q = p ∙ sym q
+
+block-geometry-once : Once (block-geometry.Post tt)
+block-geometry-once a x y s t p q = p ∙ sym q
+
+block-base-of-once : Once (block-base-of.Post tt)
+block-base-of-once a x y s t p q = p ∙ sym q
+
+block-predict-block-once : (κs : Lfts 5) → OnceLeft (λ s. now (s .1 .1 .1 .0)) (block-predict-block.Post κs)
+block-predict-block-once κs a x y s t p q = by-number _ _ (p .0) (q .0) (p .1 .0) (q .1 .0)
+
+block-rebuild-block-once : (κs : Lfts 5) → OnceLeft (λ s. now (s .1 .1 .1 .1 .0)) (block-rebuild-block.Post κs)
+block-rebuild-block-once κs a x y s t p q = by-number _ _ (p .0) (q .0) (p .1 .0) (q .1 .0)
+
+block-walk-block-once : (κs : Lfts 6) → OnceLeft {L = World} (λ s. record { work = now (s .1 .1 .1 .1 .0); residuals = now (s .1 .1 .1 .1 .1 .0) }) (block-walk-block.Post κs)
+block-walk-block-once κs a x y s t p q = by-number _ _ (p .0) (q .0) (p .1 .0) (q .1 .0)
 
 -- probes
 probes-salvrunde-probe-depth-once : Once (probes-salvrunde-probe-depth.Post tt)

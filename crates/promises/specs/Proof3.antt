@@ -15,13 +15,15 @@ use Rattle.plan.specs.declared.Verdict.{Verdict}
 use Rattle.plan.specs.Plan.{In, Covered, place}
 use Rattle.plan.specs.Cover.{area}
 use Rattle.plan.specs.Verdict.{Accepted}
-use Rattle.walk.specs.declared.Still.{Still}
+use Rattle.still.specs.declared.Still.{Still}
 use Rattle.walk.specs.declared.Progress.{Progress}
 use Rattle.walk.specs.declared.Stepped.{Stepped}
-use Rattle.walk.specs.Block.{World, stored, walked, sampleAt, largestOf, predictedAt, replayUnit, walkUnit}
-use Rattle.walk.specs.Door.{every, residualOk, steppedBy}
-use Rattle.walk.specs.Picture.{Sample, OfS, Whole, look, predict, residual, less, local, rebuild-ok, rebuild-out, store-out, replays, sourced, walks-plan}
-use Rattle.walk.specs.Replay.{units-kept, replay-same, replay-source, walks}
+use Rattle.still.specs.Checks.{largestOf, every, residualOk}
+use Rattle.block.specs.Block.{World, stored, walked, sampleAt, predictedAt, replayUnit, walkUnit}
+use Rattle.walk.specs.Door.{steppedBy}
+use Rattle.block.specs.Laws.{rebuilt-length}
+use Rattle.lossless.specs.Picture.{Sample, OfS, Whole, look, predict, residual, less, local, rebuild-out, store-out, replays, sourced, walks-plan}
+use Rattle.lossless.specs.Replay.{units-kept, replay-same, replay-source, walks}
 use Rattle.promises.specs.Calls.{Job, Held, Served, blocks, count, residualAt, fresh, calls, walkNo, walkCall, replayNo, replayCall}
 use Rattle.promises.specs.Chains.{next, after, all-done, split, from-fresh}
 use Rattle.promises.specs.Accept.{Walking, walk-told, replay-told, replay-fine, walk-steps, replay-steps}
@@ -139,7 +141,7 @@ module _ (j : Job) (source : List ℕ) (w : World) (served : Served (walkNo j so
         let e : count j ≡ k = omega arith in
         let some = ok .picture .wide .low in
         let out = from-fresh (replay-steps j (all .residuals)) plane again replay-served in
-        let kept = units-kept (replayUnit s (blocks j) (all .residuals)) length 0 k plane (λ i u a b. rebuild-ok s (blocks j) i (all .residuals) u) in
+        let kept = units-kept (replayUnit s (blocks j) (all .residuals)) length 0 k plane (λ i u a b. rebuilt-length s (blocks j i) (place (blocks j) i) (all .residuals) u) in
         by-samples s _ source (omega arith) (ap (λ (x : Held (List ℕ)). length (x .world)) out ∙ kept ∙ long) (facts .source-whole)
         (λ r c i. replay-back again .source-back r c (subst (λ (n : ℕ). Covered (blocks j) n r c) e (ok .plan-good .all r c i)))
 

@@ -22,8 +22,9 @@ use Rattle.flat.specs.Range.{planar-between, dc-between}
 use Rattle.angular.specs.Range.{mean-angular}
 use Rattle.predict.specs.Modes.{byMode, is-by-mode}
 use Rattle.plan.specs.declared.Block.{Block}
-use Rattle.walk.specs.declared.Still.{Still}
-use Rattle.walk.specs.Block.{sampleAt, largestOf, predictedAt}
+use Rattle.still.specs.declared.Still.{Still}
+use Rattle.still.specs.Checks.{largestOf}
+use Rattle.block.specs.Block.{sampleAt, predictedAt}
 
 -- neighbours that are all at most m
 record Most (m : ℕ) (nb : Neighbours) : Type 0 where

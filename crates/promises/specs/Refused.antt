@@ -29,11 +29,12 @@ use Rattle.residual.specs.Residual.{residualNo, reconstructNo, residualsAfter, 
 use Rattle.plan.specs.declared.Verdict.{Verdict}
 use Rattle.plan.specs.Plan.{Plan}
 use Rattle.plan.specs.Records.{recordsOf}
-use Rattle.walk.specs.declared.Still.{Still}
+use Rattle.still.specs.declared.Still.{Still}
 use Rattle.walk.specs.declared.Progress.{Progress}
 use Rattle.walk.specs.declared.Stepped.{Stepped}
-use Rattle.walk.specs.Block.{World}
-use Rattle.walk.specs.Door.{Tables, steppedBy, replayVerdict, replayAfter, walkVerdict, walkAfter}
+use Rattle.block.specs.Block.{World}
+use Rattle.still.specs.Checks.{Tables}
+use Rattle.walk.specs.Door.{steppedBy, replayVerdict, replayAfter, walkVerdict, walkAfter}
 use Rattle.byte_replay.specs.Door.{Lent, byteVerdict, planeAfter, answered, resultAfter}
 use Rattle.byte_predict.specs.Entries.{entry}
 use Rattle.promises.specs.Exact.{number-in}

@@ -19,10 +19,10 @@ use Rattle.helpers.specs.Ways.{apart-below, apart-above}
 use Rattle.plan.specs.declared.Block.{Block}
 use Rattle.plan.specs.Plan.{In, Covered, place}
 use Rattle.plan.specs.Verdict.{Accepted}
-use Rattle.walk.specs.declared.Still.{Still}
-use Rattle.walk.specs.Block.{sampleAt, predictedAt}
-use Rattle.walk.specs.Door.{every}
-use Rattle.walk.specs.Picture.{Sample, OfS, Whole, predict, residual}
+use Rattle.still.specs.declared.Still.{Still}
+use Rattle.block.specs.Block.{sampleAt, predictedAt}
+use Rattle.still.specs.Checks.{every}
+use Rattle.lossless.specs.Picture.{Sample, OfS, Whole, predict, residual}
 
 -- a test of every entry, entry by entry
 pub every-of : {A : Type 0} (p : A → Bool) (l : List A) (z : A) → ((i : ℕ) → i < length l → p (getD l i z) ≡ true) → every p l ≡ true

@@ -17,7 +17,7 @@ use Rattle.refs.specs.Door.{lumaLength, chromaLength}
 use Rattle.bytes.specs.Bytes.{residualsOf}
 use Rattle.plan.specs.Plan.{pictureOf}
 use Rattle.plan.specs.Records.{recordsOf}
-use Rattle.walk.specs.declared.Still.{Still}
+use Rattle.still.specs.declared.Still.{Still}
 use Rattle.walk.specs.declared.Progress.{Progress}
 use Rattle.byte_replay.specs.Door.{Lent, byteVerdict, byteStep}
 use Rattle.byte_predict.specs.Entries.{entry, room, flatEntryNo, planarEntry, dcEntry, modeEntryNo, angularEntry, chromaBlockEntry}

@@ -19,7 +19,7 @@ use Rattle.plan.specs.declared.Block.{Block}
 use Rattle.plan.specs.declared.Verdict.{Verdict}
 use Rattle.plan.specs.Plan.{pictureOf, planOf}
 use Rattle.walk.specs.declared.Stepped.{Stepped}
-use Rattle.walk.specs.Block.{largestOf}
+use Rattle.still.specs.Checks.{largestOf}
 use Rattle.walk.specs.Door.{steppedBy}
 use Rattle.file.specs.File.{trailerOf, area, fileOk, sourceOf, recordsOf}
 use Rattle.report.specs.Text.{spell, number}

@@ -28,11 +28,12 @@ use Rattle.plan.specs.Check.{placedOk, blocksVerdict, planVerdict}
 use Rattle.plan.specs.Records.{recordsOf, wholeRecords, bytesVerdict}
 use Rattle.plan.specs.Tests.{picture-good, placed-of}
 use Rattle.plan.specs.Verdict.{Fine, Broken, bad-size, bad-mode, bad-place, bad-order, Told, is-good, bad-picture, bad-block, bad-cover, told, verdict-good, good-verdict}
-use Rattle.walk.specs.declared.Still.{Still}
+use Rattle.still.specs.declared.Still.{Still}
 use Rattle.walk.specs.declared.Progress.{Progress}
 use Rattle.walk.specs.declared.Stepped.{Stepped}
-use Rattle.walk.specs.Block.{largestOf, World}
-use Rattle.walk.specs.Door.{every, whole, Tables, roomy, doing, verdictOf, steppedBy, replayVerdict, walkVerdict}
+use Rattle.still.specs.Checks.{largestOf, every, whole, Tables, roomy}
+use Rattle.block.specs.Block.{World}
+use Rattle.walk.specs.Door.{doing, verdictOf, steppedBy, replayVerdict, walkVerdict}
 use Rattle.promises.specs.Exact.{Row, _when_, _or_, First, ExactFirst, FirstBy, Tells, first-exact, first-test, first-row, all-of, at-most, same}
 use Rattle.promises.specs.Table.{BadPicture, BadPlace, depth, picture, placed}
 

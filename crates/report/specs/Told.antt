@@ -8,10 +8,11 @@ use lib.ListN.{length, getD, replicate}
 use Rattle.plan.specs.declared.Verdict.{Verdict}
 use Rattle.plan.specs.declared.Block.{Block}
 use Rattle.plan.specs.Plan.{Plan, planOf, place}
-use Rattle.walk.specs.declared.Still.{Still}
+use Rattle.still.specs.declared.Still.{Still}
 use Rattle.walk.specs.declared.Progress.{Progress}
-use Rattle.walk.specs.Block.{World}
-use Rattle.walk.specs.Door.{Tables, walkVerdict, walkAfter, replayAfter}
+use Rattle.block.specs.Block.{World}
+use Rattle.still.specs.Checks.{Tables}
+use Rattle.walk.specs.Door.{walkVerdict, walkAfter, replayAfter}
 use Rattle.report.specs.declared.Printout.{Printout}
 use Rattle.file.specs.declared.Trailer.{Trailer}
 use Rattle.file.specs.File.{trailerOf, fileOk, sourceOf, recordsOf}

@@ -19,10 +19,10 @@ use Rattle.file.specs.File.{trailerOf, area, regionsOk, fileOk, sourceOf, recor
 use Rattle.plan.specs.declared.Verdict.{Verdict}
 use Rattle.plan.specs.Plan.{Plan, planOf}
 use Rattle.plan.specs.Cover.{area as plan-area}
-use Rattle.walk.specs.declared.Still.{Still}
+use Rattle.still.specs.declared.Still.{Still}
 use Rattle.walk.specs.declared.Progress.{Progress}
 use Rattle.walk.specs.declared.Stepped.{Stepped}
-use Rattle.walk.specs.Block.{World}
+use Rattle.block.specs.Block.{World}
 use Rattle.walk.specs.Door.{steppedBy, walkVerdict, walkAfter, replayAfter}
 use Rattle.walk.specs.Ready.{Sound}
 use Rattle.walk.specs.Laws.{walk-sound}

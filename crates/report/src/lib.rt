@@ -14,9 +14,9 @@ ghost use Rattle.report.specs.Whole.{Blank, Held};
 use file::Trailer;
 use plan::Block;
 use plan::Frame;
+use still::Still;
 use walk::Progress;
 use walk::Stepped;
-use walk::Still;
 
 // The text and how many bytes it has.
 pub struct Printout {

@@ -1,9 +1,9 @@
 -- Document 01: what a call of walk or replay refuses, in its order, and what it gives and leaves behind. Assumes nothing.
-use Prim.Native.Nat.{ℕ, _+_, _-_, _*_, min}
-use mathlib.Core.Bool.{Bool, true, false, cond, _&&_}
+use Prim.Native.Nat.{ℕ, _+_, _-_, min}
+use mathlib.Core.Bool.{cond, _&&_}
 use mathlib.Core.List.{List, [], _∷_}
 use lib.Dec.{leb, eqb}
-use lib.IntN.{ℤ, natAbs}
+use lib.IntN.{ℤ}
 use lib.ListN.{length}
 use Rattle.laws.specs.Choose.{_unless_, firstFail, served}
 use Rattle.laws.specs.Chain.{units}
@@ -12,28 +12,11 @@ use Rattle.order.specs.Order.{pictureOk}
 use Rattle.plan.specs.declared.Verdict.{Verdict}
 use Rattle.plan.specs.Plan.{pictureOf, Plan}
 use Rattle.plan.specs.Check.{blocksVerdict}
-use Rattle.walk.specs.declared.Still.{Still}
+use Rattle.still.specs.declared.Still.{Still}
+use Rattle.still.specs.Checks.{largestOf, every, whole, Tables, roomy, residualOk}
+use Rattle.block.specs.Block.{World, replayUnit, walkUnit}
 use Rattle.walk.specs.declared.Progress.{Progress}
 use Rattle.walk.specs.declared.Stepped.{Stepped}
-use Rattle.walk.specs.Block.{largestOf, World, replayUnit, walkUnit}
-
--- a test of every entry
-unfoldable pub every : {A : Type 0} → (A → Bool) → List A → Bool
-every p [] = true
-every p (x ∷ l) = p x && every p l
-
--- number 5: planes and residuals of exactly the picture's samples
-abbrev pub whole : Still → ℕ → Bool
-whole s len = eqb len (s .frame .height * s .frame .width)
-
--- number 5: the lent scratch tables
-pub record Tables : Type 0 where
-  pub refs : ℕ
-  pub indices : ℕ
-  pub fractions : ℕ
-
-abbrev pub roomy : Tables → Bool
-roomy t = leb 193 (t .refs) && leb 32 (t .indices) && leb 32 (t .fractions)
 
 -- the verdict on a call: the checks before the blocks, then the plan's, then number 11
 unfoldable pub verdictOf : Still → Plan → Progress → ℕ → Verdict
@@ -55,9 +38,6 @@ steppedBy v plan p grant =
     (record { no = v .no; block = v .block; did = 0; next = p })
 
 -- Replay: 1, 4, 5, then 8 over every residual.
-abbrev pub residualOk : ℤ → Bool
-residualOk r = leb (natAbs r) 65535
-
 unfoldable pub replayVerdict : Still → Plan → Tables → Progress → ℕ → List ℤ → Verdict
 replayVerdict s plan t p plane residuals =
     verdictOf s plan p

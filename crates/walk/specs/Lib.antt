@@ -1,14 +1,7 @@
--- Block: one block of walk and replay. Door: what a call refuses, gives and leaves behind.
-pub mod Block
+-- Door: what a call refuses, gives and leaves behind.
 pub mod Door
--- Bridge: a block's prediction is the one from its gathered rows.
-pub mod Bridge
--- Replay: walk and replay over any planes, whose prediction looks at earlier blocks alone.
-pub mod Replay
--- Picture: the same for a plan over flat planes.
-pub mod Picture
--- Ready: what the functions ask. Laws: what joins them.
+-- Ready: what the loops ask. Laws: what joins the functions.
 pub mod Ready
 pub mod Laws
--- Listed: a call over block records.
+-- Listed: what a call comes to, and the turns of its loop.
 pub mod Listed

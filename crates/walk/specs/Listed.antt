@@ -1,40 +1,35 @@
--- Walk and replay over a list of block records: what a call comes to before the first write, and the turns of its loop. Rests on the laws of the
--- forms over lent numbers.
+-- What a call of walk or replay comes to before the first write, and the turns of its loop. Rests on the laws of the verdict.
 use mathlib.Core.Path.{_≡_, refl, sym, ap, ap₂, _∙_}
-use mathlib.Core.Bool.{Bool, true, false, cond}
+use mathlib.Core.Bool.{true, cond}
 use mathlib.Core.List.{List}
-use Prim.Native.Nat.{ℕ, _+_, _-_, _*_, _≤_, _<_}
+use Prim.Native.Nat.{ℕ, _+_, _-_, _≤_, _<_}
 use native.Mathlib.Omega.{arith}
 use native.Mathlib.Decide.{ℕ-discrete, decLt}
 use lib.Dec.{leb, eqb}
 use lib.ListN.{length}
 use lib.IntN.{ℤ}
-use borrow.Author.Tests.{leb-true, le-leb, lt-leb, eqb-true, eqb-false, eq-eqb, ne-eqb}
+use borrow.Author.Tests.{le-leb, lt-leb, eq-eqb, ne-eqb}
 use Rattle.laws.specs.Chain.{units}
 use Rattle.laws.specs.Choose.{served, if-yes, if-no, worked, unserved}
 use Rattle.order.specs.Order.{pictureOk}
-use Rattle.plan.specs.declared.Block.{Block}
 use Rattle.plan.specs.declared.Verdict.{Verdict}
-use Rattle.plan.specs.Plan.{pictureOf, Plan, noBlock, place}
+use Rattle.plan.specs.Plan.{pictureOf, Plan, noBlock}
 use Rattle.plan.specs.Check.{planVerdict}
 use Rattle.plan.specs.Verdict.{verdict-good}
-use Rattle.walk.specs.declared.Still.{Still}
+use Rattle.still.specs.declared.Still.{Still}
+use Rattle.still.specs.Checks.{largestOf, every, Tables, residualOk, replayFits, replayNo, walkFits, walkNo, settle}
+use Rattle.still.specs.Laws.{good-call}
+use Rattle.block.specs.Block.{World, replayUnit, walkUnit}
 use Rattle.walk.specs.declared.Progress.{Progress}
 use Rattle.walk.specs.declared.Stepped.{Stepped}
 use Rattle.walk.specs.declared.Call.{Call}
-use Rattle.walk.specs.Block.{largestOf, World, replayUnit, walkUnit}
-use Rattle.walk.specs.Door.{every, Tables, residualOk, doing, verdictOf, steppedBy, replayVerdict, replayAfter, walkVerdict, walkAfter}
-use Rattle.walk.specs.Ready.{Small, Sound}
-use Rattle.walk.specs.Laws.{units-more, verdict-early, verdict-plan, verdict-last, good-call, stepped-is, accepted-small, replayFits, replayNo, replay-verdict, replay-sound, walkFits, walkNo, walk-verdict, walk-sound}
+use Rattle.walk.specs.Door.{doing, verdictOf, steppedBy, replayVerdict, replayAfter, walkVerdict, walkAfter}
+use Rattle.walk.specs.Ready.{ReplayReady, WalkReady}
+use Rattle.walk.specs.Laws.{units-more, verdict-early, verdict-plan, verdict-last, stepped-is, accepted-small, replay-verdict, replay-sound, walk-verdict, walk-sound}
 
 -- the tables of the scratch struct
 abbrev pub scratchTables : Tables
 scratchTables = record { refs = 193; indices = 32; fractions = 32 }
-
--- the verdict on a call, where `found` is the plan check's and `early` the number of the checks before it
-unfoldable pub settle : Verdict → ℕ → Progress → ℕ → Verdict
-settle found count p early =
-    cond (eqb early 0) (cond (eqb (found .no) 0) (record { no = cond (leb (p .done) count) 0 11; block = 0 }) found) (record { no = early; block = 0 })
 
 -- a plan of which only the count counts
 abbrev pub bare : ℕ → Plan
@@ -44,37 +39,18 @@ bare count = record { count = count; block = λ _. noBlock }
 unfoldable pub callOf : Verdict → Plan → Progress → ℕ → Call
 callOf v plan p grant = record { answer = steppedBy v plan p grant; upto = served (v .no) (p .done + doing plan p grant) 0 }
 
--- what the loops ask, if there is a block to do
-abbrev pub ReplayReady : Still → Plan → ℕ → List ℤ → ℕ → Type 0
-ReplayReady s plan plane v upto = 0 < upto → Sound s plan plane (length v) scratchTables × (Small v × (upto ≤ plan .count))
-
-abbrev pub WalkReady : Still → Plan → ℕ → ℕ → ℕ → ℕ → Type 0
-WalkReady s plan source work residuals upto = 0 < upto → Sound s plan work residuals scratchTables × ((source ≡ work) × (upto ≤ plan .count))
-
 -- the plan check's verdict and the checks before it make the call's
-pub settle-is : (s : Still) (plan : Plan) (p : Progress) (early : ℕ) (v : Verdict) → v ≡ planVerdict (s .frame) plan → (early ≡ 0 → pictureOk (pictureOf (s .frame)) ≡ true)
-    → settle v (plan .count) p early ≡ verdictOf s plan p early
+pub settle-is : (s : Still) (plan : Plan) (p : Progress) (early : ℕ) (v : Verdict) → (early ≡ 0 → v ≡ planVerdict (s .frame) plan) → (early ≡ 0 → pictureOk (pictureOf (s .frame)) ≡ true)
+    → settle v (plan .count) (p .done) early ≡ verdictOf s plan p early
 unfolding settle
 settle-is s plan p early v q ok = go (ℕ-discrete early 0) (ℕ-discrete (v .no) 0)
   where
-    go : Dec (early ≡ 0) → Dec (v .no ≡ 0) → settle v (plan .count) p early ≡ verdictOf s plan p early
+    go : Dec (early ≡ 0) → Dec (v .no ≡ 0) → settle v (plan .count) (p .done) early ≡ verdictOf s plan p early
     go (no d) _ = sym (if-no (eqb early 0) _ _ _ (ne-eqb early 0 d) refl) ∙ verdict-early s plan p early d
-    go (yes z) (no d) = sym (if-yes (eqb early 0) _ _ _ (eq-eqb early 0 z) (if-no (eqb (v .no) 0) _ _ _ (ne-eqb (v .no) 0 d) refl)) ∙ verdict-plan s plan p early z (ok z) v q d
+    go (yes z) (no d) = sym (if-yes (eqb early 0) _ _ _ (eq-eqb early 0 z) (if-no (eqb (v .no) 0) _ _ _ (ne-eqb (v .no) 0 d) refl)) ∙ verdict-plan s plan p early z (ok z) v (q z) d
     go (yes z) (yes e) =
         sym (if-yes (eqb early 0) _ _ _ (eq-eqb early 0 z) (if-yes (eqb (v .no) 0) _ _ _ (eq-eqb (v .no) 0 e) refl))
-        ∙ verdict-last s plan p early z (ok z) v q e (leb (p .done) (plan .count)) refl
-
--- number 0 says that the plan is good, and the record not above its count
-pub settle-zero : (found : Verdict) (count : ℕ) (p : Progress) (early : ℕ) → settle found count p early .no ≡ 0 → (found .no ≡ 0) × (p .done ≤ count)
-unfolding settle
-settle-zero found count p early = go (eqb early 0) (eqb (found .no) 0) (leb (p .done) count) refl refl refl
-  where
-    go : (a b c : Bool) → eqb early 0 ≡ a → eqb (found .no) 0 ≡ b → leb (p .done) count ≡ c
-        → cond a (cond b (record { no = cond c 0 11; block = 0 }) found) (record { no = early; block = 0 }) .no ≡ 0 → (found .no ≡ 0) × (p .done ≤ count)
-    go true true true x y z e = (eqb-true _ 0 y, leb-true (p .done) count z)
-    go true true false x y z e = absurd (omega arith)
-    go true false c x y z e = absurd (eqb-false _ 0 y e)
-    go false b c x y z e = absurd (eqb-false early 0 x e)
+        ∙ verdict-last s plan p early z (ok z) v (q z) e (leb (p .done) (plan .count)) refl
 
 -- the two ways of a call
 module _ (v : Verdict) (plan : Plan) (p : Progress) (grant : ℕ) where
@@ -111,13 +87,13 @@ module _ (v : Verdict) (plan : Plan) (p : Progress) (grant : ℕ) (c : Call) (is
       go (yes z) = (z, served-upto z)
       go (no d) = absurd (omega (arith, l, kept-upto d))
 
-  -- and what it leaves is what the door says
-  pub call-ends : {W X : Type 0} (unit : ℕ → W → W) (w e : W) → e ≡ units unit (p .done) (c .upto - p .done) w → (h g : X) → (c .upto ≡ 0 → g ≡ h)
-      → (c .answer ≡ steppedBy v plan p grant) × ((e ≡ served (v .no) (units unit (p .done) (doing plan p grant) w) w) × ((c .answer .no ≡ 0 → ⊥) → g ≡ h))
+  -- and what it leaves is what the door says; Q holds where no block is done
+  pub call-ends : {W Q : Type 0} (unit : ℕ → W → W) (w e : W) → e ≡ units unit (p .done) (c .upto - p .done) w → (c .upto ≡ 0 → Q)
+      → (c .answer ≡ steppedBy v plan p grant) × ((e ≡ served (v .no) (units unit (p .done) (doing plan p grant) w) w) × ((c .answer .no ≡ 0 → ⊥) → Q))
   unfolding units
-  call-ends unit w e u h g k = go (ℕ-discrete (v .no) 0)
+  call-ends {W} {Q} unit w e u k = go (ℕ-discrete (v .no) 0)
     where
-      go : Dec (v .no ≡ 0) → (c .answer ≡ steppedBy v plan p grant) × ((e ≡ served (v .no) (units unit (p .done) (doing plan p grant) w) w) × ((c .answer .no ≡ 0 → ⊥) → g ≡ h))
+      go : Dec (v .no ≡ 0) → (c .answer ≡ steppedBy v plan p grant) × ((e ≡ served (v .no) (units unit (p .done) (doing plan p grant) w) w) × ((c .answer .no ≡ 0 → ⊥) → Q))
       go (yes z) =
           let m : c .upto - p .done ≡ doing plan p grant = omega (arith, served-upto z) in (
             answer-is,
@@ -143,57 +119,61 @@ module _ {W : Type 0} (unit : ℕ → W → W) (from : ℕ) where
       go (no l) =
           q ∙ sym (if-yes (leb from k) (unit k e) e (unit k e) (le-leb from k (omega (arith, l))) refl) ∙ units-more unit from k d e (omega (arith, l)) u
 
+  pub turn-done : (k upto : ℕ) (d e : W) → k ≤ upto → upto ≤ k → e ≡ units unit from (k - from) d → e ≡ units unit from (upto - from) d
+  turn-done k upto d e l m q = let n : k - from ≡ upto - from = omega arith in q ∙ ap (λ (x : ℕ). units unit from x d) n
+
 -- what the plan check's verdict tells of the count
 pub found-small : (s : Still) (plan : Plan) (v : Verdict) → v ≡ planVerdict (s .frame) plan → v .no ≡ 0 → plan .count ≤ 16777216
 found-small s plan v q z = accepted-small (s .frame) plan (verdict-good (s .frame) plan (sym (ap (λ (x : Verdict). x .no) q) ∙ z))
 
 -- replay: what its call comes to, what its loop may ask, and what it leaves
-module _ (s : Still) (plan : Plan) (p : Progress) (grant : ℕ) (v : List ℤ) (d : List ℕ) (found : Verdict) (q : found ≡ planVerdict (s .frame) plan) (c : Call)
-    (is : c ≡ callOf (settle found (plan .count) p (replayNo s scratchTables (length d) v)) (bare (plan .count)) p grant) where
+module _ (s : Still) (plan : Plan) (t : Tables) (p : Progress) (grant : ℕ) (v : List ℤ) (d : List ℕ) (found : Verdict) (q : found ≡ planVerdict (s .frame) plan) (c : Call)
+    (is : c ≡ callOf (settle found (plan .count) (p .done) (replayNo s t (length d) v)) (bare (plan .count)) p grant) where
   abbrev replayCall : Verdict
-  replayCall = replayVerdict s plan scratchTables p (length d) v
+  replayCall = replayVerdict s plan t p (length d) v
 
   replay-call-is : c ≡ callOf replayCall plan p grant
   unfolding callOf
   replay-call-is =
+      let early = replayNo s t (length d) v in
       is
       ∙ ap (λ (u : Verdict). callOf u (bare (plan .count)) p grant)
-      (replay-verdict s plan scratchTables p grant v d (settle found (plan .count) p (replayNo s scratchTables (length d) v)) (replayNo s scratchTables (length d) v) refl
-      (settle-is s plan p (replayNo s scratchTables (length d) v) found q (good-call s (replayFits s scratchTables (length d) (length v)) 8 (every residualOk v))))
+      (replay-verdict s plan t p (settle found (plan .count) (p .done) early) early
+      (settle-is s plan p early found (λ _. q) (good-call s (replayFits s t (length d) (length v)) 8 (every residualOk v))) (length d) v refl)
 
-  pub replay-asks : ReplayReady s plan (length d) v (c .upto)
+  pub replay-asks : ReplayReady s plan t (length d) (length v) (c .upto)
   replay-asks l =
       let a = call-asks replayCall plan p grant c replay-call-is l in
-      let b = replay-sound s plan scratchTables p (length d) v (a .0) in
-      (b .0, (b .1 .0, omega (arith, a .1, b .1 .1)))
+      let b = replay-sound s plan t p (length d) v (a .0) in
+      (b .0, omega (arith, a .1, b .1))
 
-  pub replay-ends : {X : Type 0} (e : List ℕ) → e ≡ units (replayUnit s (plan .block) v) (p .done) (c .upto - p .done) d → (h g : X) → (c .upto ≡ 0 → g ≡ h)
-      → (c .answer ≡ steppedBy replayCall plan p grant) × ((e ≡ replayAfter s plan scratchTables p grant v d) × ((c .answer .no ≡ 0 → ⊥) → g ≡ h))
+  pub replay-ends : {Q : Type 0} (e : List ℕ) → e ≡ units (replayUnit s (plan .block) v) (p .done) (c .upto - p .done) d → (c .upto ≡ 0 → Q)
+      → (c .answer ≡ steppedBy replayCall plan p grant) × ((e ≡ replayAfter s plan t p grant v d) × ((c .answer .no ≡ 0 → ⊥) → Q))
   unfolding replayAfter
-  replay-ends e u h g k = call-ends replayCall plan p grant c replay-call-is (replayUnit s (plan .block) v) d e u h g k
+  replay-ends e u k = call-ends replayCall plan p grant c replay-call-is (replayUnit s (plan .block) v) d e u k
 
 -- the same of the walk
-module _ (s : Still) (plan : Plan) (p : Progress) (grant : ℕ) (source : List ℕ) (w : World) (found : Verdict) (q : found ≡ planVerdict (s .frame) plan) (c : Call)
-    (is : c ≡ callOf (settle found (plan .count) p (walkNo s scratchTables source (length (w .work)) (length (w .residuals)))) (bare (plan .count)) p grant) where
+module _ (s : Still) (plan : Plan) (t : Tables) (p : Progress) (grant : ℕ) (source : List ℕ) (w : World) (found : Verdict) (q : found ≡ planVerdict (s .frame) plan) (c : Call)
+    (is : c ≡ callOf (settle found (plan .count) (p .done) (walkNo s t source (length (w .work)) (length (w .residuals)))) (bare (plan .count)) p grant) where
   abbrev walkCall : Verdict
-  walkCall = walkVerdict s plan scratchTables p source w
+  walkCall = walkVerdict s plan t p source w
 
   walk-call-is : c ≡ callOf walkCall plan p grant
   unfolding callOf
   walk-call-is =
-      let early = walkNo s scratchTables source (length (w .work)) (length (w .residuals)) in
+      let early = walkNo s t source (length (w .work)) (length (w .residuals)) in
       is
       ∙ ap (λ (u : Verdict). callOf u (bare (plan .count)) p grant)
-      (walk-verdict s plan scratchTables p grant source w (settle found (plan .count) p early) early refl
-      (settle-is s plan p early found q (good-call s (walkFits s scratchTables (length source) (length (w .work)) (length (w .residuals))) 7 (every (λ x. leb x (largestOf s)) source))))
+      (walk-verdict s plan t p (settle found (plan .count) (p .done) early) early
+      (settle-is s plan p early found (λ _. q) (good-call s (walkFits s t (length source) (length (w .work)) (length (w .residuals))) 7 (every (λ x. leb x (largestOf s)) source))) source w refl)
 
-  pub walk-asks : WalkReady s plan (length source) (length (w .work)) (length (w .residuals)) (c .upto)
+  pub walk-asks : WalkReady s plan t (length source) (length (w .work)) (length (w .residuals)) (c .upto)
   walk-asks l =
       let a = call-asks walkCall plan p grant c walk-call-is l in
-      let b = walk-sound s plan scratchTables p source w (a .0) in
+      let b = walk-sound s plan t p source w (a .0) in
       (b .0, (b .1 .0, omega (arith, a .1, b .1 .1)))
 
-  pub walk-ends : {X : Type 0} (e : World) → e ≡ units (walkUnit s (plan .block) source) (p .done) (c .upto - p .done) w → (h g : X) → (c .upto ≡ 0 → g ≡ h)
-      → (c .answer ≡ steppedBy walkCall plan p grant) × ((e ≡ walkAfter s plan scratchTables p grant source w) × ((c .answer .no ≡ 0 → ⊥) → g ≡ h))
+  pub walk-ends : {Q : Type 0} (e : World) → e ≡ units (walkUnit s (plan .block) source) (p .done) (c .upto - p .done) w → (c .upto ≡ 0 → Q)
+      → (c .answer ≡ steppedBy walkCall plan p grant) × ((e ≡ walkAfter s plan t p grant source w) × ((c .answer .no ≡ 0 → ⊥) → Q))
   unfolding walkAfter
-  walk-ends e u h g k = call-ends walkCall plan p grant c walk-call-is (walkUnit s (plan .block) source) w e u h g k
+  walk-ends e u k = call-ends walkCall plan p grant c walk-call-is (walkUnit s (plan .block) source) w e u k

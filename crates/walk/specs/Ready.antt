@@ -1,61 +1,23 @@
--- What the functions of walk and replay ask of each other. Assumes nothing.
+-- A call that is served, and what the loops over its blocks ask. Assumes nothing.
 use mathlib.Core.Path.{_≡_}
-use mathlib.Core.Bool.{Bool, true}
-use mathlib.Core.List.{List}
-use Prim.Native.Nat.{ℕ, _+_, _*_, _^_, _≤_, _<_}
-use lib.ListN.{length, getD}
-use lib.IntN.{ℤ, pos, natAbs}
+use mathlib.Core.Bool.{true}
+use Prim.Native.Nat.{ℕ, _*_, _≤_, _<_}
 use Rattle.domain.specs.Facts.{Depth}
-use Rattle.order.specs.Good.{Good}
-use Rattle.plan.specs.declared.Block.{Block}
-use Rattle.plan.specs.Plan.{pictureOf, Plan, Placed}
+use Rattle.plan.specs.Plan.{Plan}
 use Rattle.plan.specs.Verdict.{Accepted}
-use Rattle.walk.specs.declared.Still.{Still}
-use Rattle.walk.specs.Block.{predictedAt}
-use Rattle.walk.specs.Door.{Tables, roomy}
+use Rattle.still.specs.declared.Still.{Still}
+use Rattle.still.specs.Checks.{Tables, roomy}
 
--- residuals in range
-abbrev pub Small : List ℤ → Type 0
-Small v = (i : ℕ) → i < length v → natAbs (getD v i (pos 0)) ≤ 65535
-
--- a row of n samples from base on, its predictions from `from` on, its residuals from `at` on
-pub record RowIn (plane pred residuals n base from at : ℕ) : Type 0 where
-  pub size : n ≤ 32
-  pub plane-in : base + n ≤ plane
-  pub pred-in : from + n ≤ pred
-  pub resid-in : at + n ≤ residuals
-
--- a block of n rows, each `width` samples after the one before
-pub record RowsIn (plane pred residuals n base width at : ℕ) : Type 0 where
-  pub size : n ≤ 32
-  pub plane-in : (r : ℕ) → r < n → base + r * width + n ≤ plane
-  pub plane-small : plane ≤ 16777216
-  pub pred-in : n * n ≤ pred
-  pub resid-in : at + n * n ≤ residuals
-  pub resid-small : residuals ≤ 16777216
-
--- a block that can be predicted
-pub record Ready (s : Still) (b : Block) (plane : ℕ) (t : Tables) : Type 0 where
-  pub depth : Depth (s .bits)
-  pub picture : Good (pictureOf (s .frame))
-  pub placed : Placed (s .frame) b
-  pub mode : b .mode ≤ 34
-  pub plane-len : plane ≡ s .frame .height * s .frame .width
-  pub tables : roomy t ≡ true
-
--- and whose residuals lie in the picture's
-pub record Lies (s : Still) (b : Block) (residuals at : ℕ) : Type 0 where
-  pub resid-in : at + b .side * b .side ≤ residuals
-  pub resid-len : residuals ≡ s .frame .height * s .frame .width
-
--- a buffer that holds a block's prediction, in rows
-abbrev pub Predicted : Still → Block → List ℕ → List ℕ → Type 0
-Predicted s b plane pred = (r c : ℕ) → r < b .side → c < b .side → getD pred (r * b .side + c) 0 ≡ predictedAt s b plane r c
-
--- a call that is served
 pub record Sound (s : Still) (plan : Plan) (plane residuals : ℕ) (t : Tables) : Type 0 where
   pub depth : Depth (s .bits)
   pub accepted : Accepted (s .frame) (plan .block) (plan .count)
   pub plane-len : plane ≡ s .frame .height * s .frame .width
   pub resid-len : residuals ≡ s .frame .height * s .frame .width
   pub tables : roomy t ≡ true
+
+-- what the loops ask, if there is a block to do
+abbrev pub ReplayReady : Still → Plan → Tables → ℕ → ℕ → ℕ → Type 0
+ReplayReady s plan t plane residuals upto = 0 < upto → Sound s plan plane residuals t × (upto ≤ plan .count)
+
+abbrev pub WalkReady : Still → Plan → Tables → ℕ → ℕ → ℕ → ℕ → Type 0
+WalkReady s plan t source work residuals upto = 0 < upto → Sound s plan work residuals t × ((source ≡ work) × (upto ≤ plan .count))

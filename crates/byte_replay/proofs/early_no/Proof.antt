@@ -3,8 +3,8 @@ use mathlib.Core.Path.{refl, sym, ap, _∙_}
 use mathlib.Core.Bool.{true, false}
 use Rattle.laws.specs.Choose.{both-same}
 use Rattle.bytes.specs.Bytes.{residualsOf}
-use Rattle.walk.specs.Door.{every, residualOk}
-use Rattle.walk.specs.Laws.{openingNo, opening-stops, opening-goes}
+use Rattle.still.specs.Checks.{every, residualOk, openingNo}
+use Rattle.still.specs.Laws.{opening-stops, opening-goes}
 use Rattle.byte_replay.specs.Door.{Lent, bytesFit}
 use borrow.Author.Needs.{needs}
 use Rattle.byte_replay.proofs.early_no.Statement.{statement}

@@ -2,7 +2,7 @@
 use Prim.Native.Nat.{ℕ, _+_, _-_, _%_, _≤_, _<_}
 use mathlib.Core.Path.{_≡_, refl, ap, _∙_}
 use lib.ListN.{length, getD}
-use lib.IntN.{pos, natAbs, _+ℤ_}
+use lib.IntN.{pos, _+ℤ_}
 use native.Mathlib.Omega.{arith}
 use Rattle.laws.specs.Fill.{run}
 use Rattle.laws.specs.FillLaws.{run-none, run-more, run-done}
@@ -10,7 +10,7 @@ use Rattle.laws.specs.Signed.{held}
 use Rattle.h265.specs.Notation.{clipTo}
 use Rattle.bytes.specs.Bytes.{samplesOf, residualsOf}
 use Rattle.bytes.specs.Laws.{length-samples, samples-alike, residual-in}
-use Rattle.walk.specs.Laws.{restored-at}
+use Rattle.block.specs.Laws.{restored-at}
 use borrow.Author.Needs.{needs}
 use Rattle.byte_replay.proofs.rebuild_row.Statement.{statement}
 use Rattle.byte_replay.proofs.rebuild_row.Tie as tie
@@ -25,9 +25,6 @@ abbrev μ-loop : tie.MeasureT-loop
 -- the residual at hand
 there : (c : tie.In-loop Inv-loop μ-loop) → c .before .before .before .before .before .args .at + c .before .loop .c < length (residualsOf (c .before .before .before .before .before .args .residuals .now))
 there c = omega (arith, c .before .before .before .before .before .pre .0 .resid-in)
-
-small : (c : tie.In-loop Inv-loop μ-loop) → natAbs (getD (residualsOf (c .before .before .before .before .before .args .residuals .now)) (c .before .before .before .before .before .args .at + c .before .loop .c) (pos 0)) ≤ 65535
-small c = c .before .before .before .before .before .pre .1 .0 _ (there c)
 
 loop-holds : tie.Need-loop-holds Inv-loop μ-loop
 loop-holds c = (search needs, (search needs, run-none _ _ _))
@@ -51,14 +48,14 @@ shared-slice-read-restored : tie.Need-shared-slice-read-restored Inv-loop μ-loo
 shared-slice-read-restored c = search needs
 
 restored-requires : tie.Need-restored-requires Inv-loop μ-loop
-restored-requires c κs = let r = c .before .before .residual-at in rw (held (r .result) (r .ok), r .ensures) (small (c .before .before .before))
+restored-requires c κs = search needs
 
 put-sample-requires : tie.Need-put-sample-requires Inv-loop μ-loop
 put-sample-requires c κs =
     let s = c .before .before .before .before .before .before .before .before .before in
     let l = c .before .before .before .before .before .loop in
     let e = l .inv .1 .0 in
-    (omega (arith, samples-alike (l .plane) (s .args .plane .now) e, s .pre .0 .plane-in), ap (λ (k : ℕ). k % 2) e ∙ s .pre .1 .1)
+    (omega (arith, samples-alike (l .plane) (s .args .plane .now) e, s .pre .0 .plane-in), ap (λ (k : ℕ). k % 2) e ∙ s .pre .1)
 
 add-c : tie.Need-add-c Inv-loop μ-loop
 add-c c = search needs

@@ -6,10 +6,10 @@ use lib.IntN.{pos, _+ℤ_}
 use native.Mathlib.Omega.{arith}
 use Rattle.laws.specs.Paint.{paint, paint-none, paint-more, paint-done}
 use Rattle.h265.specs.Notation.{clipTo}
-use Rattle.walk.specs.Ready.{RowIn}
-use Rattle.walk.specs.Laws.{row-in}
+use Rattle.block.specs.Ready.{RowIn}
+use Rattle.block.specs.Laws.{row-in}
 use Rattle.bytes.specs.Bytes.{samplesOf, residualsOf}
-use Rattle.bytes.specs.Laws.{samples-alike}
+use Rattle.bytes.specs.Laws.{length-samples, length-residuals, samples-alike}
 use borrow.Author.Needs.{needs}
 use Rattle.byte_replay.proofs.rebuild_rows.Statement.{statement}
 use Rattle.byte_replay.proofs.rebuild_rows.Tie as tie
@@ -31,32 +31,32 @@ loop-holds c = (search needs, (search needs, paint-none _ _ _ _ _))
 mul-rebuild-row : tie.Need-mul-rebuild-row Inv-loop μ-loop
 mul-rebuild-row c =
     let t = turn (c .before) in
-    let q = c .before .before .before .before .before .before .pre .0 in
-    record { fits = omega (arith, t .plane-in, t .pred-in, t .resid-in, q .plane-small, q .resid-small) }
+    let a = c .before .before .before .before .before .before .args in
+    record { fits = omega (arith, t .plane-in, t .pred-in, t .resid-in, length-samples (a .plane .now), length-residuals (a .residuals .now)) }
 
 add-rebuild-row : tie.Need-add-rebuild-row Inv-loop μ-loop
 add-rebuild-row c =
     let t = turn (c .before) in
-    let q = c .before .before .before .before .before .before .pre .0 in
-    record { fits = omega (arith, t .plane-in, t .pred-in, t .resid-in, q .plane-small, q .resid-small) }
+    let a = c .before .before .before .before .before .before .args in
+    record { fits = omega (arith, t .plane-in, t .pred-in, t .resid-in, length-samples (a .plane .now), length-residuals (a .residuals .now)) }
 
 mul-rebuild-row-2 : tie.Need-mul-rebuild-row-2 Inv-loop μ-loop
 mul-rebuild-row-2 c =
     let t = turn (c .before) in
-    let q = c .before .before .before .before .before .before .pre .0 in
-    record { fits = omega (arith, t .plane-in, t .pred-in, t .resid-in, q .plane-small, q .resid-small) }
+    let a = c .before .before .before .before .before .before .args in
+    record { fits = omega (arith, t .plane-in, t .pred-in, t .resid-in, length-samples (a .plane .now), length-residuals (a .residuals .now)) }
 
 mul-rebuild-row-3 : tie.Need-mul-rebuild-row-3 Inv-loop μ-loop
 mul-rebuild-row-3 c =
     let t = turn (c .before) in
-    let q = c .before .before .before .before .before .before .pre .0 in
-    record { fits = omega (arith, t .plane-in, t .pred-in, t .resid-in, q .plane-small, q .resid-small) }
+    let a = c .before .before .before .before .before .before .args in
+    record { fits = omega (arith, t .plane-in, t .pred-in, t .resid-in, length-samples (a .plane .now), length-residuals (a .residuals .now)) }
 
 add-rebuild-row-2 : tie.Need-add-rebuild-row-2 Inv-loop μ-loop
 add-rebuild-row-2 c =
     let t = turn (c .before) in
-    let q = c .before .before .before .before .before .before .pre .0 in
-    record { fits = omega (arith, t .plane-in, t .pred-in, t .resid-in, q .plane-small, q .resid-small) }
+    let a = c .before .before .before .before .before .before .args in
+    record { fits = omega (arith, t .plane-in, t .pred-in, t .resid-in, length-samples (a .plane .now), length-residuals (a .residuals .now)) }
 
 rebuild-row-requires : tie.Need-rebuild-row-requires Inv-loop μ-loop
 rebuild-row-requires c κs =
@@ -64,7 +64,7 @@ rebuild-row-requires c κs =
     let l = c .before .before .loop in
     let s = c .before .before .before .before .before .before in
     let e = l .inv .1 .0 in
-    (record { size = t .size; plane-in = omega (arith, samples-alike (l .plane) (s .args .plane .now) e, t .plane-in); pred-in = t .pred-in; resid-in = t .resid-in }, (s .pre .1 .0, ap (λ (k : ℕ). k % 2) e ∙ s .pre .1 .1))
+    (record { size = t .size; plane-in = omega (arith, samples-alike (l .plane) (s .args .plane .now) e, t .plane-in); pred-in = t .pred-in; resid-in = t .resid-in }, ap (λ (k : ℕ). k % 2) e ∙ s .pre .1)
 
 add-r : tie.Need-add-r Inv-loop μ-loop
 add-r c = search needs

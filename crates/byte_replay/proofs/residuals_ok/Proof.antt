@@ -1,14 +1,14 @@
 -- `byte_replay::residuals_ok` meets its contract. The loop's invariant: the flag says whether the residuals passed are in range.
 use mathlib.Core.Path.{_≡_}
 use Prim.Native.Nat.{_-_, _≤_, _/_}
-use lib.ListN.{length, getD}
+use lib.ListN.{length}
 use lib.IntN.{pos}
 use native.Mathlib.Omega.{arith}
 use Rattle.laws.specs.Signed.{held}
 use Rattle.bytes.specs.Bytes.{residualsOf}
 use Rattle.bytes.specs.Laws.{length-residuals}
-use Rattle.walk.specs.Door.{residualOk}
-use Rattle.walk.specs.Laws.{passTo, pass-none, pass-more, pass-done}
+use Rattle.still.specs.Checks.{residualOk}
+use Rattle.still.specs.Laws.{passTo, pass-none, pass-more, pass-done}
 use borrow.Author.Needs.{needs}
 use Rattle.byte_replay.proofs.residuals_ok.Statement.{statement}
 use Rattle.byte_replay.proofs.residuals_ok.Tie as tie

@@ -1,18 +1,18 @@
 -- `byte_replay::serve` meets its contract: the lesser of the grant and what remains is done. Rests on the loop over the blocks.
-use Prim.Native.Nat.{ℕ, _+_}
-use mathlib.Core.Path.{ap, _∙_}
+use Prim.Native.Nat.{ℕ, _+_, _-_}
+use mathlib.Core.Path.{_≡_, ap, _∙_}
 use native.Mathlib.Omega.{arith}
 use Rattle.laws.specs.Chain.{units}
 use Rattle.bytes.specs.Bytes.{samplesOf, residualsOf}
 use Rattle.plan.specs.Records.{recordsOf}
-use Rattle.walk.specs.Block.{replayUnit}
-use Rattle.walk.specs.Laws.{count-small}
+use Rattle.block.specs.Block.{replayUnit}
+use Rattle.walk.specs.Laws.{accepted-small}
 use borrow.Author.Needs.{needs}
 use Rattle.byte_replay.proofs.serve.Statement.{statement}
 use Rattle.byte_replay.proofs.serve.Tie as tie
 
 doing-of-requires : tie.Need-doing-of-requires
-doing-of-requires c κs = let p = c .before .before .before .pre in (count-small _ _ _ _ _ (p .0), p .1 .1 .0)
+doing-of-requires c κs = search needs
 
 slice-aggregate-replay-blocks : tie.Need-slice-aggregate-replay-blocks
 slice-aggregate-replay-blocks c = search needs
@@ -29,11 +29,14 @@ cast-replay-blocks c = search needs
 cast-replay-blocks-2 : tie.Need-cast-replay-blocks-2
 cast-replay-blocks-2 c = search needs
 
-replay-blocks-requires : tie.Need-replay-blocks-requires
-replay-blocks-requires c κs = let p = c .before .before .before .before .before .before .before .before .before .pre in (p .0, (p .1 .0, (omega (arith, c .before .before .before .before .before .doing-of .ensures, p .1 .1 .0), p .1 .1 .1)))
+add-replay-blocks : tie.Need-add-replay-blocks
+add-replay-blocks c = record { fits = omega (arith, c .before .before .before .before .before .doing-of .ensures, c .before .before .before .before .before .before .before .before .before .pre .1 .0, accepted-small _ _ (c .before .before .before .before .before .before .before .before .before .pre .0 .accepted)) }
 
-add-t22 : tie.Need-add-t22
-add-t22 c = let p = c .before .before .before .before .before .before .before .before .before .before .before .before .before .before .before .before .pre in record { fits = omega (arith, c .before .before .before .before .before .before .before .before .before .before .before .before .doing-of .ensures, p .1 .1 .0, count-small _ _ _ _ _ (p .0)) }
+replay-blocks-requires : tie.Need-replay-blocks-requires
+replay-blocks-requires c κs = let p = c .before .before .before .before .before .before .before .before .before .pre in (p .0, (omega (arith, c .before .before .before .before .before .doing-of .ensures, p .1 .0), p .1 .1))
+
+add-t23 : tie.Need-add-t23
+add-t23 c = record { fits = omega (arith, c .before .before .before .before .before .before .before .before .before .before .before .before .doing-of .ensures, c .before .before .before .before .before .before .before .before .before .before .before .before .before .before .before .before .pre .1 .0, accepted-small _ _ (c .before .before .before .before .before .before .before .before .before .before .before .before .before .before .before .before .pre .0 .accepted)) }
 
 same-length : tie.Need-same-length
 same-length c = search needs
@@ -41,8 +44,9 @@ same-length c = search needs
 returns : tie.Need-returns
 returns c =
     let a = c .before .before .before .before .before .before .before .before .before .before .before .before .before .before .before .before .args in
-    let d = c .before .before .before .before .before .before .before .before .before .before .before .before .doing-of .ensures in
-    (ap (λ (k : ℕ). record { done = a .p .done + k }) d, c .before .before .before .before .before .before .replay-blocks .ensures ∙ ap (λ (k : ℕ). units (replayUnit (a .s) (recordsOf (a .plan .now) .block) (residualsOf (a .residuals .now))) (a .p .done) k (samplesOf (a .plane .now))) d)
+    let d = c .before .before .before .before .before .before .before .before .before .before .before .before .doing-of in
+    let m : a .p .done + d .result - a .p .done ≡ d .result = omega arith in
+    (ap (λ (k : ℕ). record { done = a .p .done + k }) (d .ensures), c .before .before .before .before .before .before .replay-blocks .ensures ∙ ap (λ (k : ℕ). units (replayUnit (a .s) (recordsOf (a .plan .now) .block) (residualsOf (a .residuals .now))) (a .p .done) k (samplesOf (a .plane .now))) (m ∙ d .ensures))
 
 pub serve-spec : {M : Type 1} → statement M
 serve-spec =
@@ -54,7 +58,8 @@ serve-spec =
     slice-aggregate-replay-blocks-3
     cast-replay-blocks
     cast-replay-blocks-2
+    add-replay-blocks
     replay-blocks-requires
-    add-t22
+    add-t23
     same-length
     returns)

@@ -43,14 +43,14 @@ use Rattle.plan.proofs.Block as T
 use Rattle.scratch.specs.declared.AngularScratch.{AngularScratch}
 use Rattle.scratch.proofs.AngularScratch as G
 use Rattle.walk.specs.declared.Progress.{Progress}
-use Rattle.walk.specs.declared.Still.{Still}
+use Rattle.still.specs.declared.Still.{Still}
 use Rattle.walk.specs.declared.Stepped.{Stepped}
 use Rattle.walk.specs.Door.{steppedBy, replayVerdict, replayAfter}
 use Rattle.walk.specs.Listed.{scratchTables}
 use Rattle.walk.proofs.Progress as O
 use Rattle.walk.proofs.Progress.Laws as O′
-use Rattle.walk.proofs.Still as Z
-use Rattle.walk.proofs.Still.Laws as Z′
+use Rattle.still.proofs.Still as Z
+use Rattle.still.proofs.Still.Laws as Z′
 use Rattle.walk.proofs.Stepped as E
 use Rattle.walk.proofs.Stepped.Laws as E′
 use Rattle.walk.proofs.Progress.replay as dor

@@ -12,7 +12,7 @@ returns : tie.Need-returns
 returns c = refused-call _ (bare _) _ _ _ (c .refusal .ensures) (c .before .if1 .taken)
 
 doing-of-requires : tie.Need-doing-of-requires
-doing-of-requires c κs = let h = c .before .before .pre (c .if1 .left) in (h .1, h .0)
+doing-of-requires c κs = search needs
 
 step-of-requires : tie.Need-step-of-requires
 step-of-requires c κs = let h = c .before .before .before .pre (c .before .if1 .left) in omega (arith, h, c .doing-of .ensures)

@@ -1,73 +1,68 @@
--- `walk::replay_blocks` meets its contract. The loop's invariant: the blocks passed are done, and `at` is the place of the next. Rests on `rebuild_block`.
-use Prim.Native.Nat.{ℕ, _+_, _-_, _≤_, _<_}
-use mathlib.Core.Path.{_≡_, _∙_}
+-- `walk::replay_blocks` meets its contract. The loop's invariant: the blocks from `from` on that are passed are done, `at` is the place of the next, and the tables are as
+-- they were if there is no block. Rests on `replay_turn`.
+use Prim.Native.Nat.{ℕ, _-_, _≤_, _<_}
+use mathlib.Core.Path.{_≡_, refl, ap₂, _∙_}
+use mathlib.Core.Bool.{cond}
+use lib.Dec.{leb}
 use lib.ListN.{length}
 use native.Mathlib.Omega.{arith}
 use Rattle.laws.specs.Chain.{units}
+use Rattle.plan.specs.declared.Block.{Block}
 use Rattle.plan.specs.Plan.{planOf, place}
-use Rattle.walk.specs.Block.{replayUnit}
-use Rattle.walk.specs.Laws.{units-none, units-done, place-more, place-small, count-small, next-small, lies, ready, block-more}
+use Rattle.block.specs.Block.{rebuilt, replayUnit}
+use Rattle.block.specs.Places.{place-none, place-more}
+use Rattle.walk.specs.Laws.{lies, ready}
+use Rattle.walk.specs.Listed.{turn-none, turn-more, turn-done}
 use borrow.Author.Needs.{needs}
 use Rattle.walk.proofs.replay_blocks.Statement.{statement}
 use Rattle.walk.proofs.replay_blocks.Tie as tie
 
 abbrev Inv-loop : tie.InvT-loop
-Inv-loop s plan residuals plane₀ refs₀ indices₀ fractions₀ from did upto at₀ k₀ plane refs indices fractions at k =
-    (from ≤ k) × ((k ≤ from + did) × ((length plane ≡ length plane₀) × ((length refs ≡ length refs₀) × ((length indices ≡ length indices₀) × ((length fractions ≡ length fractions₀)
-    × ((at ≡ place (planOf plan .block) k) × (plane ≡ units (replayUnit s (planOf plan .block) residuals) from (k - from) plane₀)))))))
+Inv-loop s plan residuals plane₀ refs₀ indices₀ fractions₀ from upto at₀ k₀ plane refs indices fractions at k =
+    (k ≤ upto) × ((length plane ≡ length plane₀) × ((length refs ≡ length refs₀) × ((length indices ≡ length indices₀) × ((length fractions ≡ length fractions₀)
+    × ((at ≡ place (planOf plan .block) k) × ((plane ≡ units (replayUnit s (planOf plan .block) residuals) from (k - from) plane₀)
+    × (upto ≡ 0 → (refs ≡ refs₀) × ((indices ≡ indices₀) × (fractions ≡ fractions₀)))))))))
 
 abbrev μ-loop : tie.MeasureT-loop
-μ-loop s plan residuals plane₀ refs₀ indices₀ fractions₀ from did upto at₀ k₀ plane refs indices fractions at k = from + did - k
+μ-loop s plan residuals plane₀ refs₀ indices₀ fractions₀ from upto at₀ k₀ plane refs indices fractions at k = upto - k
 
 -- the block at hand is one of the plan's
-in-plan : (c : tie.In-loop Inv-loop μ-loop) → c .before .loop .k < length (c .before .before .before .before .before .before .before .args .plan .now)
-in-plan c = omega (arith, c .loop-test .taken, c .before .before .before .before .before .before .before .pre .1 .1)
-
-add-upto : tie.Need-add-upto Inv-loop μ-loop
-add-upto c = record { fits = omega (arith, c .before .before .before .before .pre .1 .1, count-small _ _ _ _ _ (c .before .before .before .before .pre .0)) }
-
-place-of-requires : tie.Need-place-of-requires Inv-loop μ-loop
-place-of-requires c κs = (omega (arith, c .before .before .before .before .pre .1 .1), place-small _ _ _ _ _ (c .before .before .before .before .pre .0) _ (omega (arith, c .before .before .before .before .pre .1 .1)))
+in-plan : (c : tie.In-loop Inv-loop μ-loop) → c .before .loop .k < length (c .before .before .before .before .before .before .args .plan .now)
+in-plan c = omega (arith, c .loop-test .taken, c .before .before .before .before .before .before .pre (omega (arith, c .loop-test .taken)) .1)
 
 loop-holds : tie.Need-loop-holds Inv-loop μ-loop
-loop-holds c = (search needs, (search needs, (search needs, (search needs, (search needs, (search needs, (c .place-of .ensures, units-none _ _ _)))))))
+loop-holds c = (search needs, (refl, (refl, (refl, (refl, (place-none _, (turn-none _ _ _, λ _. (refl, (refl, refl)))))))))
 
 block-at-requires : tie.Need-block-at-requires Inv-loop μ-loop
 block-at-requires c κs = in-plan c
 
-rebuild-block-requires : tie.Need-rebuild-block-requires Inv-loop μ-loop
-rebuild-block-requires c κs =
+replay-turn-requires : tie.Need-replay-turn-requires Inv-loop μ-loop
+replay-turn-requires c κs =
     let l = c .before .before .before .before .before .before .loop in
     let i = l .inv in
-    let p = c .before .before .before .before .before .before .before .before .before .before .before .before .pre in
+    let p = c .before .before .before .before .before .before .before .before .before .before .before .pre (omega (arith, c .before .before .before .before .before .loop-test .taken)) .0 in
     let b = c .before .before .before .before .block-at .ensures in
     let k = in-plan (c .before .before .before .before .before) in
-    let e = i .1 .1 .1 .1 .1 .1 .0 in
-    (ready _ _ _ _ _ (p .0) (l .k) (l .at) _ k e b _ _ _ _ (i .1 .1 .0) (i .1 .1 .1 .0) (i .1 .1 .1 .1 .0) (i .1 .1 .1 .1 .1 .0), (lies _ _ _ _ _ (p .0) (l .k) (l .at) _ k e b, p .1 .0))
-
-cast-n : tie.Need-cast-n Inv-loop μ-loop
-cast-n c = search needs
-
-mul-at : tie.Need-mul-at Inv-loop μ-loop
-mul-at c = record { fits = omega (arith, next-small _ _ _ _ _ (c .before .before .before .before .before .before .before .before .before .before .before .before .before .before .before .before .before .before .before .before .before .before .pre .0) (c .before .before .before .before .before .before .before .before .before .before .before .before .before .before .before .before .loop .k) (c .before .before .before .before .before .before .before .before .before .before .before .before .before .before .before .before .loop .at) _ (in-plan (c .before .before .before .before .before .before .before .before .before .before .before .before .before .before .before)) (c .before .before .before .before .before .before .before .before .before .before .before .before .before .before .before .before .loop .inv .1 .1 .1 .1 .1 .1 .0) (c .before .before .before .before .before .before .before .before .before .before .before .before .before .before .block-at .ensures)) }
-
-add-at : tie.Need-add-at Inv-loop μ-loop
-add-at c = record { fits = omega (arith, next-small _ _ _ _ _ (c .before .before .before .before .before .before .before .before .before .before .before .before .before .before .before .before .before .before .before .before .before .before .pre .0) (c .before .before .before .before .before .before .before .before .before .before .before .before .before .before .before .before .loop .k) (c .before .before .before .before .before .before .before .before .before .before .before .before .before .before .before .before .loop .at) _ (in-plan (c .before .before .before .before .before .before .before .before .before .before .before .before .before .before .before)) (c .before .before .before .before .before .before .before .before .before .before .before .before .before .before .before .before .loop .inv .1 .1 .1 .1 .1 .1 .0) (c .before .before .before .before .before .before .before .before .before .before .before .before .before .before .block-at .ensures)) }
+    let e = i .1 .1 .1 .1 .1 .0 in
+    (ready _ _ _ _ _ p (l .k) (l .at) _ k e b _ _ _ _ (i .1 .0) (i .1 .1 .0) (i .1 .1 .1 .0) (i .1 .1 .1 .1 .0), lies _ _ _ _ _ p (l .k) (l .at) _ k e b)
 
 add-k : tie.Need-add-k Inv-loop μ-loop
-add-k c = record { fits = omega (arith, in-plan (c .before .before .before .before .before .before .before .before .before .before .before .before .before .before .before), count-small _ _ _ _ _ (c .before .before .before .before .before .before .before .before .before .before .before .before .before .before .before .before .before .before .before .before .before .before .pre .0)) }
+add-k c = search needs
 
 loop-less : tie.Need-loop-less Inv-loop μ-loop
 loop-less c = search needs
 
 loop-again : tie.Need-loop-again Inv-loop μ-loop
 loop-again c =
-    let l = c .before .before .before .before .before .before .before .before .before .before .before .before .before .before .before .before .loop in
+    let l = c .before .before .before .before .before .before .before .before .before .before .before .before .before .before .before .loop in
     let i = l .inv in
-    let a = c .before .before .before .before .before .before .before .before .before .before .before .before .before .before .before .before .before .before .before .before .before .before .args in
-    let b = c .before .before .before .before .before .before .before .before .before .before .before .before .before .before .block-at .ensures in
-    let e = i .1 .1 .1 .1 .1 .1 .0 in
-    (search needs, (search needs, (search needs, (search needs, (search needs, (search needs, (place-more _ (l .k) (l .at) _ e b, block-more (a .s) (planOf (a .plan .now) .block) (a .residuals .now) _ (l .k) (l .at) _ _ _ _ (i .0) e b (i .1 .1 .1 .1 .1 .1 .1) (c .before .before .before .before .before .before .before .before .before .rebuild-block .ensures))))))))
+    let a = c .before .before .before .before .before .before .before .before .before .before .before .before .before .before .before .before .before .before .before .before .args in
+    let b = c .before .before .before .before .before .before .before .before .before .before .before .before .before .block-at .ensures in
+    let e = i .1 .1 .1 .1 .1 .0 in
+    let t = c .before .before .before .before .before .before .before .before .replay-turn .ensures in
+    let under = c .before .before .before .before .before .before .before .before .before .before .before .before .before .before .loop-test .taken in
+    let done = t .1 ∙ ap₂ (λ (x : Block) (n : ℕ). cond (leb (a .from) (l .k)) (rebuilt (a .s) x n (a .residuals .now) (l .plane)) (l .plane)) b e in
+    (search needs, (search needs, (search needs, (search needs, (search needs, (t .0 ∙ place-more _ (l .k) (l .at) _ e b, (turn-more (replayUnit (a .s) (planOf (a .plan .now) .block) (a .residuals .now)) (a .from) (l .k) (a .plane .now) (l .plane) _ (i .1 .1 .1 .1 .1 .1 .0) done, λ z. absurd (omega (arith, z, under)))))))))
 
 same-length : tie.Need-same-length Inv-loop μ-loop
 same-length c = search needs
@@ -82,20 +77,17 @@ same-length-4 : tie.Need-same-length-4 Inv-loop μ-loop
 same-length-4 c = search needs
 
 returns : tie.Need-returns Inv-loop μ-loop
-returns c = let i = c .before .loop .inv in units-done _ _ _ _ _ _ (i .1 .0) (c .loop-test .left) (i .1 .1 .1 .1 .1 .1 .1)
+returns c = let i = c .before .loop .inv in (turn-done _ _ _ _ _ _ (i .0) (c .loop-test .left) (i .1 .1 .1 .1 .1 .1 .0), i .1 .1 .1 .1 .1 .1 .1)
 
 pub replay-blocks-spec : {M : Type 1} → statement M
-replay-blocks-spec = tie.close (tie.spec
+replay-blocks-spec =
+    tie.close
+    (tie.spec
     Inv-loop
     μ-loop
-    add-upto
-    place-of-requires
     loop-holds
     block-at-requires
-    rebuild-block-requires
-    cast-n
-    mul-at
-    add-at
+    replay-turn-requires
     add-k
     loop-less
     loop-again

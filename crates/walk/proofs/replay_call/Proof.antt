@@ -1,9 +1,10 @@
 -- `walk::replay_call` meets its contract: the checks, then what they come to.
 use mathlib.Core.Path.{sym, ap, _∙_}
-use Prim.Native.Nat.{ℕ}
 use borrow.Author.Needs.{needs}
 use Rattle.plan.specs.declared.Verdict.{Verdict}
-use Rattle.walk.specs.Listed.{settle, bare, callOf, settle-zero}
+use Rattle.walk.specs.Listed.{bare, callOf}
+use Rattle.still.specs.Checks.{settle}
+use Rattle.still.specs.Laws.{settle-zero}
 use Rattle.walk.proofs.replay_call.Statement.{statement}
 use Rattle.walk.proofs.replay_call.Tie as tie
 
@@ -22,7 +23,7 @@ returns : tie.Need-returns
 returns c =
     let a = c .before .before .before .args in
     c .call-of .ensures
-    ∙ ap (λ (v : Verdict). callOf v (bare (a .count)) (a .p) (a .grant)) (c .before .settled .ensures ∙ ap (settle (a .found) (a .count) (a .p)) (c .before .before .replay-no .ensures))
+    ∙ ap (λ (v : Verdict). callOf v (bare (a .count)) (a .p) (a .grant)) (c .before .settled .ensures ∙ ap (settle (a .found) (a .count) (a .p .done)) (c .before .before .replay-no .ensures))
 
 pub replay-call-spec : {M : Type 1} → statement M
 replay-call-spec = tie.close (tie.spec replay-no-requires settled-requires call-of-requires returns)

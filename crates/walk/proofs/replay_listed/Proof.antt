@@ -56,14 +56,16 @@ use Rattle.plan.proofs.Block.Laws as T′
 use Rattle.scratch.specs.declared.AngularScratch.{AngularScratch}
 use Rattle.scratch.proofs.AngularScratch as G
 use Rattle.scratch.proofs.Tables.{Long, made, Loan, tableAt, Tokens, Lent, Kept, Holds, lend, regain}
-use Rattle.walk.specs.declared.Still.{Still}
-use Rattle.walk.specs.Block.{rebuilt, replayUnit}
-use Rattle.walk.specs.Ready.{Small, Ready, Lies, Sound}
-use Rattle.walk.specs.Laws.{place-none, place-more, lies, ready}
-use Rattle.walk.specs.Listed.{scratchTables, ReplayReady, turn-none, turn-more}
+use Rattle.still.specs.declared.Still.{Still}
+use Rattle.block.specs.Block.{rebuilt, replayUnit}
+use Rattle.block.specs.Ready.{Ready, Lies}
+use Rattle.block.specs.Places.{place-none, place-more}
+use Rattle.walk.specs.Ready.{Sound, ReplayReady}
+use Rattle.walk.specs.Laws.{lies, ready}
+use Rattle.walk.specs.Listed.{scratchTables, turn-none, turn-more}
 use Rattle.walk.proofs.Again.{LentAgain, lends-at, back-at}
-use Rattle.walk.proofs.Still as Z
-use Rattle.walk.proofs.Still.Laws as Z′
+use Rattle.still.proofs.Still as Z
+use Rattle.still.proofs.Still.Laws as Z′
 use Rattle.walk.proofs.replay_turn as stp
 use Rattle.walk.proofs.replay_turn.Symbol as step-def
 use Rattle.walk.proofs.replay_turn.Symbol.{name as #walk·replay-turn}
@@ -115,7 +117,7 @@ Lasts = Unit {0} × (Unit {0} × (Unit {0} × (Unit {0} × (Unit {0} × (Unit {0
 module _ {M : Type 1} (𝓤 : URA M) (H : Heap 𝓤) (A : Atoms 𝓤) (W : Given 𝓤 H A) (mem : Memory → SProp 𝓤) (run : Routine → Fun 𝓤) (κ₀ κ₁ κ₂ κₛ : Lft) (q₀ q₁ q₂ qₛ : Share)
     (st : Still) (b₀ o₀ : ℕ) (γ₀ : GName) (ys : List Block) (b₁ o₁ : ℕ) (γ₁ : GName) (src : List ℤ) (b₂ o₂ : ℕ) (γ₂ : GName) (ws : List ℕ) (b o : ℕ) (γ : GName) (h₀ : AngularScratch) (start upto : ℕ)
     (is-st : Is Z.the-row st (mZ st ∷ [])) (g₀ : Room T.the-row (length ys)) (g₁ : Room i32 (length src)) (g₂ : Room u16 (length ws)) (start-fits : start < 2 ^ 32) (upto-fits : upto < 2 ^ 64)
-    (asked : ReplayReady st (listed ys) (length ws) src upto) where
+    (asked : ReplayReady st (listed ys) scratchTables (length ws) (length src) upto) where
   abbrev p : RefT (List Block)
   p = record { ptr = (b₀, o₀); name = γ₀; now = ys }
 
@@ -166,7 +168,7 @@ module _ {M : Type 1} (𝓤 : URA M) (H : Heap 𝓤) (A : Atoms 𝓤) (W : Given
   abbrev Handed : List ℕ → AngularScratch → ℕ → GName → Loan → List (Item 𝓤)
   Handed w g ν₂ δ₂ l = ‵ (flft κ₁ q₁) ∷ ‵ (flft (ν₂ ∷ []) fullShare) ∷ Tokens 𝓤 H A b o l ∷ Lent 𝓤 H A b o l g ∷ ‵ (ShrSlice (named 0) κ₁ i32 .own c (vc ∷ [])) ∷ ‵ (MutSlice (named 1) (ν₂ ∷ []) u16 .own (mk₂ δ₂ w) (vm₂ ∷ [])) ∷ []
 
-  goes : (w : List ℕ) (g : AngularScratch) (d : Block) (at k : ℕ) (ν₂ : ℕ) (δ₂ : GName) (l : Loan) → Is T.the-row d (mB d ∷ []) → at < 2 ^ 64 → k < 2 ^ 64 → Ready st d (length w) (record { refs = length (g .refs); indices = length (g .indices); fractions = length (g .fractions) }) × (Lies st d (length src) at × Small src)
+  goes : (w : List ℕ) (g : AngularScratch) (d : Block) (at k : ℕ) (ν₂ : ℕ) (δ₂ : GName) (l : Loan) → Is T.the-row d (mB d ∷ []) → at < 2 ^ 64 → k < 2 ^ 64 → Ready st d (length w) (record { refs = length (g .refs); indices = length (g .indices); fractions = length (g .fractions) }) × Lies d (length src) at
       → ent 𝓤 (⋆ 𝓤 H A (Handed w g ν₂ δ₂ l)) (Step 𝓤 H A mem run .pre (to w g d at k ν₂ δ₂ l))
   goes w g d at k ν₂ δ₂ l is-d at-fits k-fits asks =
       qed W (Handed w g ν₂ δ₂ l) ∵ says ! asks $ move ! (2 ∷ []) $ split ! $ move ! (1 ∷ []) $ split ! $ nothing ! $ move ! (2 ∷ 0 ∷ []) $ join ! $ move ! (1 ∷ 0 ∷ []) $ join ! $ move ! (1 ∷ 0 ∷ []) $ join ! $ move ! (2 ∷ 0 ∷ []) $ join ! $ move ! (1 ∷ 0 ∷ []) $ join ! $ frame ! $ split ! $ move ! (1 ∷ []) $ split ! $ nothing ! $ move ! (2 ∷ 0 ∷ []) $ fjoin ! $ move ! (1 ∷ 0 ∷ []) $ fjoin ! $ move ! (1 ∷ 0 ∷ []) $ fjoin ! $ move ! (2 ∷ 0 ∷ []) $ fjoin ! $ move ! (1 ∷ 0 ∷ []) $ fjoin ! $ owned ! u32 (Is u32) (uint-makes 𝓤 H A W w32) start _ (refl, start-fits) $ fjoin ! $ owned ! usize (Is usize) (uint-makes 𝓤 H A W w64) k _ (refl, k-fits) $ fjoin ! $ owned ! usize (Is usize) (uint-makes 𝓤 H A W w64) at _ (refl, at-fits) $ fjoin ! $ owned ! T.the-row (Is T.the-row) ((LL.makes T.the-type T′.the-plain) 𝓤 H A) d _ is-d $ fjoin ! $ owned ! Z.the-row (Is Z.the-row) ((LL.makes Z.the-type Z′.the-plain) 𝓤 H A) st _ is-st $ fjoin ! $ done !
@@ -197,11 +199,11 @@ module _ {M : Type 1} (𝓤 : URA M) (H : Heap 𝓤) (A : Atoms 𝓤) (W : Given
     under : h .k < upto
     under = ltb→lt (h .k) upto less
 
-    ok : Sound st (listed ys) (length ws) (length src) scratchTables × (Small src × (upto ≤ length ys))
+    ok : Sound st (listed ys) (length ws) (length src) scratchTables × (upto ≤ length ys)
     ok = asked (omega (arith, under))
 
     inside : h .k < length ys
-    inside = omega (arith, under, ok .1 .1)
+    inside = omega (arith, under, ok .1)
 
     scaled : h .k * 16 < 2 ^ 64
     scaled = omega (arith, g₀ .1, inside)
@@ -212,8 +214,8 @@ module _ {M : Type 1} (𝓤 : URA M) (H : Heap 𝓤) (A : Atoms 𝓤) (W : Given
     next-fits : h .k + 1 < 2 ^ 64
     next-fits = omega (arith, upto-fits, under)
 
-    asks : Long (h .g .refs) (h .g .indices) (h .g .fractions) → Ready st elem (length (h .w)) (record { refs = length (h .g .refs); indices = length (h .g .indices); fractions = length (h .g .fractions) }) × (Lies st elem (length src) (h .at) × Small src)
-    asks long = (ready st (listed ys) (length ws) (length src) scratchTables (ok .0) (h .k) (h .at) elem inside (h .placed) refl (length (h .w)) (length (h .g .refs)) (length (h .g .indices)) (length (h .g .fractions)) (h .as-long) (long .0) (long .1 .0) (long .1 .1), (lies st (listed ys) (length ws) (length src) scratchTables (ok .0) (h .k) (h .at) elem inside (h .placed) refl, ok .1 .0))
+    asks : Long (h .g .refs) (h .g .indices) (h .g .fractions) → Ready st elem (length (h .w)) (record { refs = length (h .g .refs); indices = length (h .g .indices); fractions = length (h .g .fractions) }) × Lies elem (length src) (h .at)
+    asks long = (ready st (listed ys) (length ws) (length src) scratchTables (ok .0) (h .k) (h .at) elem inside (h .placed) refl (length (h .w)) (length (h .g .refs)) (length (h .g .indices)) (length (h .g .fractions)) (h .as-long) (long .0) (long .1 .0) (long .1 .1), lies st (listed ys) (length ws) (length src) scratchTables (ok .0) (h .k) (h .at) elem inside (h .placed) refl)
 
     abbrev next : (r : ℕ) (v : List ℕ) (g : AngularScratch) → r < 2 ^ 64 → (r ≡ h .at + elem .side * elem .side) × (v ≡ choose (leb start (h .k)) (rebuilt st elem (h .at) src (h .w)) (h .w)) → length v ≡ length (h .w) → Here
     next r v g r-fits e e₂ = record {
@@ -311,7 +313,7 @@ module _ {M : Type 1} (𝓤 : URA M) (H : Heap 𝓤) (A : Atoms 𝓤) (W : Given
   walks 𝓣 known = walked 𝓤 H A f.ended stayed (f.clauses 𝓤 H A mem run) (WpFn 𝓤 H (𝓣 .C) (𝓣 .Λ) code.function)
       (λ κs. (LL.vals Z.the-type Z′.the-laws, (slice-vals, (slice-vals, (slice-vals, (ptr-vals, (uint-vals w32, (uint-vals w64, tt))))))))
       (λ κs. (LL.tells Z.the-type Z′.the-laws, (shr-slice-tells (named 0) (κs .0) T.the-row, (shr-slice-tells (named 1) (κs .1 .0) i32, (mut-slice-tells (named 2) (κs .1 .1 .0) u16, (mut-tells (named 3) (κs .1 .1 .1 .0) G.the-row, (uint-tells w32, (uint-tells w64, tt))))))))
-      (λ κs qs bounds a g are. needs 𝓤 (ReplayReady (a .0) (listed (a .1 .0 .now)) (length (a .1 .1 .1 .0 .now)) (a .1 .1 .0 .now) (a .1 .1 .1 .1 .1 .1 .0)) _ (λ asked.
+      (λ κs qs bounds a g are. needs 𝓤 (ReplayReady (a .0) (listed (a .1 .0 .now)) scratchTables (length (a .1 .1 .1 .0 .now)) (length (a .1 .1 .0 .now)) (a .1 .1 .1 .1 .1 .1 .0)) _ (λ asked.
       walk 𝓤 H A W mem run (κs .0) (κs .1 .0) (κs .1 .1 .0) (κs .1 .1 .1 .0) (qs .0) (qs .1 .0) (qs .1 .1 .0) (qs .1 .1 .1 .0) (a .0) (a .1 .0 .ptr .0) (a .1 .0 .ptr .1) (a .1 .0 .name) (a .1 .0 .now) (a .1 .1 .0 .ptr .0) (a .1 .1 .0 .ptr .1) (a .1 .1 .0 .name) (a .1 .1 .0 .now) (a .1 .1 .1 .0 .ptr .0) (a .1 .1 .1 .0 .ptr .1) (a .1 .1 .1 .0 .name) (a .1 .1 .1 .0 .now) (a .1 .1 .1 .1 .0 .ptr .0) (a .1 .1 .1 .1 .0 .ptr .1) (a .1 .1 .1 .1 .0 .name) (a .1 .1 .1 .1 .0 .now) (a .1 .1 .1 .1 .1 .0) (a .1 .1 .1 .1 .1 .1 .0) (are .0) (are .1 .0 .0 .1) (are .1 .1 .0 .0 .1) (are .1 .1 .1 .0 .0 .1) (are .1 .1 .1 .1 .1 .0 .1) (are .1 .1 .1 .1 .1 .1 .0 .1) asked 𝓣 known))
 
 meets : {M : Type 1} (𝓤 : URA M) (H : Heap 𝓤) (A : Atoms 𝓤) → Given 𝓤 H A → (mem : Memory → SProp 𝓤) (run : Routine → Fun 𝓤) (𝓣 : Tables 𝓤 H) → Triple 𝓤 (𝓣 .C #walk·replay-turn) (Step 𝓤 H A mem run)

@@ -56,14 +56,16 @@ use Rattle.plan.proofs.Block.Laws as T′
 use Rattle.scratch.specs.declared.AngularScratch.{AngularScratch}
 use Rattle.scratch.proofs.AngularScratch as G
 use Rattle.scratch.proofs.Tables.{Long, made, Loan, tableAt, Tokens, Lent, Kept, Holds, lend, regain}
-use Rattle.walk.specs.declared.Still.{Still}
-use Rattle.walk.specs.Block.{World, walked as doneBlock, walkUnit}
-use Rattle.walk.specs.Ready.{Small, Ready, Lies, Sound}
-use Rattle.walk.specs.Laws.{place-none, place-more, lies, ready}
-use Rattle.walk.specs.Listed.{scratchTables, WalkReady, turn-none, turn-more}
+use Rattle.still.specs.declared.Still.{Still}
+use Rattle.block.specs.Block.{World, walked as doneBlock, walkUnit}
+use Rattle.block.specs.Ready.{Ready, Lies}
+use Rattle.block.specs.Places.{place-none, place-more}
+use Rattle.walk.specs.Ready.{Sound, WalkReady}
+use Rattle.walk.specs.Laws.{lies, ready}
+use Rattle.walk.specs.Listed.{scratchTables, turn-none, turn-more}
 use Rattle.walk.proofs.Again.{LentAgain, lends-at, back-at}
-use Rattle.walk.proofs.Still as Z
-use Rattle.walk.proofs.Still.Laws as Z′
+use Rattle.still.proofs.Still as Z
+use Rattle.still.proofs.Still.Laws as Z′
 use Rattle.walk.proofs.walk_turn as stp
 use Rattle.walk.proofs.walk_turn.Symbol as step-def
 use Rattle.walk.proofs.walk_turn.Symbol.{name as #walk·walk-turn}
@@ -118,7 +120,7 @@ Lasts = Unit {0} × (Unit {0} × (Unit {0} × (Unit {0} × (Unit {0} × (Unit {0
 module _ {M : Type 1} (𝓤 : URA M) (H : Heap 𝓤) (A : Atoms 𝓤) (W : Given 𝓤 H A) (mem : Memory → SProp 𝓤) (run : Routine → Fun 𝓤) (κ₀ κ₁ κ₂ κ₃ κₛ : Lft) (q₀ q₁ q₂ q₃ qₛ : Share)
     (st : Still) (b₀ o₀ : ℕ) (γ₀ : GName) (ys : List Block) (b₁ o₁ : ℕ) (γ₁ : GName) (src : List ℕ) (b₂ o₂ : ℕ) (γ₂ : GName) (ws : List ℕ) (b₃ o₃ : ℕ) (γ₃ : GName) (rs : List ℤ) (b o : ℕ) (γ : GName) (h₀ : AngularScratch) (start upto : ℕ)
     (is-st : Is Z.the-row st (mZ st ∷ [])) (g₀ : Room T.the-row (length ys)) (g₁ : Room u16 (length src)) (g₂ : Room u16 (length ws)) (g₃ : Room i32 (length rs)) (start-fits : start < 2 ^ 32) (upto-fits : upto < 2 ^ 64)
-    (asked : WalkReady st (listed ys) (length src) (length ws) (length rs) upto) where
+    (asked : WalkReady st (listed ys) scratchTables (length src) (length ws) (length rs) upto) where
   abbrev p : RefT (List Block)
   p = record { ptr = (b₀, o₀); name = γ₀; now = ys }
 
@@ -176,7 +178,7 @@ module _ {M : Type 1} (𝓤 : URA M) (H : Heap 𝓤) (A : Atoms 𝓤) (W : Given
   abbrev Handed : World → AngularScratch → ℕ → ℕ → GName → GName → Loan → List (Item 𝓤)
   Handed w g ν₂ ν₃ δ₂ δ₃ l = ‵ (flft κ₁ q₁) ∷ ‵ (flft (ν₂ ∷ []) fullShare) ∷ ‵ (flft (ν₃ ∷ []) fullShare) ∷ Tokens 𝓤 H A b o l ∷ Lent 𝓤 H A b o l g ∷ ‵ (ShrSlice (named 0) κ₁ u16 .own c (vc ∷ [])) ∷ ‵ (MutSlice (named 1) (ν₂ ∷ []) u16 .own (mk₂ δ₂ (w .work)) (vm₂ ∷ [])) ∷ ‵ (MutSlice (named 2) (ν₃ ∷ []) i32 .own (mk₃ δ₃ (w .residuals)) (vm₃ ∷ [])) ∷ []
 
-  goes : (w : World) (g : AngularScratch) (d : Block) (at k : ℕ) (ν₂ ν₃ : ℕ) (δ₂ δ₃ : GName) (l : Loan) → Is T.the-row d (mB d ∷ []) → at < 2 ^ 64 → k < 2 ^ 64 → Ready st d (length (w .work)) (record { refs = length (g .refs); indices = length (g .indices); fractions = length (g .fractions) }) × (Lies st d (length (w .residuals)) at × (length src ≡ length (w .work)))
+  goes : (w : World) (g : AngularScratch) (d : Block) (at k : ℕ) (ν₂ ν₃ : ℕ) (δ₂ δ₃ : GName) (l : Loan) → Is T.the-row d (mB d ∷ []) → at < 2 ^ 64 → k < 2 ^ 64 → Ready st d (length (w .work)) (record { refs = length (g .refs); indices = length (g .indices); fractions = length (g .fractions) }) × (Lies d (length (w .residuals)) at × (length src ≡ length (w .work)))
       → ent 𝓤 (⋆ 𝓤 H A (Handed w g ν₂ ν₃ δ₂ δ₃ l)) (Step 𝓤 H A mem run .pre (to w g d at k ν₂ ν₃ δ₂ δ₃ l))
   goes w g d at k ν₂ ν₃ δ₂ δ₃ l is-d at-fits k-fits asks =
       qed W (Handed w g ν₂ ν₃ δ₂ δ₃ l) ∵ says ! asks $ move ! (3 ∷ []) $ split ! $ move ! (1 ∷ []) $ split ! $ nothing ! $ move ! (2 ∷ 0 ∷ []) $ join ! $ move ! (1 ∷ 0 ∷ []) $ join ! $ move ! (1 ∷ 0 ∷ []) $ join ! $ move ! (3 ∷ 0 ∷ []) $ join ! $ move ! (2 ∷ 0 ∷ []) $ join ! $ move ! (1 ∷ 0 ∷ []) $ join ! $ frame ! $ split ! $ move ! (1 ∷ []) $ split ! $ nothing ! $ move ! (2 ∷ 0 ∷ []) $ fjoin ! $ move ! (1 ∷ 0 ∷ []) $ fjoin ! $ move ! (1 ∷ 0 ∷ []) $ fjoin ! $ move ! (3 ∷ 0 ∷ []) $ fjoin ! $ move ! (2 ∷ 0 ∷ []) $ fjoin ! $ move ! (1 ∷ 0 ∷ []) $ fjoin ! $ owned ! u32 (Is u32) (uint-makes 𝓤 H A W w32) start _ (refl, start-fits) $ fjoin ! $ owned ! usize (Is usize) (uint-makes 𝓤 H A W w64) k _ (refl, k-fits) $ fjoin ! $ owned ! usize (Is usize) (uint-makes 𝓤 H A W w64) at _ (refl, at-fits) $ fjoin ! $ owned ! T.the-row (Is T.the-row) ((LL.makes T.the-type T′.the-plain) 𝓤 H A) d _ is-d $ fjoin ! $ owned ! Z.the-row (Is Z.the-row) ((LL.makes Z.the-type Z′.the-plain) 𝓤 H A) st _ is-st $ fjoin ! $ done !
@@ -222,8 +224,8 @@ module _ {M : Type 1} (𝓤 : URA M) (H : Heap 𝓤) (A : Atoms 𝓤) (W : Given
     next-fits : h .k + 1 < 2 ^ 64
     next-fits = omega (arith, upto-fits, under)
 
-    asks : Long (h .g .refs) (h .g .indices) (h .g .fractions) → Ready st elem (length (h .w .work)) (record { refs = length (h .g .refs); indices = length (h .g .indices); fractions = length (h .g .fractions) }) × (Lies st elem (length (h .w .residuals)) (h .at) × (length src ≡ length (h .w .work)))
-    asks long = (ready st (listed ys) (length ws) (length rs) scratchTables (ok .0) (h .k) (h .at) elem inside (h .placed) refl (length ((h .w) .work)) (length (h .g .refs)) (length (h .g .indices)) (length (h .g .fractions)) (h .as-long .0) (long .0) (long .1 .0) (long .1 .1), (subst (λ (n : ℕ). Lies st elem n (h .at)) (sym (h .as-long .1)) (lies st (listed ys) (length ws) (length rs) scratchTables (ok .0) (h .k) (h .at) elem inside (h .placed) refl), ok .1 .0 ∙ sym (h .as-long .0)))
+    asks : Long (h .g .refs) (h .g .indices) (h .g .fractions) → Ready st elem (length (h .w .work)) (record { refs = length (h .g .refs); indices = length (h .g .indices); fractions = length (h .g .fractions) }) × (Lies elem (length (h .w .residuals)) (h .at) × (length src ≡ length (h .w .work)))
+    asks long = (ready st (listed ys) (length ws) (length rs) scratchTables (ok .0) (h .k) (h .at) elem inside (h .placed) refl (length ((h .w) .work)) (length (h .g .refs)) (length (h .g .indices)) (length (h .g .fractions)) (h .as-long .0) (long .0) (long .1 .0) (long .1 .1), (subst (λ (n : ℕ). Lies elem n (h .at)) (sym (h .as-long .1)) (lies st (listed ys) (length ws) (length rs) scratchTables (ok .0) (h .k) (h .at) elem inside (h .placed) refl), ok .1 .0 ∙ sym (h .as-long .0)))
 
     abbrev next : (r : ℕ) (v : World) (g : AngularScratch) → r < 2 ^ 64 → (r ≡ h .at + elem .side * elem .side) × (v ≡ choose (leb start (h .k)) (doneBlock st src elem (h .at) (h .w)) (h .w)) → length (v .work) ≡ length ((h .w) .work) → length (v .residuals) ≡ length ((h .w) .residuals) → Here
     next r v g r-fits e e₂ e₃ = record {
@@ -324,7 +326,7 @@ module _ {M : Type 1} (𝓤 : URA M) (H : Heap 𝓤) (A : Atoms 𝓤) (W : Given
   walks 𝓣 known = walked 𝓤 H A f.ended stayed (f.clauses 𝓤 H A mem run) (WpFn 𝓤 H (𝓣 .C) (𝓣 .Λ) code.function)
       (λ κs. (LL.vals Z.the-type Z′.the-laws, (slice-vals, (slice-vals, (slice-vals, (slice-vals, (ptr-vals, (uint-vals w32, (uint-vals w64, tt)))))))))
       (λ κs. (LL.tells Z.the-type Z′.the-laws, (shr-slice-tells (named 0) (κs .0) T.the-row, (shr-slice-tells (named 1) (κs .1 .0) u16, (mut-slice-tells (named 2) (κs .1 .1 .0) u16, (mut-slice-tells (named 3) (κs .1 .1 .1 .0) i32, (mut-tells (named 4) (κs .1 .1 .1 .1 .0) G.the-row, (uint-tells w32, (uint-tells w64, tt)))))))))
-      (λ κs qs bounds a g are. needs 𝓤 (WalkReady (a .0) (listed (a .1 .0 .now)) (length (a .1 .1 .0 .now)) (length (a .1 .1 .1 .0 .now)) (length (a .1 .1 .1 .1 .0 .now)) (a .1 .1 .1 .1 .1 .1 .1 .0)) _ (λ asked.
+      (λ κs qs bounds a g are. needs 𝓤 (WalkReady (a .0) (listed (a .1 .0 .now)) scratchTables (length (a .1 .1 .0 .now)) (length (a .1 .1 .1 .0 .now)) (length (a .1 .1 .1 .1 .0 .now)) (a .1 .1 .1 .1 .1 .1 .1 .0)) _ (λ asked.
       walk 𝓤 H A W mem run (κs .0) (κs .1 .0) (κs .1 .1 .0) (κs .1 .1 .1 .0) (κs .1 .1 .1 .1 .0) (qs .0) (qs .1 .0) (qs .1 .1 .0) (qs .1 .1 .1 .0) (qs .1 .1 .1 .1 .0) (a .0) (a .1 .0 .ptr .0) (a .1 .0 .ptr .1) (a .1 .0 .name) (a .1 .0 .now) (a .1 .1 .0 .ptr .0) (a .1 .1 .0 .ptr .1) (a .1 .1 .0 .name) (a .1 .1 .0 .now) (a .1 .1 .1 .0 .ptr .0) (a .1 .1 .1 .0 .ptr .1) (a .1 .1 .1 .0 .name) (a .1 .1 .1 .0 .now) (a .1 .1 .1 .1 .0 .ptr .0) (a .1 .1 .1 .1 .0 .ptr .1) (a .1 .1 .1 .1 .0 .name) (a .1 .1 .1 .1 .0 .now) (a .1 .1 .1 .1 .1 .0 .ptr .0) (a .1 .1 .1 .1 .1 .0 .ptr .1) (a .1 .1 .1 .1 .1 .0 .name) (a .1 .1 .1 .1 .1 .0 .now) (a .1 .1 .1 .1 .1 .1 .0) (a .1 .1 .1 .1 .1 .1 .1 .0) (are .0) (are .1 .0 .0 .1) (are .1 .1 .0 .0 .1) (are .1 .1 .1 .0 .0 .1) (are .1 .1 .1 .1 .0 .0 .1) (are .1 .1 .1 .1 .1 .1 .0 .1) (are .1 .1 .1 .1 .1 .1 .1 .0 .1) asked 𝓣 known))
 
 meets : {M : Type 1} (𝓤 : URA M) (H : Heap 𝓤) (A : Atoms 𝓤) → Given 𝓤 H A → (mem : Memory → SProp 𝓤) (run : Routine → Fun 𝓤) (𝓣 : Tables 𝓤 H) → Triple 𝓤 (𝓣 .C #walk·walk-turn) (Step 𝓤 H A mem run)

@@ -57,17 +57,18 @@ use Rattle.plan.proofs.check_plan.Met as chk-thm
 use Rattle.scratch.specs.declared.AngularScratch.{AngularScratch}
 use Rattle.scratch.proofs.AngularScratch as G
 use Rattle.walk.specs.declared.Progress.{Progress}
-use Rattle.walk.specs.declared.Still.{Still}
+use Rattle.still.specs.declared.Still.{Still}
 use Rattle.walk.specs.declared.Stepped.{Stepped}
 use Rattle.walk.specs.declared.Call.{Call}
-use Rattle.walk.specs.Block.{replayUnit}
+use Rattle.block.specs.Block.{replayUnit}
 use Rattle.walk.specs.Door.{steppedBy, replayVerdict, replayAfter}
-use Rattle.walk.specs.Laws.{replayNo}
-use Rattle.walk.specs.Listed.{scratchTables, settle, bare, callOf, ReplayReady, found-small, replay-asks, replay-ends}
+use Rattle.still.specs.Checks.{replayNo, settle}
+use Rattle.walk.specs.Ready.{ReplayReady}
+use Rattle.walk.specs.Listed.{scratchTables, bare, callOf, found-small, replay-asks, replay-ends}
 use Rattle.walk.proofs.Progress as O
 use Rattle.walk.proofs.Progress.Laws as O′
-use Rattle.walk.proofs.Still as Z
-use Rattle.walk.proofs.Still.Laws as Z′
+use Rattle.still.proofs.Still as Z
+use Rattle.still.proofs.Still.Laws as Z′
 use Rattle.walk.proofs.Stepped as E
 use Rattle.walk.proofs.Stepped.Laws as E′
 use Rattle.walk.proofs.Call as Y
@@ -193,8 +194,8 @@ module _ {M : Type 1} (𝓤 : URA M) (H : Heap 𝓤) (A : Atoms 𝓤) (W : Given
   goes-call v is-v e =
       qed W (‵ (flft κ₁ q₁) ∷ ‵ (ShrSlice (named 1) κ₁ i32 .own c (vc ∷ [])) ∷ []) ∵ says ! (found-small st (listed ys) v e) $ nothing ! $ move ! (1 ∷ 0 ∷ []) $ join ! $ frame ! $ nothing ! $ owned ! u32 (Is u32) (uint-makes 𝓤 H A W w32) grant _ (refl, grant-fits) $ fjoin ! $ owned ! Q.the-row (Is Q.the-row) ((LL.makes Q.the-type Q′.the-plain) 𝓤 H A) v _ is-v $ fjoin ! $ owned ! usize (Is usize) (uint-makes 𝓤 H A W w64) (length ys) _ (refl, g₀ .0) $ fjoin ! $ owned ! usize (Is usize) (uint-makes 𝓤 H A W w64) (length ws) _ (refl, g₂ .0) $ fjoin ! $ move ! (1 ∷ 0 ∷ []) $ fjoin ! $ owned ! Z.the-row (Is Z.the-row) ((LL.makes Z.the-type Z′.the-plain) 𝓤 H A) st _ is-st $ fjoin ! $ owned ! O.the-row (Is O.the-row) ((LL.makes O.the-type O′.the-plain) 𝓤 H A) pr _ is-pr $ fjoin ! $ done !
 
-  call-of : (v : Verdict) (r : Call) → ent 𝓤 (ensured 𝓤 H A cal.ended (cal.clauses 𝓤 H A mem run) (κ₁, tt) (pr, (st, (c, ((length ws), ((length ys), (v, (grant, tt))))))) tt r) (fact 𝓤 (r ≡ callOf (settle v (length ys) pr (replayNo st scratchTables (length ws) src)) (bare (length ys)) pr grant))
-  call-of v r = exE 𝓤 _ (λ zs. snd∗ 𝓤 (sem 𝓤 H A (lasts cal.ended (κ₁, tt) (pr, (st, (c, ((length ws), ((length ys), (v, (grant, tt))))))) zs)) (fact 𝓤 (r ≡ callOf (settle v (length ys) pr (replayNo st scratchTables (length ws) src)) (bare (length ys)) pr grant)))
+  call-of : (v : Verdict) (r : Call) → ent 𝓤 (ensured 𝓤 H A cal.ended (cal.clauses 𝓤 H A mem run) (κ₁, tt) (pr, (st, (c, ((length ws), ((length ys), (v, (grant, tt))))))) tt r) (fact 𝓤 (r ≡ callOf (settle v (length ys) (pr .done) (replayNo st scratchTables (length ws) src)) (bare (length ys)) pr grant))
+  call-of v r = exE 𝓤 _ (λ zs. snd∗ 𝓤 (sem 𝓤 H A (lasts cal.ended (κ₁, tt) (pr, (st, (c, ((length ws), ((length ys), (v, (grant, tt))))))) zs)) (fact 𝓤 (r ≡ callOf (settle v (length ys) (pr .done) (replayNo st scratchTables (length ws) src)) (bare (length ys)) pr grant)))
 
   abbrev args : Call → Still × (RefT (List Block) × (RefT (List ℤ) × (RefT (List ℕ) × (RefT AngularScratch × (ℕ × (ℕ × (Unit {0})))))))
   args x = (st, (p, (c, (mk₂, (scr, (pr .done, (x .upto, tt)))))))
@@ -205,7 +206,7 @@ module _ {M : Type 1} (𝓤 : URA M) (H : Heap 𝓤) (A : Atoms 𝓤) (W : Given
   abbrev Handed : List (Item 𝓤)
   Handed = Toks ∷ ‵ (ShrSlice (named 0) κ₀ T.the-row .own p (vp ∷ [])) ∷ ‵ (ShrSlice (named 1) κ₁ i32 .own c (vc ∷ [])) ∷ ‵ (MutSlice (named 2) κ₂ u16 .own mk₂ (vm₂ ∷ [])) ∷ ‵ (MutRef (named 3) κₛ G.the-row .own scr (vptr b o ∷ [])) ∷ []
 
-  goes-loop : (x : Call) → x .upto < 2 ^ 64 → ReplayReady st (listed ys) (length ws) src (x .upto) → ent 𝓤 (⋆ 𝓤 H A Handed) (Looped 𝓤 H A mem run .pre (to-loop x))
+  goes-loop : (x : Call) → x .upto < 2 ^ 64 → ReplayReady st (listed ys) scratchTables (length ws) (length src) (x .upto) → ent 𝓤 (⋆ 𝓤 H A Handed) (Looped 𝓤 H A mem run .pre (to-loop x))
   goes-loop x upto-fits asks =
       qed W Handed ∵ says ! asks $ frame ! $ nothing ! $ owned ! usize (Is usize) (uint-makes 𝓤 H A W w64) (x .upto) _ (refl, upto-fits) $ fjoin ! $ owned ! u32 (Is u32) (uint-makes 𝓤 H A W w32) (pr .done) _ (refl, done-fits) $ fjoin ! $ move ! (4 ∷ 0 ∷ []) $ fjoin ! $ move ! (3 ∷ 0 ∷ []) $ fjoin ! $ move ! (2 ∷ 0 ∷ []) $ fjoin ! $ move ! (1 ∷ 0 ∷ []) $ fjoin ! $ owned ! Z.the-row (Is Z.the-row) ((LL.makes Z.the-type Z′.the-plain) 𝓤 H A) st _ is-st $ fjoin ! $ done !
 
@@ -236,13 +237,13 @@ module _ {M : Type 1} (𝓤 : URA M) (H : Heap 𝓤) (A : Atoms 𝓤) (W : Given
         move ! (6 ∷ []) $ use1 W (‵ (ShrSlice (named 1) κ₁ i32 .own c (vc ∷ [])) ⊛ ‵ (ShrSlice (named 1) κ₁ i32 .own c (vc ∷ []))) (shr-slice-copy 𝓤 H A W (named 1) κ₁ i32 .twice c (vc ∷ [])) $ split ! $ move ! (4 ∷ 0 ∷ []) $ group ! 2 $ use1 W (raw (Calling 𝓤 H A mem run .pre (to-call v))) (goes-call v is-v e₀) $
         calls-at ! fm (Calling 𝓤 H A mem run) known-call (to-call v) (and-then ! (load ! (from ! (stop !)) (look ! 33 refl)) (and-then ! (load ! (from ! (stop !)) (look ! 31 refl)) (and-then ! (load ! (from ! (stop !)) (look ! 27 refl)) (and-then ! (load ! (from ! (stop !)) (look ! 15 refl)) (and-then ! (load ! (from ! (stop !)) (look ! 13 refl)) (and-then ! (load ! (from ! (stop !)) (look ! 19 refl)) (and-then ! (load ! (from ! (stop !)) (look ! 21 refl)) (no-more !)))))))) (λ u.
         use1 W (later (some (λ (r : Call). ((‵ (flft κ₁ q₁) ⊛ ‵ ftrue) ⊛ ‵ (Y.the-row .own r (u ∷ []))) ⊛ raw (ensured 𝓤 H A cal.ended (cal.clauses 𝓤 H A mem run) (κ₁, tt) (pr, (st, (c, ((length ws), ((length ys), (v, (grant, tt))))))) tt r)))) (id⊢ 𝓤 _) $ await ! tt $ pick ! (λ x.
-        split ! $ move ! (1 ∷ []) $ use1 W (raw (fact 𝓤 (x ≡ callOf (settle v (length ys) pr (replayNo st scratchTables (length ws) src)) (bare (length ys)) pr grant))) (call-of v x) $ heard ! (x ≡ callOf (settle v (length ys) pr (replayNo st scratchTables (length ws) src)) (bare (length ys)) pr grant) (λ e₁. split ! $ move ! (1 ∷ []) $ peeks ! Y.the-row (Is Y.the-row) (shows 𝓤 H A Y.the-row) x (u ∷ []) (λ is₁.
+        split ! $ move ! (1 ∷ []) $ use1 W (raw (fact 𝓤 (x ≡ callOf (settle v (length ys) (pr .done) (replayNo st scratchTables (length ws) src)) (bare (length ys)) pr grant))) (call-of v x) $ heard ! (x ≡ callOf (settle v (length ys) (pr .done) (replayNo st scratchTables (length ws) src)) (bare (length ys)) pr grant) (λ e₁. split ! $ move ! (1 ∷ []) $ peeks ! Y.the-row (Is Y.the-row) (shows 𝓤 H A Y.the-row) x (u ∷ []) (λ is₁.
         land ! (from ! (stop !)) (init ! 18 refl (LL.lawful Y.the-type Y′.the-laws 𝓤 H A W .typed x _ is₁ .0)) $ rewrite ! 18 (λ (z : Val). ‵ (fat fullShare Y′.mir l₉ 0 z)) (ap only (LL.tells Y.the-type Y′.the-laws x _ is₁)) refl $
         rewrite ! 0 (λ (us : List Val). ‵ (Y.the-row .own x us)) (LL.tells Y.the-type Y′.the-laws x _ is₁) refl $ peeks ! Y.the-row (Is Y.the-row) (shows 𝓤 H A Y.the-row) x (mY x ∷ []) (λ is-x. drop ! $ split ! $ move ! (1 ∷ []) $ drop ! $
         -- the loop
         assigns ! (addr ! (from ! (fld ! refl (hop ! (look-in ! 25 (sub ! 0 refl (whole !))) (stop !))))) (from ! (stop !)) (init ! 11 refl (tt, tt)) $ assigns ! (agg ! (and-then ! (load ! (from ! (stop !)) (look ! 11 refl)) (and-then ! (load ! (from ! (fld ! refl (stop !))) (look-in ! 25 (sub ! 1 refl (whole !)))) (no-more !)))) (from ! (stop !)) (init ! 9 refl (tt, (tt, (record { fits = g₂ .0 }, tt)))) $
         assigns ! (addr ! (from ! (hop ! (look ! 23 refl) (stop !)))) (from ! (stop !)) (init ! 7 refl (tt, tt)) $
-        move ! (3 ∷ []) $ use1 W (‵ (ShrSlice (named 0) κ₀ T.the-row .own p (vp ∷ [])) ⊛ ‵ (ShrSlice (named 0) κ₀ T.the-row .own p (vp ∷ []))) (shr-slice-copy 𝓤 H A W (named 0) κ₀ T.the-row .twice p (vp ∷ [])) $ split ! $ move ! (3 ∷ []) $ use1 W (‵ (ShrSlice (named 1) κ₁ i32 .own c (vc ∷ [])) ⊛ ‵ (ShrSlice (named 1) κ₁ i32 .own c (vc ∷ []))) (shr-slice-copy 𝓤 H A W (named 1) κ₁ i32 .twice c (vc ∷ [])) $ split ! $ move ! (5 ∷ 4 ∷ 6 ∷ []) $ group ! 3 $ move ! (0 ∷ 3 ∷ 1 ∷ 6 ∷ 5 ∷ []) $ group ! 5 $ use1 W (raw (Looped 𝓤 H A mem run .pre (to-loop x))) (goes-loop x (upto-fits x is-x) (replay-asks st (listed ys) pr grant src ws v e₀ x e₁)) $
+        move ! (3 ∷ []) $ use1 W (‵ (ShrSlice (named 0) κ₀ T.the-row .own p (vp ∷ [])) ⊛ ‵ (ShrSlice (named 0) κ₀ T.the-row .own p (vp ∷ []))) (shr-slice-copy 𝓤 H A W (named 0) κ₀ T.the-row .twice p (vp ∷ [])) $ split ! $ move ! (3 ∷ []) $ use1 W (‵ (ShrSlice (named 1) κ₁ i32 .own c (vc ∷ [])) ⊛ ‵ (ShrSlice (named 1) κ₁ i32 .own c (vc ∷ []))) (shr-slice-copy 𝓤 H A W (named 1) κ₁ i32 .twice c (vc ∷ [])) $ split ! $ move ! (5 ∷ 4 ∷ 6 ∷ []) $ group ! 3 $ move ! (0 ∷ 3 ∷ 1 ∷ 6 ∷ 5 ∷ []) $ group ! 5 $ use1 W (raw (Looped 𝓤 H A mem run .pre (to-loop x))) (goes-loop x (upto-fits x is-x) (replay-asks st (listed ys) scratchTables pr grant src ws v e₀ x e₁)) $
         calls-at ! fm (Looped 𝓤 H A mem run) known-loop (to-loop x) (and-then ! (load ! (from ! (stop !)) (look ! 27 refl)) (and-then ! (load ! (from ! (stop !)) (look ! 25 refl)) (and-then ! (load ! (from ! (stop !)) (look ! 23 refl)) (and-then ! (load ! (from ! (stop !)) (look ! 5 refl)) (and-then ! (load ! (from ! (stop !)) (look ! 3 refl)) (and-then ! (load ! (from ! (fld ! refl (stop !))) (look-in ! 29 (sub ! 0 refl (whole !)))) (and-then ! (load ! (from ! (fld ! refl (stop !))) (look-in ! 13 (sub ! 1 refl (whole !)))) (no-more !)))))))) (λ u.
         use1 W (later (some (λ (r : ℕ). (Toks ⊛ ‵ (usize .own r (u ∷ []))) ⊛ raw (ensured 𝓤 H A lop.ended (lop.clauses 𝓤 H A mem run) (κ₀, (κ₁, (κ₂, (κₛ, tt)))) (args x) tt r)))) (id⊢ 𝓤 _) $ await ! tt $ pick ! (λ r.
         split ! $ move ! (1 ∷ []) $ use1 W (some (λ (zs : Lasts). ‵ (lasts lop.ended (κ₀, (κ₁, (κ₂, (κₛ, tt)))) (args x) zs) ⊛ raw (fact 𝓤 (((zs .1 .1 .1 .0) ≡ units (replayUnit st (listed ys .block) src) (pr .done) (x .upto - pr .done) ws) × (x .upto ≡ 0 → (zs .1 .1 .1 .1 .0) ≡ h₀))))) (id⊢ 𝓤 _) $ pick ! (λ zs. split ! $ move ! (1 ∷ []) $ heard ! (((zs .1 .1 .1 .0) ≡ units (replayUnit st (listed ys .block) src) (pr .done) (x .upto - pr .done) ws) × (x .upto ≡ 0 → (zs .1 .1 .1 .1 .0) ≡ h₀)) (λ e.
@@ -251,7 +252,7 @@ module _ {M : Type 1} (𝓤 : URA M) (H : Heap 𝓤) (A : Atoms 𝓤) (W : Given
         assigns ! (of-opd ! (load ! (from ! (fld ! refl (stop !))) (look-in ! 15 (sub ! 0 refl (whole !))))) (from ! (stop !)) (init ! 33 refl (LL.lawful E.the-type E′.the-laws 𝓤 H A W .typed (x .answer) _ (is-answer x is-x) .0)) $
         returns ! (look ! 33 refl) $ forget ! 5 refl $ forget ! 7 refl $ forget ! 9 refl $ forget ! 11 refl $ forget ! 13 refl $ forget ! 15 refl $ forget ! 17 refl $ forget ! 19 refl $ forget ! 21 refl $ forget ! 23 refl $ forget ! 25 refl $ forget ! 27 refl $ forget ! 29 refl $ forget ! 31 refl $ forget ! 33 refl $
         move ! (33 ∷ 34 ∷ []) $ free1 ! $ move ! (31 ∷ 32 ∷ []) $ free1 ! $ move ! (29 ∷ 30 ∷ []) $ free1 ! $ move ! (27 ∷ 28 ∷ []) $ free1 ! $ move ! (25 ∷ 26 ∷ []) $ free1 ! $ move ! (23 ∷ 24 ∷ []) $ free1 ! $ move ! (21 ∷ 22 ∷ []) $ free1 ! $ move ! (19 ∷ 20 ∷ []) $ free1 ! $ move ! (17 ∷ 18 ∷ []) $ free1 ! $ move ! (15 ∷ 16 ∷ []) $ free1 ! $ move ! (13 ∷ 14 ∷ []) $ free1 ! $ move ! (11 ∷ 12 ∷ []) $ free1 ! $ move ! (9 ∷ 10 ∷ []) $ free1 ! $ move ! (7 ∷ 8 ∷ []) $ free1 ! $ move ! (5 ∷ 6 ∷ []) $ free1 ! $ free0 ! $
-        keep ! (0 ∷ 2 ∷ 1 ∷ 3 ∷ 4 ∷ []) $ by ! (exits (x .answer) (zs .1 .1 .1 .0) (zs .1 .1 .1 .1 .0) (is-answer x is-x) (replay-ends st (listed ys) pr grant src ws v e₀ x e₁ (zs .1 .1 .1 .0) (e .0) h₀ (zs .1 .1 .1 .1 .0) (e .1)) e₂))))))))))))))))))))))))))))))))
+        keep ! (0 ∷ 2 ∷ 1 ∷ 3 ∷ 4 ∷ []) $ by ! (exits (x .answer) (zs .1 .1 .1 .0) (zs .1 .1 .1 .1 .0) (is-answer x is-x) (replay-ends st (listed ys) scratchTables pr grant src ws v e₀ x e₁ (zs .1 .1 .1 .0) (e .0) (e .1)) e₂))))))))))))))))))))))))))))))))
 
 module _ {M : Type 1} (𝓤 : URA M) (H : Heap 𝓤) (A : Atoms 𝓤) (W : Given 𝓤 H A) (mem : Memory → SProp 𝓤) (run : Routine → Fun 𝓤) where
   walks : (C : Calls 𝓤 H) (Λ : Loops 𝓤 H) → FmC 𝓤 H (W .laws) C → Triple 𝓤 (C #plan·check-plan) (Check 𝓤 H A mem run) → Triple 𝓤 (C #walk·replay-call) (Calling 𝓤 H A mem run) → Triple 𝓤 (C #walk·replay-listed) (Looped 𝓤 H A mem run) → Walks 𝓤 H A f.ended stayed (WpFn 𝓤 H C Λ code.function) (f.clauses 𝓤 H A mem run)

@@ -57,17 +57,18 @@ use Rattle.plan.proofs.check_plan.Met as chk-thm
 use Rattle.scratch.specs.declared.AngularScratch.{AngularScratch}
 use Rattle.scratch.proofs.AngularScratch as G
 use Rattle.walk.specs.declared.Progress.{Progress}
-use Rattle.walk.specs.declared.Still.{Still}
+use Rattle.still.specs.declared.Still.{Still}
 use Rattle.walk.specs.declared.Stepped.{Stepped}
 use Rattle.walk.specs.declared.Call.{Call}
-use Rattle.walk.specs.Block.{World, walkUnit}
+use Rattle.block.specs.Block.{World, walkUnit}
 use Rattle.walk.specs.Door.{steppedBy, walkVerdict, walkAfter}
-use Rattle.walk.specs.Laws.{walkNo}
-use Rattle.walk.specs.Listed.{scratchTables, settle, bare, callOf, WalkReady, found-small, walk-asks, walk-ends}
+use Rattle.still.specs.Checks.{walkNo, settle}
+use Rattle.walk.specs.Ready.{WalkReady}
+use Rattle.walk.specs.Listed.{scratchTables, bare, callOf, found-small, walk-asks, walk-ends}
 use Rattle.walk.proofs.Progress as O
 use Rattle.walk.proofs.Progress.Laws as O′
-use Rattle.walk.proofs.Still as Z
-use Rattle.walk.proofs.Still.Laws as Z′
+use Rattle.still.proofs.Still as Z
+use Rattle.still.proofs.Still.Laws as Z′
 use Rattle.walk.proofs.Stepped as E
 use Rattle.walk.proofs.Stepped.Laws as E′
 use Rattle.walk.proofs.Call as Y
@@ -199,8 +200,8 @@ module _ {M : Type 1} (𝓤 : URA M) (H : Heap 𝓤) (A : Atoms 𝓤) (W : Given
   goes-call v is-v e =
       qed W (‵ (flft κ₁ q₁) ∷ ‵ (ShrSlice (named 1) κ₁ u16 .own c (vc ∷ [])) ∷ []) ∵ says ! (found-small st (listed ys) v e) $ nothing ! $ move ! (1 ∷ 0 ∷ []) $ join ! $ frame ! $ nothing ! $ owned ! u32 (Is u32) (uint-makes 𝓤 H A W w32) grant _ (refl, grant-fits) $ fjoin ! $ owned ! Q.the-row (Is Q.the-row) ((LL.makes Q.the-type Q′.the-plain) 𝓤 H A) v _ is-v $ fjoin ! $ owned ! usize (Is usize) (uint-makes 𝓤 H A W w64) (length ys) _ (refl, g₀ .0) $ fjoin ! $ owned ! usize (Is usize) (uint-makes 𝓤 H A W w64) (length rs) _ (refl, g₃ .0) $ fjoin ! $ owned ! usize (Is usize) (uint-makes 𝓤 H A W w64) (length ws) _ (refl, g₂ .0) $ fjoin ! $ move ! (1 ∷ 0 ∷ []) $ fjoin ! $ owned ! Z.the-row (Is Z.the-row) ((LL.makes Z.the-type Z′.the-plain) 𝓤 H A) st _ is-st $ fjoin ! $ owned ! O.the-row (Is O.the-row) ((LL.makes O.the-type O′.the-plain) 𝓤 H A) pr _ is-pr $ fjoin ! $ done !
 
-  call-of : (v : Verdict) (r : Call) → ent 𝓤 (ensured 𝓤 H A cal.ended (cal.clauses 𝓤 H A mem run) (κ₁, tt) (pr, (st, (c, ((length ws), ((length rs), ((length ys), (v, (grant, tt)))))))) tt r) (fact 𝓤 (r ≡ callOf (settle v (length ys) pr (walkNo st scratchTables src (length ws) (length rs))) (bare (length ys)) pr grant))
-  call-of v r = exE 𝓤 _ (λ zs. snd∗ 𝓤 (sem 𝓤 H A (lasts cal.ended (κ₁, tt) (pr, (st, (c, ((length ws), ((length rs), ((length ys), (v, (grant, tt)))))))) zs)) (fact 𝓤 (r ≡ callOf (settle v (length ys) pr (walkNo st scratchTables src (length ws) (length rs))) (bare (length ys)) pr grant)))
+  call-of : (v : Verdict) (r : Call) → ent 𝓤 (ensured 𝓤 H A cal.ended (cal.clauses 𝓤 H A mem run) (κ₁, tt) (pr, (st, (c, ((length ws), ((length rs), ((length ys), (v, (grant, tt)))))))) tt r) (fact 𝓤 (r ≡ callOf (settle v (length ys) (pr .done) (walkNo st scratchTables src (length ws) (length rs))) (bare (length ys)) pr grant))
+  call-of v r = exE 𝓤 _ (λ zs. snd∗ 𝓤 (sem 𝓤 H A (lasts cal.ended (κ₁, tt) (pr, (st, (c, ((length ws), ((length rs), ((length ys), (v, (grant, tt)))))))) zs)) (fact 𝓤 (r ≡ callOf (settle v (length ys) (pr .done) (walkNo st scratchTables src (length ws) (length rs))) (bare (length ys)) pr grant)))
 
   abbrev args : Call → Still × (RefT (List Block) × (RefT (List ℕ) × (RefT (List ℕ) × (RefT (List ℤ) × (RefT AngularScratch × (ℕ × (ℕ × (Unit {0}))))))))
   args x = (st, (p, (c, (mk₂, (mk₃, (scr, (pr .done, (x .upto, tt))))))))
@@ -211,7 +212,7 @@ module _ {M : Type 1} (𝓤 : URA M) (H : Heap 𝓤) (A : Atoms 𝓤) (W : Given
   abbrev Handed : List (Item 𝓤)
   Handed = Toks ∷ ‵ (ShrSlice (named 0) κ₀ T.the-row .own p (vp ∷ [])) ∷ ‵ (ShrSlice (named 1) κ₁ u16 .own c (vc ∷ [])) ∷ ‵ (MutSlice (named 2) κ₂ u16 .own mk₂ (vm₂ ∷ [])) ∷ ‵ (MutSlice (named 3) κ₃ i32 .own mk₃ (vm₃ ∷ [])) ∷ ‵ (MutRef (named 4) κₛ G.the-row .own scr (vptr b o ∷ [])) ∷ []
 
-  goes-loop : (x : Call) → x .upto < 2 ^ 64 → WalkReady st (listed ys) (length src) (length ws) (length rs) (x .upto) → ent 𝓤 (⋆ 𝓤 H A Handed) (Looped 𝓤 H A mem run .pre (to-loop x))
+  goes-loop : (x : Call) → x .upto < 2 ^ 64 → WalkReady st (listed ys) scratchTables (length src) (length ws) (length rs) (x .upto) → ent 𝓤 (⋆ 𝓤 H A Handed) (Looped 𝓤 H A mem run .pre (to-loop x))
   goes-loop x upto-fits asks =
       qed W Handed ∵ says ! asks $ frame ! $ nothing ! $ owned ! usize (Is usize) (uint-makes 𝓤 H A W w64) (x .upto) _ (refl, upto-fits) $ fjoin ! $ owned ! u32 (Is u32) (uint-makes 𝓤 H A W w32) (pr .done) _ (refl, done-fits) $ fjoin ! $ move ! (5 ∷ 0 ∷ []) $ fjoin ! $ move ! (4 ∷ 0 ∷ []) $ fjoin ! $ move ! (3 ∷ 0 ∷ []) $ fjoin ! $ move ! (2 ∷ 0 ∷ []) $ fjoin ! $ move ! (1 ∷ 0 ∷ []) $ fjoin ! $ owned ! Z.the-row (Is Z.the-row) ((LL.makes Z.the-type Z′.the-plain) 𝓤 H A) st _ is-st $ fjoin ! $ done !
 
@@ -243,14 +244,14 @@ module _ {M : Type 1} (𝓤 : URA M) (H : Heap 𝓤) (A : Atoms 𝓤) (W : Given
         move ! (7 ∷ []) $ use1 W (‵ (ShrSlice (named 1) κ₁ u16 .own c (vc ∷ [])) ⊛ ‵ (ShrSlice (named 1) κ₁ u16 .own c (vc ∷ []))) (shr-slice-copy 𝓤 H A W (named 1) κ₁ u16 .twice c (vc ∷ [])) $ split ! $ move ! (4 ∷ 0 ∷ []) $ group ! 2 $ use1 W (raw (Calling 𝓤 H A mem run .pre (to-call v))) (goes-call v is-v e₀) $
         calls-at ! fm (Calling 𝓤 H A mem run) known-call (to-call v) (and-then ! (load ! (from ! (stop !)) (look ! 42 refl)) (and-then ! (load ! (from ! (stop !)) (look ! 40 refl)) (and-then ! (load ! (from ! (stop !)) (look ! 36 refl)) (and-then ! (load ! (from ! (stop !)) (look ! 22 refl)) (and-then ! (load ! (from ! (stop !)) (look ! 20 refl)) (and-then ! (load ! (from ! (stop !)) (look ! 18 refl)) (and-then ! (load ! (from ! (stop !)) (look ! 26 refl)) (and-then ! (load ! (from ! (stop !)) (look ! 28 refl)) (no-more !))))))))) (λ u.
         use1 W (later (some (λ (r : Call). ((‵ (flft κ₁ q₁) ⊛ ‵ ftrue) ⊛ ‵ (Y.the-row .own r (u ∷ []))) ⊛ raw (ensured 𝓤 H A cal.ended (cal.clauses 𝓤 H A mem run) (κ₁, tt) (pr, (st, (c, ((length ws), ((length rs), ((length ys), (v, (grant, tt)))))))) tt r)))) (id⊢ 𝓤 _) $ await ! tt $ pick ! (λ x.
-        split ! $ move ! (1 ∷ []) $ use1 W (raw (fact 𝓤 (x ≡ callOf (settle v (length ys) pr (walkNo st scratchTables src (length ws) (length rs))) (bare (length ys)) pr grant))) (call-of v x) $ heard ! (x ≡ callOf (settle v (length ys) pr (walkNo st scratchTables src (length ws) (length rs))) (bare (length ys)) pr grant) (λ e₁. split ! $ move ! (1 ∷ []) $ peeks ! Y.the-row (Is Y.the-row) (shows 𝓤 H A Y.the-row) x (u ∷ []) (λ is₁.
+        split ! $ move ! (1 ∷ []) $ use1 W (raw (fact 𝓤 (x ≡ callOf (settle v (length ys) (pr .done) (walkNo st scratchTables src (length ws) (length rs))) (bare (length ys)) pr grant))) (call-of v x) $ heard ! (x ≡ callOf (settle v (length ys) (pr .done) (walkNo st scratchTables src (length ws) (length rs))) (bare (length ys)) pr grant) (λ e₁. split ! $ move ! (1 ∷ []) $ peeks ! Y.the-row (Is Y.the-row) (shows 𝓤 H A Y.the-row) x (u ∷ []) (λ is₁.
         land ! (from ! (stop !)) (init ! 25 refl (LL.lawful Y.the-type Y′.the-laws 𝓤 H A W .typed x _ is₁ .0)) $ rewrite ! 25 (λ (z : Val). ‵ (fat fullShare Y′.mir l₁₀ 0 z)) (ap only (LL.tells Y.the-type Y′.the-laws x _ is₁)) refl $
         rewrite ! 0 (λ (us : List Val). ‵ (Y.the-row .own x us)) (LL.tells Y.the-type Y′.the-laws x _ is₁) refl $ peeks ! Y.the-row (Is Y.the-row) (shows 𝓤 H A Y.the-row) x (mY x ∷ []) (λ is-x. drop ! $ split ! $ move ! (1 ∷ []) $ drop ! $
         -- the loop
         assigns ! (addr ! (from ! (fld ! refl (hop ! (look-in ! 34 (sub ! 0 refl (whole !))) (stop !))))) (from ! (stop !)) (init ! 16 refl (tt, tt)) $ assigns ! (agg ! (and-then ! (load ! (from ! (stop !)) (look ! 16 refl)) (and-then ! (load ! (from ! (fld ! refl (stop !))) (look-in ! 34 (sub ! 1 refl (whole !)))) (no-more !)))) (from ! (stop !)) (init ! 14 refl (tt, (tt, (record { fits = g₂ .0 }, tt)))) $
         assigns ! (addr ! (from ! (fld ! refl (hop ! (look-in ! 32 (sub ! 0 refl (whole !))) (stop !))))) (from ! (stop !)) (init ! 12 refl (tt, tt)) $ assigns ! (agg ! (and-then ! (load ! (from ! (stop !)) (look ! 12 refl)) (and-then ! (load ! (from ! (fld ! refl (stop !))) (look-in ! 32 (sub ! 1 refl (whole !)))) (no-more !)))) (from ! (stop !)) (init ! 10 refl (tt, (tt, (record { fits = g₃ .0 }, tt)))) $
         assigns ! (addr ! (from ! (hop ! (look ! 30 refl) (stop !)))) (from ! (stop !)) (init ! 8 refl (tt, tt)) $
-        move ! (3 ∷ []) $ use1 W (‵ (ShrSlice (named 0) κ₀ T.the-row .own p (vp ∷ [])) ⊛ ‵ (ShrSlice (named 0) κ₀ T.the-row .own p (vp ∷ []))) (shr-slice-copy 𝓤 H A W (named 0) κ₀ T.the-row .twice p (vp ∷ [])) $ split ! $ move ! (3 ∷ []) $ use1 W (‵ (ShrSlice (named 1) κ₁ u16 .own c (vc ∷ [])) ⊛ ‵ (ShrSlice (named 1) κ₁ u16 .own c (vc ∷ []))) (shr-slice-copy 𝓤 H A W (named 1) κ₁ u16 .twice c (vc ∷ [])) $ split ! $ move ! (5 ∷ 4 ∷ 6 ∷ []) $ group ! 3 $ move ! (0 ∷ 3 ∷ 1 ∷ 7 ∷ 6 ∷ 5 ∷ []) $ group ! 6 $ use1 W (raw (Looped 𝓤 H A mem run .pre (to-loop x))) (goes-loop x (upto-fits x is-x) (walk-asks st (listed ys) pr grant src (record { work = ws; residuals = rs }) v e₀ x e₁)) $
+        move ! (3 ∷ []) $ use1 W (‵ (ShrSlice (named 0) κ₀ T.the-row .own p (vp ∷ [])) ⊛ ‵ (ShrSlice (named 0) κ₀ T.the-row .own p (vp ∷ []))) (shr-slice-copy 𝓤 H A W (named 0) κ₀ T.the-row .twice p (vp ∷ [])) $ split ! $ move ! (3 ∷ []) $ use1 W (‵ (ShrSlice (named 1) κ₁ u16 .own c (vc ∷ [])) ⊛ ‵ (ShrSlice (named 1) κ₁ u16 .own c (vc ∷ []))) (shr-slice-copy 𝓤 H A W (named 1) κ₁ u16 .twice c (vc ∷ [])) $ split ! $ move ! (5 ∷ 4 ∷ 6 ∷ []) $ group ! 3 $ move ! (0 ∷ 3 ∷ 1 ∷ 7 ∷ 6 ∷ 5 ∷ []) $ group ! 6 $ use1 W (raw (Looped 𝓤 H A mem run .pre (to-loop x))) (goes-loop x (upto-fits x is-x) (walk-asks st (listed ys) scratchTables pr grant src (record { work = ws; residuals = rs }) v e₀ x e₁)) $
         calls-at ! fm (Looped 𝓤 H A mem run) known-loop (to-loop x) (and-then ! (load ! (from ! (stop !)) (look ! 35 refl)) (and-then ! (load ! (from ! (stop !)) (look ! 33 refl)) (and-then ! (load ! (from ! (stop !)) (look ! 31 refl)) (and-then ! (load ! (from ! (stop !)) (look ! 9 refl)) (and-then ! (load ! (from ! (stop !)) (look ! 5 refl)) (and-then ! (load ! (from ! (stop !)) (look ! 3 refl)) (and-then ! (load ! (from ! (fld ! refl (stop !))) (look-in ! 37 (sub ! 0 refl (whole !)))) (and-then ! (load ! (from ! (fld ! refl (stop !))) (look-in ! 19 (sub ! 1 refl (whole !)))) (no-more !))))))))) (λ u.
         use1 W (later (some (λ (r : ℕ). (Toks ⊛ ‵ (usize .own r (u ∷ []))) ⊛ raw (ensured 𝓤 H A lop.ended (lop.clauses 𝓤 H A mem run) (κ₀, (κ₁, (κ₂, (κ₃, (κₛ, tt))))) (args x) tt r)))) (id⊢ 𝓤 _) $ await ! tt $ pick ! (λ r.
         split ! $ move ! (1 ∷ []) $ use1 W (some (λ (zs : Lasts). ‵ (lasts lop.ended (κ₀, (κ₁, (κ₂, (κ₃, (κₛ, tt))))) (args x) zs) ⊛ raw (fact 𝓤 (((record { work = (zs .1 .1 .1 .0); residuals = (zs .1 .1 .1 .1 .0) }) ≡ units (walkUnit st (listed ys .block) src) (pr .done) (x .upto - pr .done) (record { work = ws; residuals = rs })) × (x .upto ≡ 0 → (zs .1 .1 .1 .1 .1 .0) ≡ h₀))))) (id⊢ 𝓤 _) $ pick ! (λ zs. split ! $ move ! (1 ∷ []) $ heard ! (((record { work = (zs .1 .1 .1 .0); residuals = (zs .1 .1 .1 .1 .0) }) ≡ units (walkUnit st (listed ys .block) src) (pr .done) (x .upto - pr .done) (record { work = ws; residuals = rs })) × (x .upto ≡ 0 → (zs .1 .1 .1 .1 .1 .0) ≡ h₀)) (λ e.
@@ -259,7 +260,7 @@ module _ {M : Type 1} (𝓤 : URA M) (H : Heap 𝓤) (A : Atoms 𝓤) (W : Given
         assigns ! (of-opd ! (load ! (from ! (fld ! refl (stop !))) (look-in ! 22 (sub ! 0 refl (whole !))))) (from ! (stop !)) (init ! 42 refl (LL.lawful E.the-type E′.the-laws 𝓤 H A W .typed (x .answer) _ (is-answer x is-x) .0)) $
         returns ! (look ! 42 refl) $ forget ! 6 refl $ forget ! 8 refl $ forget ! 10 refl $ forget ! 12 refl $ forget ! 14 refl $ forget ! 16 refl $ forget ! 18 refl $ forget ! 20 refl $ forget ! 22 refl $ forget ! 24 refl $ forget ! 26 refl $ forget ! 28 refl $ forget ! 30 refl $ forget ! 32 refl $ forget ! 34 refl $ forget ! 36 refl $ forget ! 38 refl $ forget ! 40 refl $ forget ! 42 refl $
         move ! (42 ∷ 43 ∷ []) $ free1 ! $ move ! (40 ∷ 41 ∷ []) $ free1 ! $ move ! (38 ∷ 39 ∷ []) $ free1 ! $ move ! (36 ∷ 37 ∷ []) $ free1 ! $ move ! (34 ∷ 35 ∷ []) $ free1 ! $ move ! (32 ∷ 33 ∷ []) $ free1 ! $ move ! (30 ∷ 31 ∷ []) $ free1 ! $ move ! (28 ∷ 29 ∷ []) $ free1 ! $ move ! (26 ∷ 27 ∷ []) $ free1 ! $ move ! (24 ∷ 25 ∷ []) $ free1 ! $ move ! (22 ∷ 23 ∷ []) $ free1 ! $ move ! (20 ∷ 21 ∷ []) $ free1 ! $ move ! (18 ∷ 19 ∷ []) $ free1 ! $ move ! (16 ∷ 17 ∷ []) $ free1 ! $ move ! (14 ∷ 15 ∷ []) $ free1 ! $ move ! (12 ∷ 13 ∷ []) $ free1 ! $ move ! (10 ∷ 11 ∷ []) $ free1 ! $ move ! (8 ∷ 9 ∷ []) $ free1 ! $ move ! (6 ∷ 7 ∷ []) $ free1 ! $ free0 ! $
-        keep ! (0 ∷ 3 ∷ 2 ∷ 1 ∷ 4 ∷ 5 ∷ []) $ by ! (exits (x .answer) (record { work = (zs .1 .1 .1 .0); residuals = (zs .1 .1 .1 .1 .0) }) (zs .1 .1 .1 .1 .1 .0) (is-answer x is-x) (walk-ends st (listed ys) pr grant src (record { work = ws; residuals = rs }) v e₀ x e₁ (record { work = (zs .1 .1 .1 .0); residuals = (zs .1 .1 .1 .1 .0) }) (e .0) h₀ (zs .1 .1 .1 .1 .1 .0) (e .1)) e₂ e₃)))))))))))))))))))))))))))))))))))))
+        keep ! (0 ∷ 3 ∷ 2 ∷ 1 ∷ 4 ∷ 5 ∷ []) $ by ! (exits (x .answer) (record { work = (zs .1 .1 .1 .0); residuals = (zs .1 .1 .1 .1 .0) }) (zs .1 .1 .1 .1 .1 .0) (is-answer x is-x) (walk-ends st (listed ys) scratchTables pr grant src (record { work = ws; residuals = rs }) v e₀ x e₁ (record { work = (zs .1 .1 .1 .0); residuals = (zs .1 .1 .1 .1 .0) }) (e .0) (e .1)) e₂ e₃)))))))))))))))))))))))))))))))))))))
 
 module _ {M : Type 1} (𝓤 : URA M) (H : Heap 𝓤) (A : Atoms 𝓤) (W : Given 𝓤 H A) (mem : Memory → SProp 𝓤) (run : Routine → Fun 𝓤) where
   walks : (C : Calls 𝓤 H) (Λ : Loops 𝓤 H) → FmC 𝓤 H (W .laws) C → Triple 𝓤 (C #plan·check-plan) (Check 𝓤 H A mem run) → Triple 𝓤 (C #walk·walk-call) (Calling 𝓤 H A mem run) → Triple 𝓤 (C #walk·walk-listed) (Looped 𝓤 H A mem run) → Walks 𝓤 H A f.ended stayed (WpFn 𝓤 H C Λ code.function) (f.clauses 𝓤 H A mem run)
