@@ -25,20 +25,13 @@ use Rattle.refs.specs.declared.Gathered.{Gathered}
 use Rattle.refs.specs.declared.GatheredPair.{GatheredPair}
 use Rattle.refs.specs.declared.ChromaRefGeometry.{ChromaRefGeometry}
 use Rattle.refs.specs.Door as gather
-use Rattle.plan.specs.declared.Verdict.{Verdict}
-use Rattle.plan.specs.Plan.{planOf}
-use Rattle.plan.specs.Check.{planVerdict}
-use Rattle.still.specs.declared.Still.{Still}
-use Rattle.walk.specs.declared.Stepped.{Stepped}
 use Rattle.probes.specs.declared.Answer.{Answer}
 use Rattle.probes.specs.declared.PairReferences.{PairReferences}
-use Rattle.probes.specs.declared.PlanAnswer.{PlanAnswer}
 use Rattle.probes.specs.declared.DepthFigures.{DepthFigures}
 use Rattle.probes.specs.declared.FormatFigures.{FormatFigures}
 use Rattle.probes.specs.declared.Place.{Place}
 use Rattle.probes.specs.declared.TwoRows.{TwoRows}
 use Rattle.probes.specs.declared.References.{References}
-use Rattle.probes.specs.declared.StepAnswer.{StepAnswer}
 
 -- a depth's figures; a refusal is number 1 and zeros
 abbrev pub figuresOf : DepthFrom → DepthFigures
@@ -140,17 +133,3 @@ gatherAnswer plane bits picture row col n =
 
 abbrev pub pairAnswer : List ℕ → List ℕ → ChromaRefGeometry → PairReferences
 pairAnswer cb cr geo = pairOf (gather.chromaDoor cb cr geo)
-
--- a plan's verdict
-abbrev pub verdictOf : Verdict → PlanAnswer
-verdictOf v = record { no = v .no; block = v .block }
-
-abbrev pub planAnswer : ℕ → ℕ → ℕ → List (List ℕ) → PlanAnswer
-planAnswer width height ctu plan = verdictOf (planVerdict (record { width = width; height = height; ctu = ctu }) (planOf plan))
-
--- a still as bare numbers, and what a call of walk or replay gives
-abbrev pub stillOf : ℕ → ℕ → ℕ → ℕ → Still
-stillOf bits width height ctu = record { bits = bits; frame = record { width = width; height = height; ctu = ctu } }
-
-abbrev pub stepOf : Stepped → StepAnswer
-stepOf a = record { no = a .no; block = a .block; did = a .did; done = a .next .done }

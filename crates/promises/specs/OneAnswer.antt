@@ -104,7 +104,7 @@ use Rattle.probes.proofs.salvrunde_probe_filter_luma_refs.Reads as probes-salvr
 use Rattle.probes.proofs.salvrunde_probe_substitute_refs.Reads as probes-salvrunde-probe-substitute-refs
 use Rattle.probes.proofs.salvrunde_probe_get_reference_samples.Reads as probes-salvrunde-probe-get-reference-samples
 use Rattle.probes.proofs.salvrunde_probe_get_reference_samples_chroma_pair.Reads as probes-salvrunde-probe-get-reference-samples-chroma-pair
-use Rattle.probes.proofs.salvrunde_probe_check_plan.Reads as probes-salvrunde-probe-check-plan
+use Rattle.walk_probes.proofs.salvrunde_probe_check_plan.Reads as walk-probes-salvrunde-probe-check-plan
 use Rattle.flat.proofs.predict_planar_into.Reads as flat-predict-planar-into
 use Rattle.flat.proofs.predict_dc_into.Reads as flat-predict-dc-into
 use Rattle.flat.proofs.planar_2n.Reads as flat-planar-2n
@@ -132,10 +132,10 @@ use Rattle.probes.proofs.salvrunde_probe_predict_chroma_tb_scratch.Reads as pro
 use Rattle.probes.proofs.salvrunde_probe_predict_luma_tb_scratch.Reads as probes-salvrunde-probe-predict-luma-tb-scratch
 use Rattle.probes.proofs.salvrunde_probe_compute_residual_i32_into.Reads as probes-salvrunde-probe-compute-residual-i32-into
 use Rattle.probes.proofs.salvrunde_probe_reconstruct_into.Reads as probes-salvrunde-probe-reconstruct-into
-use Rattle.probes.proofs.salvrunde_probe_walk.Reads as probes-salvrunde-probe-walk
-use Rattle.probes.proofs.salvrunde_probe_replay.Reads as probes-salvrunde-probe-replay
-use Rattle.probes.proofs.salvrunde_probe_walk_records as probes-salvrunde-probe-walk-records
-use Rattle.probes.proofs.salvrunde_probe_replay_records as probes-salvrunde-probe-replay-records
+use Rattle.walk_probes.proofs.salvrunde_probe_walk.Reads as walk-probes-salvrunde-probe-walk
+use Rattle.walk_probes.proofs.salvrunde_probe_replay.Reads as walk-probes-salvrunde-probe-replay
+use Rattle.walk_probes.proofs.salvrunde_probe_walk_records as walk-probes-salvrunde-probe-walk-records
+use Rattle.walk_probes.proofs.salvrunde_probe_replay_records as walk-probes-salvrunde-probe-replay-records
 use Rattle.byte_predict.proofs.planar.Reads as byte-predict-planar
 use Rattle.byte_predict.proofs.dc.Reads as byte-predict-dc
 use Rattle.byte_predict.proofs.angular.Reads as byte-predict-angular
@@ -433,8 +433,8 @@ probes-salvrunde-probe-get-reference-samples-once κs a x y s t p q = p ∙ sym 
 probes-salvrunde-probe-get-reference-samples-chroma-pair-once : (κs : Lfts 2) → Once (probes-salvrunde-probe-get-reference-samples-chroma-pair.Post κs)
 probes-salvrunde-probe-get-reference-samples-chroma-pair-once κs a x y s t p q = p ∙ sym q
 
-probes-salvrunde-probe-check-plan-once : (κs : Lfts 1) → Once (probes-salvrunde-probe-check-plan.Post κs)
-probes-salvrunde-probe-check-plan-once κs a x y s t p q = p ∙ sym q
+walk-probes-salvrunde-probe-check-plan-once : (κs : Lfts 1) → Once (walk-probes-salvrunde-probe-check-plan.Post κs)
+walk-probes-salvrunde-probe-check-plan-once κs a x y s t p q = p ∙ sym q
 
 -- flat
 flat-predict-planar-into-once : (κs : Lfts 3) → OnceLeft (λ s. now (s .1 .1 .1 .0)) (flat-predict-planar-into.Post κs)
@@ -514,11 +514,11 @@ probes-salvrunde-probe-compute-residual-i32-into-once κs a x y s t p q = (p .0 
 probes-salvrunde-probe-reconstruct-into-once : (κs : Lfts 3) → OnceLeft (λ s. now (s .1 .1 .1 .1 .0)) (probes-salvrunde-probe-reconstruct-into.Post κs)
 probes-salvrunde-probe-reconstruct-into-once κs a x y s t p q = (p .0 ∙ sym (q .0), p .1 ∙ sym (q .1))
 
-probes-salvrunde-probe-walk-once : (κs : Lfts 7) → OnceLeft {L = World} (λ s. record { work = now (s .1 .1 .1 .1 .1 .1 .1 .0); residuals = now (s .1 .1 .1 .1 .1 .1 .1 .1 .0) }) (probes-salvrunde-probe-walk.Post κs)
-probes-salvrunde-probe-walk-once κs a x y s t p q = (p .0 ∙ sym (q .0), p .1 .0 ∙ sym (q .1 .0))
+walk-probes-salvrunde-probe-walk-once : (κs : Lfts 7) → OnceLeft {L = World} (λ s. record { work = now (s .1 .1 .1 .1 .1 .1 .1 .0); residuals = now (s .1 .1 .1 .1 .1 .1 .1 .1 .0) }) (walk-probes-salvrunde-probe-walk.Post κs)
+walk-probes-salvrunde-probe-walk-once κs a x y s t p q = (p .0 ∙ sym (q .0), p .1 .0 ∙ sym (q .1 .0))
 
-probes-salvrunde-probe-replay-once : (κs : Lfts 6) → OnceLeft (λ s. now (s .1 .1 .1 .1 .1 .1 .1 .0)) (probes-salvrunde-probe-replay.Post κs)
-probes-salvrunde-probe-replay-once κs a x y s t p q = (p .0 ∙ sym (q .0), p .1 .0 ∙ sym (q .1 .0))
+walk-probes-salvrunde-probe-replay-once : (κs : Lfts 6) → OnceLeft (λ s. now (s .1 .1 .1 .1 .1 .1 .1 .0)) (walk-probes-salvrunde-probe-replay.Post κs)
+walk-probes-salvrunde-probe-replay-once κs a x y s t p q = (p .0 ∙ sym (q .0), p .1 .0 ∙ sym (q .1 .0))
 
 -- byte_replay
 by-after : {x y : ℕ} {d e f g : List ℕ} {a : After} → _≡_ {A = After} (record { number = x; plane = d; result = f }) a → _≡_ {A = After} (record { number = y; plane = e; result = g }) a
@@ -608,8 +608,8 @@ module _ {M : Type 1} (𝓤 : URA M) (H : Heap 𝓤) (A : Atoms 𝓤) (mem : Mem
   walk-walk-once κs a g x y s t = held-both _ _ _ (λ p q. (p .0 ∙ sym (q .0), p .1 .0 ∙ sym (q .1 .0)))
 
   -- probes
-  probes-salvrunde-probe-replay-records-once : (κs : Lfts 4) → OnceHeld probes-salvrunde-probe-replay-records.ended κs (λ s. now (s .1 .1 .1 .1 .1 .1 .1 .0)) (probes-salvrunde-probe-replay-records.clauses 𝓤 H A mem run)
-  probes-salvrunde-probe-replay-records-once κs a g x y s t = held-both _ _ _ (λ p q. (p .0 ∙ sym (q .0), p .1 .0 ∙ sym (q .1 .0)))
+  walk-probes-salvrunde-probe-replay-records-once : (κs : Lfts 4) → OnceHeld walk-probes-salvrunde-probe-replay-records.ended κs (λ s. now (s .1 .1 .1 .1 .1 .1 .1 .0)) (walk-probes-salvrunde-probe-replay-records.clauses 𝓤 H A mem run)
+  walk-probes-salvrunde-probe-replay-records-once κs a g x y s t = held-both _ _ _ (λ p q. (p .0 ∙ sym (q .0), p .1 .0 ∙ sym (q .1 .0)))
 
-  probes-salvrunde-probe-walk-records-once : (κs : Lfts 5) → OnceHeld probes-salvrunde-probe-walk-records.ended κs {L = World} (λ s. record { work = now (s .1 .1 .1 .1 .1 .1 .1 .0); residuals = now (s .1 .1 .1 .1 .1 .1 .1 .1 .0) }) (probes-salvrunde-probe-walk-records.clauses 𝓤 H A mem run)
-  probes-salvrunde-probe-walk-records-once κs a g x y s t = held-both _ _ _ (λ p q. (p .0 ∙ sym (q .0), p .1 .0 ∙ sym (q .1 .0)))
+  walk-probes-salvrunde-probe-walk-records-once : (κs : Lfts 5) → OnceHeld walk-probes-salvrunde-probe-walk-records.ended κs {L = World} (λ s. record { work = now (s .1 .1 .1 .1 .1 .1 .1 .0); residuals = now (s .1 .1 .1 .1 .1 .1 .1 .1 .0) }) (walk-probes-salvrunde-probe-walk-records.clauses 𝓤 H A mem run)
+  walk-probes-salvrunde-probe-walk-records-once κs a g x y s t = held-both _ _ _ (λ p q. (p .0 ∙ sym (q .0), p .1 .0 ∙ sym (q .1 .0)))

@@ -1,4 +1,4 @@
--- `probes::salvrunde_probe_replay_records` meets its contract: a walk of its MIR, by hand. It makes the record and the still, hands all on to `walk::Progress::replay`, and gives its answer as numbers. Assumes nothing.
+-- `walk_probes::salvrunde_probe_replay_records` meets its contract: a walk of its MIR, by hand. It makes the record and the still, hands all on to `walk::Progress::replay`, and gives its answer as numbers. Assumes nothing.
 use mathlib.Core.Path.{_≡_, refl, sym, ap, _∙_, subst}
 use Prim.Native.Nat.{ℕ, _<_, _^_}
 use mathlib.Core.List.{List, [], _∷_}
@@ -57,26 +57,26 @@ use Rattle.walk.proofs.Progress.replay as dor
 use Rattle.walk.proofs.Progress.replay.Symbol as dor-def
 use Rattle.walk.proofs.Progress.replay.Symbol.{name as #walk·Progress·replay}
 use Rattle.walk.proofs.Progress.replay.Met as dor-thm
-use Rattle.probes.specs.declared.StepAnswer.{StepAnswer}
-use Rattle.probes.specs.Probes.{stillOf, stepOf}
-use Rattle.probes.proofs.StepAnswer as Y
-use Rattle.probes.proofs.StepAnswer.Laws as Y′
-use Rattle.probes.proofs.progress_of as mkp
-use Rattle.probes.proofs.progress_of.Symbol as mkp-def
-use Rattle.probes.proofs.progress_of.Symbol.{name as #probes·progress-of}
-use Rattle.probes.proofs.progress_of.Met as mkp-thm
-use Rattle.probes.proofs.still_of as mks
-use Rattle.probes.proofs.still_of.Symbol as mks-def
-use Rattle.probes.proofs.still_of.Symbol.{name as #probes·still-of}
-use Rattle.probes.proofs.still_of.Met as mks-thm
-use Rattle.probes.proofs.step_answer as ans
-use Rattle.probes.proofs.step_answer.Symbol as ans-def
-use Rattle.probes.proofs.step_answer.Symbol.{name as #probes·step-answer}
-use Rattle.probes.proofs.step_answer.Met as ans-thm
-use Rattle.probes.proofs.salvrunde_probe_replay_records.Key.{name as #probes·salvrunde-probe-replay-records}
-use Rattle.probes.proofs.salvrunde_probe_replay_records as f
-use Rattle.probes.proofs.salvrunde_probe_replay_records.Statement as stated
-use Rattle.probes.proofs.salvrunde_probe_replay_records.Code as code
+use Rattle.walk_probes.specs.declared.StepAnswer.{StepAnswer}
+use Rattle.walk_probes.specs.Probes.{stillOf, stepOf}
+use Rattle.walk_probes.proofs.StepAnswer as Y
+use Rattle.walk_probes.proofs.StepAnswer.Laws as Y′
+use Rattle.walk_probes.proofs.progress_of as mkp
+use Rattle.walk_probes.proofs.progress_of.Symbol as mkp-def
+use Rattle.walk_probes.proofs.progress_of.Symbol.{name as #walk-probes·progress-of}
+use Rattle.walk_probes.proofs.progress_of.Met as mkp-thm
+use Rattle.walk_probes.proofs.still_of as mks
+use Rattle.walk_probes.proofs.still_of.Symbol as mks-def
+use Rattle.walk_probes.proofs.still_of.Symbol.{name as #walk-probes·still-of}
+use Rattle.walk_probes.proofs.still_of.Met as mks-thm
+use Rattle.walk_probes.proofs.step_answer as ans
+use Rattle.walk_probes.proofs.step_answer.Symbol as ans-def
+use Rattle.walk_probes.proofs.step_answer.Symbol.{name as #walk-probes·step-answer}
+use Rattle.walk_probes.proofs.step_answer.Met as ans-thm
+use Rattle.walk_probes.proofs.salvrunde_probe_replay_records.Key.{name as #walk-probes·salvrunde-probe-replay-records}
+use Rattle.walk_probes.proofs.salvrunde_probe_replay_records as f
+use Rattle.walk_probes.proofs.salvrunde_probe_replay_records.Statement as stated
+use Rattle.walk_probes.proofs.salvrunde_probe_replay_records.Code as code
 
 abbrev stayed : Stays (f.ended .signature .params) (f.ended .kept)
 stayed = (stay-none (λ _. u32) yes, (stay-none (λ _. u32) yes, (stay-none (λ _. u32) yes, (stay-none (λ _. u32) yes, (stay-none (λ _. u32) yes, (stay-none-slice (0 ∷ []) tt (plain (λ _. T.the-row)) yes, (stay-none-slice (1 ∷ []) tt (plain (λ _. i32)) yes, (gave-slice (2 ∷ []) tt (plain (λ _. u16)), (gave-ref (3 ∷ []) tt (plain (λ _. G.the-row)), (stay-none (λ _. u32) yes, tt))))))))))
@@ -205,7 +205,7 @@ module _ {M : Type 1} (𝓤 : URA M) (H : Heap 𝓤) (A : Atoms 𝓤) (W : Given
   told-of : (x : Stepped) (r : StepAnswer) → ent 𝓤 (ensured 𝓤 H A ans.ended (ans.clauses 𝓤 H A mem run) tt (x, tt) tt r) (fact 𝓤 (r ≡ stepOf x))
   told-of x r = exE 𝓤 _ (λ zs. snd∗ 𝓤 (sem 𝓤 H A (lasts ans.ended tt (x, tt) zs)) (fact 𝓤 (r ≡ stepOf x)))
 
-  module _ (C : Calls 𝓤 H) (Λ : Loops 𝓤 H) (fm : FmC 𝓤 H (W .laws) C) (known-record : Triple 𝓤 (C #probes·progress-of) (Record 𝓤 H A mem run)) (known-picture : Triple 𝓤 (C #probes·still-of) (Picture 𝓤 H A mem run)) (known-door : Triple 𝓤 (C #walk·Progress·replay) (Door 𝓤 H A mem run)) (known-told : Triple 𝓤 (C #probes·step-answer) (Told 𝓤 H A mem run)) where
+  module _ (C : Calls 𝓤 H) (Λ : Loops 𝓤 H) (fm : FmC 𝓤 H (W .laws) C) (known-record : Triple 𝓤 (C #walk-probes·progress-of) (Record 𝓤 H A mem run)) (known-picture : Triple 𝓤 (C #walk-probes·still-of) (Picture 𝓤 H A mem run)) (known-door : Triple 𝓤 (C #walk·Progress·replay) (Door 𝓤 H A mem run)) (known-told : Triple 𝓤 (C #walk-probes·step-answer) (Told 𝓤 H A mem run)) where
     walk : ent 𝓤 (onEntry 𝓤 H A f.signature (κ₀, (κ₁, (κ₂, (κₛ, tt)))) (q₀, (q₁, (q₂, (qₛ, tt)))) a vals) (WpFn 𝓤 H C Λ code.function (vint w32 done ∷ vint w32 bits ∷ vint w32 width ∷ vint w32 height ∷ vint w32 ctu ∷ vp ∷ vc ∷ vm₂ ∷ vptr b o ∷ vint w32 grant ∷ []) Post)
     walk =
         qed W (Toks ∷ ‵ (owns (u32 ∷ u32 ∷ u32 ∷ u32 ∷ u32 ∷ ShrSlice (named 0) κ₀ T.the-row ∷ ShrSlice (named 1) κ₁ i32 ∷ MutSlice (named 2) κ₂ u16 ∷ MutRef (named 3) κₛ G.the-row ∷ u32 ∷ []) a vals) ∷ []) ∵ enter ! C Λ code.function (vint w32 done ∷ vint w32 bits ∷ vint w32 width ∷ vint w32 height ∷ vint w32 ctu ∷ vp ∷ vc ∷ vm₂ ∷ vptr b o ∷ vint w32 grant ∷ []) _ $
@@ -242,14 +242,14 @@ module _ {M : Type 1} (𝓤 : URA M) (H : Heap 𝓤) (A : Atoms 𝓤) (W : Given
         keep ! (1 ∷ 3 ∷ 2 ∷ 4 ∷ 5 ∷ 0 ∷ []) $ by ! (exits r u (zs .1 .1 .1 .1 .0) (zs .1 .1 .1 .1 .1 .0) (ends pr st x r (zs .1 .1 .1 .1 .0) (zs .1 .1 .1 .1 .1 .0) e₀ e₁ e e₄) e₂)))))))))))))))))))))))))))))))))))))))
 
 module _ {M : Type 1} (𝓤 : URA M) (H : Heap 𝓤) (A : Atoms 𝓤) (W : Given 𝓤 H A) (mem : Memory → SProp 𝓤) (run : Routine → Fun 𝓤) where
-  walks : (C : Calls 𝓤 H) (Λ : Loops 𝓤 H) → FmC 𝓤 H (W .laws) C → Triple 𝓤 (C #probes·progress-of) (Record 𝓤 H A mem run) → Triple 𝓤 (C #probes·still-of) (Picture 𝓤 H A mem run) → Triple 𝓤 (C #walk·Progress·replay) (Door 𝓤 H A mem run) → Triple 𝓤 (C #probes·step-answer) (Told 𝓤 H A mem run) → Walks 𝓤 H A f.ended stayed (WpFn 𝓤 H C Λ code.function) (f.clauses 𝓤 H A mem run)
+  walks : (C : Calls 𝓤 H) (Λ : Loops 𝓤 H) → FmC 𝓤 H (W .laws) C → Triple 𝓤 (C #walk-probes·progress-of) (Record 𝓤 H A mem run) → Triple 𝓤 (C #walk-probes·still-of) (Picture 𝓤 H A mem run) → Triple 𝓤 (C #walk·Progress·replay) (Door 𝓤 H A mem run) → Triple 𝓤 (C #walk-probes·step-answer) (Told 𝓤 H A mem run) → Walks 𝓤 H A f.ended stayed (WpFn 𝓤 H C Λ code.function) (f.clauses 𝓤 H A mem run)
   walks C Λ fm known-record known-picture known-door known-told = walked 𝓤 H A f.ended stayed (f.clauses 𝓤 H A mem run) (WpFn 𝓤 H C Λ code.function)
       (λ κs. (uint-vals w32, (uint-vals w32, (uint-vals w32, (uint-vals w32, (uint-vals w32, (slice-vals, (slice-vals, (slice-vals, (ptr-vals, (uint-vals w32, tt)))))))))))
       (λ κs. (uint-tells w32, (uint-tells w32, (uint-tells w32, (uint-tells w32, (uint-tells w32, (shr-slice-tells (named 0) (κs .0) T.the-row, (shr-slice-tells (named 1) (κs .1 .0) i32, (mut-slice-tells (named 2) (κs .1 .1 .0) u16, (mut-tells (named 3) (κs .1 .1 .1 .0) G.the-row, (uint-tells w32, tt)))))))))))
       (λ κs qs bounds a g are. via 𝓤 _ (fst∗ 𝓤 _ (emp 𝓤))
       (walk 𝓤 H A W mem run (κs .0) (κs .1 .0) (κs .1 .1 .0) (κs .1 .1 .1 .0) (qs .0) (qs .1 .0) (qs .1 .1 .0) (qs .1 .1 .1 .0) (a .0) (a .1 .0) (a .1 .1 .0) (a .1 .1 .1 .0) (a .1 .1 .1 .1 .0) (a .1 .1 .1 .1 .1 .0 .ptr .0) (a .1 .1 .1 .1 .1 .0 .ptr .1) (a .1 .1 .1 .1 .1 .0 .name) (a .1 .1 .1 .1 .1 .0 .now) (a .1 .1 .1 .1 .1 .1 .0 .ptr .0) (a .1 .1 .1 .1 .1 .1 .0 .ptr .1) (a .1 .1 .1 .1 .1 .1 .0 .name) (a .1 .1 .1 .1 .1 .1 .0 .now) (a .1 .1 .1 .1 .1 .1 .1 .0 .ptr .0) (a .1 .1 .1 .1 .1 .1 .1 .0 .ptr .1) (a .1 .1 .1 .1 .1 .1 .1 .0 .name) (a .1 .1 .1 .1 .1 .1 .1 .0 .now) (a .1 .1 .1 .1 .1 .1 .1 .1 .0 .ptr .0) (a .1 .1 .1 .1 .1 .1 .1 .1 .0 .ptr .1) (a .1 .1 .1 .1 .1 .1 .1 .1 .0 .name) (a .1 .1 .1 .1 .1 .1 .1 .1 .0 .now) (a .1 .1 .1 .1 .1 .1 .1 .1 .1 .0) (are .0 .1) (are .1 .0 .1) (are .1 .1 .0 .1) (are .1 .1 .1 .0 .1) (are .1 .1 .1 .1 .0 .1) (are .1 .1 .1 .1 .1 .0 .0 .1) (are .1 .1 .1 .1 .1 .1 .0 .0 .1) (are .1 .1 .1 .1 .1 .1 .1 .0 .0 .1) (are .1 .1 .1 .1 .1 .1 .1 .1 .1 .0 .1) C Λ fm known-record known-picture known-door known-told))
 
-meets : {M : Type 1} (𝓤 : URA M) (H : Heap 𝓤) (A : Atoms 𝓤) → Given 𝓤 H A → (mem : Memory → SProp 𝓤) (run : Routine → Fun 𝓤) (𝓣 : Tables 𝓤 H) → Triple 𝓤 (𝓣 .C #probes·progress-of) (Record 𝓤 H A mem run) → Triple 𝓤 (𝓣 .C #probes·still-of) (Picture 𝓤 H A mem run) → Triple 𝓤 (𝓣 .C #walk·Progress·replay) (Door 𝓤 H A mem run) → Triple 𝓤 (𝓣 .C #probes·step-answer) (Told 𝓤 H A mem run)
+meets : {M : Type 1} (𝓤 : URA M) (H : Heap 𝓤) (A : Atoms 𝓤) → Given 𝓤 H A → (mem : Memory → SProp 𝓤) (run : Routine → Fun 𝓤) (𝓣 : Tables 𝓤 H) → Triple 𝓤 (𝓣 .C #walk-probes·progress-of) (Record 𝓤 H A mem run) → Triple 𝓤 (𝓣 .C #walk-probes·still-of) (Picture 𝓤 H A mem run) → Triple 𝓤 (𝓣 .C #walk·Progress·replay) (Door 𝓤 H A mem run) → Triple 𝓤 (𝓣 .C #walk-probes·step-answer) (Told 𝓤 H A mem run)
     → Meets 𝓤 H A f.signature (WpFn 𝓤 H (𝓣 .C) (𝓣 .Λ) code.function) (f.spec 𝓤 H A mem run)
 meets 𝓤 H A W mem run 𝓣 known-record known-picture known-door known-told = walk-meets 𝓤 H A f.ended stayed W (goes-none 𝓤 H A W 4 (λ _. u32) yes (λ κs x f. refl), (goes-none 𝓤 H A W 4 (λ _. u32) yes (λ κs x f. refl), (goes-none 𝓤 H A W 4 (λ _. u32) yes (λ κs x f. refl), (goes-none 𝓤 H A W 4 (λ _. u32) yes (λ κs x f. refl), (goes-none 𝓤 H A W 4 (λ _. u32) yes (λ κs x f. refl), (goes-none-slice 𝓤 H A W 4 (0 ∷ []) tt (plain (λ _. T.the-row)) yes, (goes-none-slice 𝓤 H A W 4 (1 ∷ []) tt (plain (λ _. i32)) yes, (goes-gave-slice 𝓤 H A W 4 2 tt (plain (λ _. u16)), (goes-gave-ref 𝓤 H A W 4 3 tt (plain (λ _. G.the-row)), (goes-none 𝓤 H A W 4 (λ _. u32) yes (λ κs x f. refl), tt))))))))))
     (f.clauses 𝓤 H A mem run) (WpFn 𝓤 H (𝓣 .C) (𝓣 .Λ) code.function) (WpFn-mono 𝓤 H (W .laws) 𝓣 code.function) (walks 𝓤 H A W mem run (𝓣 .C) (𝓣 .Λ) (fmOf 𝓤 H (W .laws) 𝓣) known-record known-picture known-door known-told)
@@ -258,9 +258,9 @@ pub salvrunde-probe-replay-records-spec : {M : Type 1} → stated.statement M
 unfolding code.routine tablesOf
 salvrunde-probe-replay-records-spec 𝓤 H 𝓜 𝓖 𝓡 =
     entered 𝓤 H (tripleOf 𝓤 H (𝓖 .A) f.signature (f.spec 𝓤 H (𝓖 .A) (𝓜 .mem) (𝓡 .run)))
-    (tables 𝓤 H 𝓜 𝓡 code.env .C) (tables 𝓤 H 𝓜 𝓡 code.env .Λ) #probes·salvrunde-probe-replay-records code.function (code.unfolded 𝓤 H 𝓜 𝓡)
+    (tables 𝓤 H 𝓜 𝓡 code.env .C) (tables 𝓤 H 𝓜 𝓡 code.env .Λ) #walk-probes·salvrunde-probe-replay-records code.function (code.unfolded 𝓤 H 𝓜 𝓡)
     (meets 𝓤 H (𝓖 .A) (givenOf 𝓤 H 𝓜 𝓖) (𝓜 .mem) (𝓡 .run) (tablesOf 𝓤 H 𝓜 (tables 𝓤 H 𝓜 𝓡 code.env))
-    (cited 𝓤 H (Record 𝓤 H (𝓖 .A) (𝓜 .mem) (𝓡 .run)) 𝓜 𝓡 code.env #probes·progress-of mkp-def.routine code.calls-probes·progress-of (mkp-thm.met 𝓤 H 𝓜 𝓖 𝓡))
-    (cited 𝓤 H (Picture 𝓤 H (𝓖 .A) (𝓜 .mem) (𝓡 .run)) 𝓜 𝓡 code.env #probes·still-of mks-def.routine code.calls-probes·still-of (mks-thm.met 𝓤 H 𝓜 𝓖 𝓡))
+    (cited 𝓤 H (Record 𝓤 H (𝓖 .A) (𝓜 .mem) (𝓡 .run)) 𝓜 𝓡 code.env #walk-probes·progress-of mkp-def.routine code.calls-probes·progress-of (mkp-thm.met 𝓤 H 𝓜 𝓖 𝓡))
+    (cited 𝓤 H (Picture 𝓤 H (𝓖 .A) (𝓜 .mem) (𝓡 .run)) 𝓜 𝓡 code.env #walk-probes·still-of mks-def.routine code.calls-probes·still-of (mks-thm.met 𝓤 H 𝓜 𝓖 𝓡))
     (cited 𝓤 H (Door 𝓤 H (𝓖 .A) (𝓜 .mem) (𝓡 .run)) 𝓜 𝓡 code.env #walk·Progress·replay dor-def.routine code.calls-walk·Progress·replay (dor-thm.met 𝓤 H 𝓜 𝓖 𝓡))
-    (cited 𝓤 H (Told 𝓤 H (𝓖 .A) (𝓜 .mem) (𝓡 .run)) 𝓜 𝓡 code.env #probes·step-answer ans-def.routine code.calls-probes·step-answer (ans-thm.met 𝓤 H 𝓜 𝓖 𝓡)))
+    (cited 𝓤 H (Told 𝓤 H (𝓖 .A) (𝓜 .mem) (𝓡 .run)) 𝓜 𝓡 code.env #walk-probes·step-answer ans-def.routine code.calls-probes·step-answer (ans-thm.met 𝓤 H 𝓜 𝓖 𝓡)))

@@ -1,9 +1,9 @@
--- `probes::salvrunde_probe_walk` meets its contract: it hands over the door's answer.
+-- `walk_probes::salvrunde_probe_walk` meets its contract: it hands over the door's answer.
 use mathlib.Core.Path.{ap}
 use borrow.Author.Needs.{needs}
-use Rattle.probes.specs.Probes.{stepOf}
-use Rattle.probes.proofs.salvrunde_probe_walk.Statement.{statement}
-use Rattle.probes.proofs.salvrunde_probe_walk.Tie as tie
+use Rattle.walk_probes.specs.Probes.{stepOf}
+use Rattle.walk_probes.proofs.salvrunde_probe_walk.Statement.{statement}
+use Rattle.walk_probes.proofs.salvrunde_probe_walk.Tie as tie
 
 walk-numbers-requires : tie.Need-walk-numbers-requires
 walk-numbers-requires c κs = search needs

@@ -1,9 +1,9 @@
--- `probes::salvrunde_probe_check_plan` meets its contract: it hands over the door's answer.
+-- `walk_probes::salvrunde_probe_check_plan` meets its contract: it hands over the door's answer.
 use mathlib.Core.Path.{ap}
 use borrow.Author.Needs.{needs}
-use Rattle.probes.specs.Probes.{verdictOf}
-use Rattle.probes.proofs.salvrunde_probe_check_plan.Statement.{statement}
-use Rattle.probes.proofs.salvrunde_probe_check_plan.Tie as tie
+use Rattle.walk_probes.specs.Probes.{verdictOf}
+use Rattle.walk_probes.proofs.salvrunde_probe_check_plan.Statement.{statement}
+use Rattle.walk_probes.proofs.salvrunde_probe_check_plan.Tie as tie
 
 check-plan-numbers-requires : tie.Need-check-plan-numbers-requires
 check-plan-numbers-requires c κs = search needs

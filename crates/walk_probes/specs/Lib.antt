@@ -1,0 +1,2 @@
+-- Probes: the doors' answers as the plain numbers that the entries hand over.
+pub mod Probes
