@@ -1,6 +1,6 @@
 -- `listing::same_run` meets its contract: the entries passed are the line's.
-use mathlib.Core.Path.{_≡_, refl, sym, ap, _∙_}
-use Prim.Native.Nat.{ℕ, _+_, _-_, _≤_}
+use mathlib.Core.Path.{_≡_, ap, _∙_}
+use Prim.Native.Nat.{_-_, _≤_}
 use native.Mathlib.Omega.{arith}
 use Rattle.listing.specs.Drawn.{sameFrom}
 use Rattle.listing.specs.Laws.{same-none, same-more}

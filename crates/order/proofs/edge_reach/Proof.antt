@@ -1,12 +1,7 @@
 -- `order::edge_reach` meets its contract: the line's count, with the group and the length worked out.
-use mathlib.Core.Path.{_≡_, ap, _∙_}
 use mathlib.Core.Logic.{⊎-elim}
-use Prim.Native.Nat.{ℕ, _+_, _*_, _<_}
 use native.Mathlib.Omega.{arith}
-use lib.Dec.{ltb}
 use Rattle.domain.specs.Facts.{size-small}
-use Rattle.order.specs.Reach.{leading}
-use Rattle.order.specs.Edges.{numberBy}
 use borrow.Author.Needs.{needs}
 use Rattle.order.proofs.edge_reach.Statement.{statement}
 use Rattle.order.proofs.edge_reach.Tie as tie

@@ -1,6 +1,6 @@
 -- `order::left_reach` meets its contract: the edge's count is that of the block's samples.
 use mathlib.Core.Path.{_∙_}
-use Prim.Native.Nat.{_-_, _*_, _<_}
+use Prim.Native.Nat.{_-_}
 use native.Mathlib.Omega.{arith}
 use Rattle.domain.specs.Facts.{size-small}
 use Rattle.order.specs.Walk.{row-span, col-span, left-none, left-edge, left-count}
