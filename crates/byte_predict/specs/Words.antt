@@ -8,7 +8,7 @@ use native.Mathlib.Omega.{arith}
 use lib.ListN.{length, getD, set}
 use Rattle.laws.specs.Fill.{fill}
 use Rattle.laws.specs.FillLaws.{fill-none, fill-more, fill-same, fill-at}
-use Rattle.laws.specs.Bytes.{byteOf, byte-at, byte-more}
+use Rattle.laws.specs.Bytes.{byteOf, byte-at}
 use Rattle.bytes.specs.Bytes.{le2, byte1, byte2, byte3, samplesOf}
 use Rattle.bytes.specs.Laws.{AreBytes, sample-at}
 
