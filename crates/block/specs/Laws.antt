@@ -86,7 +86,7 @@ stops true true false d e f h = refl
 stops true false c d e f h = refl
 stops false b c d e f h = refl
 
--- a test that holds whatever stands beside it
+-- tests that hold beside one change nothing
 beside : (a b c : Bool) → b ≡ true → c ≡ true → (a && b && c) ≡ a
 beside true b c p q = both-same p q
 beside false b c p q = refl
