@@ -23,7 +23,7 @@ use Rattle.order.specs.Order.{pictureOk}
 use Rattle.order.specs.Reach.{lumaPlaceOk}
 use Rattle.rows.specs.declared.Rows.{Rows}
 use Rattle.rows.specs.Neighbours.{neighboursOf}
-use Rattle.refs.specs.declared.Gathered.{Gathered}
+use Rattle.rows.specs.declared.Gathered.{Gathered}
 use Rattle.refs.specs.Door.{lumaNo, lumaBlock, lumaDoor, lumaRows}
 use Rattle.predict.specs.Door.{predictNo}
 use Rattle.plan.specs.declared.Block.{Block}

@@ -23,7 +23,7 @@ use Rattle.plan.specs.declared.Verdict.{Verdict}
 use Rattle.plan.specs.Plan.{pictureOf}
 use Rattle.plan.specs.Check.{planVerdict}
 use Rattle.plan.specs.Records.{recordsOf, wholeRecords, bytesVerdict}
-use Rattle.refs.specs.declared.Gathered.{Gathered}
+use Rattle.rows.specs.declared.Gathered.{Gathered}
 use Rattle.refs.specs.Door.{lumaDoor}
 use Rattle.predict.specs.Door.{predictNo}
 use Rattle.still.specs.declared.Still.{Still}

@@ -1,11 +1,15 @@
 -- Samples and residuals as bytes: how many there are, what each is, and how one is stored. Assumes nothing.
 use mathlib.Core.Path.{_≡_, refl, sym, ap, ap₂, _∙_}
+use mathlib.Core.Bool.{Bool, true, false, _&&_}
 use mathlib.Core.List.{List, [], _∷_}
 use Prim.Native.Nat.{ℕ, zero, suc, _+_, _*_, _/_, _%_, _≤_, _<_}
 use native.Mathlib.Nat.{mod-eq-of-lt}
 use native.Mathlib.Omega.{arith}
+use lib.Dec.{eqb}
 use lib.IntN.{ℤ, pos}
 use lib.ListN.{length, getD, set}
+use borrow.Author.Tests.{eq-eqb, eqb-true, eqb-false}
+use Rattle.laws.specs.Choose.{both-true, both-same}
 use Rattle.bytes.specs.Bytes.{le2, residual4, byte1, byte2, byte3, samplesOf, bytesOf, residualsOf, pairInto}
 
 -- every entry is a byte
@@ -123,3 +127,17 @@ pair-stored (a ∷ b ∷ c ∷ d ∷ []) v w k = absurd (omega arith)
 pair-stored (a ∷ b ∷ c ∷ d ∷ e ∷ []) v w k = absurd (omega arith)
 pair-stored (a ∷ b ∷ c ∷ d ∷ e ∷ f ∷ []) v w k = absurd (omega arith)
 pair-stored (a ∷ b ∷ c ∷ d ∷ e ∷ f ∷ g ∷ []) v w k = absurd (omega arith)
+
+-- an even count whose half is k is twice k
+pub halved : (len k : ℕ) → (eqb (len % 2) 0 && eqb (len / 2) k) ≡ eqb len (2 * k)
+halved len k = by (eqb len (2 * k)) refl (eqb (len % 2) 0 && eqb (len / 2) k) refl
+  where
+    by : (t : Bool) → eqb len (2 * k) ≡ t → (u : Bool) → (eqb (len % 2) 0 && eqb (len / 2) k) ≡ u → u ≡ t
+    by true e true h = refl
+    by false e false h = refl
+    by true e false h = let q = eqb-true len (2 * k) e in sym h ∙ both-same (eq-eqb (len % 2) 0 (omega arith)) (eq-eqb (len / 2) k (omega arith))
+    by false e true h =
+        let b = both-true (eqb (len % 2) 0) (eqb (len / 2) k) h in
+        let p = eqb-true (len % 2) 0 (b .0) in
+        let q = eqb-true (len / 2) k (b .1) in
+        absurd (eqb-false len (2 * k) e (omega arith))

@@ -2,6 +2,7 @@
 // Rests on nothing.
 ghost use mathlib.Core.Path.{_≡_};
 ghost use Prim.Native.Nat.{ℕ, _+_, _*_, _/_, _%_, _<_};
+ghost use lib.Dec.{eqb};
 ghost use mir.Syntax.{w32};
 ghost use mir.Val.{toZ};
 ghost use Rattle.bytes.specs.Bytes.{le2, le4, residual4, byte1, byte2, byte3};
@@ -18,6 +19,13 @@ pub fn sample(low: u8, high: u8) -> u16
     ensures { λ r. ⌜ r ≡ le2 low high ⌝ }
 {
     (wide(low) + 256 * wide(high)) as u16
+}
+
+// Whether bytes are as many as a plane of so many samples has. No product can pass the type's end.
+pub fn whole_in(bytes: usize, samples: usize) -> bool
+    ensures { λ r. ⌜ r ≡ eqb bytes (2 * samples) ⌝ }
+{
+    (bytes % 2 == 0) & (bytes / 2 == samples)
 }
 
 // The number of four bytes.

@@ -16,10 +16,10 @@ use Rattle.bytes.specs.Bytes.{samplesOf}
 use Rattle.camera.specs.Entries.{lumaEntryNo, chromaEntryNo}
 use Rattle.refs.specs.declared.LumaRefGeometry.{LumaRefGeometry}
 use Rattle.refs.specs.declared.ChromaRefGeometry.{ChromaRefGeometry}
-use Rattle.refs.specs.declared.Gathered.{Gathered}
+use Rattle.rows.specs.declared.Gathered.{Gathered}
 use Rattle.refs.specs.declared.GatheredPair.{GatheredPair}
-use Rattle.refs.specs.Substitution.{levelRows}
-use Rattle.refs.specs.Line.{told}
+use Rattle.substitution.specs.Substitution.{levelRows}
+use Rattle.substitution.specs.Line.{told}
 use Rattle.refs.specs.Door.{lumaBlock, lumaLength, lumaNumber, lumaRows, lumaBytesNo, lumaBytesDoor, chromaPicture, chromaBlock, chromaLength, chromaNumber, chromaRows, chromaBytesNo, chromaBytesDoor}
 
 -- a gather's number, told whether its buffer is long enough

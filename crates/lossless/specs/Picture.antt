@@ -24,7 +24,7 @@ use Rattle.rows.specs.declared.Rows.{Rows}
 use Rattle.rows.specs.Neighbours.{neighboursOf}
 use Rattle.refs.specs.Door.{lumaBlock, lumaRows}
 use Rattle.refs.specs.Gather.{sampleOf}
-use Rattle.refs.specs.Unread.{luma-unread}
+use Rattle.standard.specs.Unread.{luma-unread}
 use Rattle.plan.specs.declared.Block.{Block}
 use Rattle.plan.specs.Plan.{Of, cellAt, place}
 use Rattle.plan.specs.Cover.{apart, earlier, area}

@@ -20,8 +20,8 @@ use Rattle.smooth.specs.declared.FilteredRows.{FilteredRows}
 use Rattle.smooth.specs.declared.Smoothed.{Smoothed}
 use Rattle.smooth.specs.Smoothing.{ruleDoor, filterDoor, lumaDoor}
 use Rattle.rows.specs.declared.Rows.{Rows}
-use Rattle.refs.specs.declared.Flags.{Flags}
-use Rattle.refs.specs.declared.Gathered.{Gathered}
+use Rattle.substitution.specs.declared.Flags.{Flags}
+use Rattle.rows.specs.declared.Gathered.{Gathered}
 use Rattle.refs.specs.declared.GatheredPair.{GatheredPair}
 use Rattle.refs.specs.declared.ChromaRefGeometry.{ChromaRefGeometry}
 use Rattle.refs.specs.Door as gather

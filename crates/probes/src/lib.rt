@@ -33,7 +33,7 @@ use fmt::LumaRow;
 use order::LumaNeighbour;
 use order::Picture;
 use refs::ChromaRefGeometry;
-use refs::Flags;
+use substitution::Flags;
 use refs::LumaRefGeometry;
 use rows::Rows;
 
@@ -386,7 +386,7 @@ pub extern "C" fn salvrunde_probe_substitute_refs(
         above: *has_above,
         left: *has_left,
     };
-    let a = refs::substitute_refs(rows, flags, n, bits);
+    let a = substitution::substitute_refs(rows, flags, n, bits);
     let up = a.rows.above;
     let side = a.rows.left;
     References {

@@ -22,7 +22,7 @@ use Rattle.rows.specs.Neighbours.{neighboursOf}
 use Rattle.refs.specs.declared.LumaRefGeometry.{LumaRefGeometry}
 use Rattle.refs.specs.Gather.{sampleOf}
 use Rattle.refs.specs.Door as gather
-use Rattle.refs.specs.Standard.{luma-standard}
+use Rattle.standard.specs.Standard.{luma-standard}
 use Rattle.smooth.specs.Smoothing as smoothing
 use Rattle.smooth.specs.Standard.{door-is-standard}
 use Rattle.predict.specs.Modes.{pred-alone}

@@ -19,10 +19,11 @@ use Rattle.order.specs.Order.{orderDoor, availDoor}
 use Rattle.order.specs.Reach.{noReach, lumaReachNo, lumaReach, chromaReachNo, chromaReach}
 use Rattle.rows.specs.declared.Rows.{Rows}
 use Rattle.rows.specs.Neighbours.{zeroRows}
-use Rattle.refs.specs.declared.Flags.{Flags}
+use Rattle.substitution.specs.declared.Flags.{Flags}
 use Rattle.refs.specs.declared.LumaRefGeometry.{LumaRefGeometry}
 use Rattle.refs.specs.declared.ChromaRefGeometry.{ChromaRefGeometry}
-use Rattle.refs.specs.Door.{substituteDoor, lumaDoor, lumaBytesDoor, chromaDoor, chromaBytesDoor}
+use Rattle.substitution.specs.Door.{substituteDoor}
+use Rattle.refs.specs.Door.{lumaDoor, lumaBytesDoor, chromaDoor, chromaBytesDoor}
 use Rattle.smooth.specs.Smoothing as smoothing
 use Rattle.smooth.specs.Smoothing.{ruleDoor, filterDoor}
 use Rattle.residual.specs.Residual.{residualNo, reconstructNo, residualsAfter, reconstructed}

@@ -46,10 +46,11 @@ use Rattle.order.specs.declared.Reach.{Reach}
 use Rattle.order.specs.Order.{pictureOk, placeOk, orderNo, orderDoor, availDoor}
 use Rattle.order.specs.Reach.{inPlane, lumaPlaceOk, lumaReachNo, lumaReach, chromaHeight, chromaWidth, colour, chromaPlaceOk, chromaReachNo, chromaReach}
 use Rattle.rows.specs.declared.Rows.{Rows}
-use Rattle.refs.specs.declared.Flags.{Flags}
+use Rattle.substitution.specs.declared.Flags.{Flags}
 use Rattle.refs.specs.declared.LumaRefGeometry.{LumaRefGeometry}
 use Rattle.refs.specs.declared.ChromaRefGeometry.{ChromaRefGeometry}
-use Rattle.refs.specs.Door.{substituteNo, substituteDoor, lumaBlock, lumaNumber, lumaLength, lumaNo, lumaDoor, lumaBytesNo, lumaBytesDoor, formatOf, chromaPicture, chromaBlock, chromaLength, chromaNumber, chromaNo, chromaDoor, chromaBytesNo, chromaBytesDoor}
+use Rattle.substitution.specs.Door.{substituteNo, substituteDoor}
+use Rattle.refs.specs.Door.{lumaBlock, lumaNumber, lumaLength, lumaNo, lumaDoor, lumaBytesNo, lumaBytesDoor, formatOf, chromaPicture, chromaBlock, chromaLength, chromaNumber, chromaNo, chromaDoor, chromaBytesNo, chromaBytesDoor}
 use Rattle.smooth.specs.Smoothing as smoothing
 use Rattle.smooth.specs.Smoothing.{ruleDoor, filterNo, filterDoor}
 use Rattle.flat.specs.Flat.{flatNo}

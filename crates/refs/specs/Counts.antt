@@ -19,9 +19,9 @@ use Rattle.h265.specs.Substitution.{firstMarked}
 use Rattle.order.specs.declared.Reach.{Reach}
 use Rattle.order.specs.Reach.{cornerHas, aboveHas, leftHas}
 use Rattle.rows.specs.declared.Rows.{Rows}
-use Rattle.refs.specs.Substitution.{flagsOn, samplesOn, levelRows, substituted}
+use Rattle.substitution.specs.Substitution.{flagsOn, samplesOn, levelRows, substituted}
 use Rattle.refs.specs.Gather.{flagsBy, samplesBy, gatheredBy}
-use Rattle.refs.specs.Line.{on-left, on-corner, on-above, anyBy, startBy, leftBy, cornerBy, restBy, aboveBy, CountedLine, told, settled-left, settled-corner, settled-above, starts, nothing}
+use Rattle.substitution.specs.Line.{on-left, on-corner, on-above, anyBy, startBy, leftBy, cornerBy, restBy, aboveBy, CountedLine, told, settled-left, settled-corner, settled-above, starts, nothing}
 
 -- the samples of a block's neighbours
 abbrev pub aboveAt : (ℕ → ℕ → ℕ) → ℕ → ℕ → ℕ → ℕ

@@ -1,5 +1,5 @@
--- Document 01: what the doors of substitution and of the two gathers refuse, and what they give. Assumes nothing.
-use Prim.Native.Nat.{ℕ, _-_, _*_, _/_, _^_}
+-- Document 01: what the doors of the two gathers refuse, and what they give. Assumes nothing.
+use Prim.Native.Nat.{ℕ, _*_}
 use mathlib.Core.Bool.{Bool, true, false, cond, _&&_}
 use mathlib.Core.List.{List, [], _∷_}
 use lib.Dec.{leb, eqb}
@@ -15,26 +15,13 @@ use Rattle.order.specs.declared.ChromaBlock.{ChromaBlock}
 use Rattle.order.specs.Order.{pictureOk}
 use Rattle.order.specs.Reach.{lumaPlaceOk, lumaHas, chromaPlaceOk, chromaHas, chromaHeight, chromaWidth}
 use Rattle.rows.specs.declared.Rows.{Rows}
-use Rattle.refs.specs.declared.Flags.{Flags}
-use Rattle.refs.specs.declared.Gathered.{Gathered}
+use Rattle.rows.specs.declared.Gathered.{Gathered}
 use Rattle.refs.specs.declared.GatheredPair.{GatheredPair}
 use Rattle.refs.specs.declared.LumaRefGeometry.{LumaRefGeometry}
 use Rattle.refs.specs.declared.ChromaRefGeometry.{ChromaRefGeometry}
-use Rattle.refs.specs.Substitution.{levelRows, substituted}
+use Rattle.substitution.specs.Substitution.{levelRows}
+use Rattle.substitution.specs.Door.{neutralAt}
 use Rattle.refs.specs.Gather.{gatheredBy, sampleOf}
-
--- the neutral sample of a depth
-abbrev pub neutralAt : ℕ → ℕ
-neutralAt bits = 2 ^ (bits - 1)
-
--- Substitution refuses 1 and 2.
-unfoldable pub substituteNo : ℕ → ℕ → ℕ
-substituteNo bits n = firstFail ((1 unless depthOk bits) ∷ (2 unless sizeOk n) ∷ [])
-
-unfoldable pub substituteDoor : Rows → Flags → ℕ → ℕ → Gathered
-substituteDoor rows flags n bits =
-    let k = substituteNo bits n in
-    record { no = k; rows = served k (substituted n (neutralAt bits) flags rows) (levelRows 0) }
 
 -- The luma gather refuses 1, 2, 4, 5, 6; a plane of another length than the picture's is not whole.
 abbrev pub lumaBlock : LumaRefGeometry → LumaBlock

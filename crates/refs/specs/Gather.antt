@@ -7,8 +7,8 @@ use lib.ListN.{getD, replicate}
 use Rattle.laws.specs.Fill.{fill}
 use Rattle.order.specs.Reach.{cornerHas, aboveHas, leftHas}
 use Rattle.rows.specs.declared.Rows.{Rows}
-use Rattle.refs.specs.declared.Flags.{Flags}
-use Rattle.refs.specs.Substitution.{substituted}
+use Rattle.substitution.specs.declared.Flags.{Flags}
+use Rattle.substitution.specs.Substitution.{substituted}
 
 -- which neighbours of the block at (row, col) are there, entries 0 to 2n
 abbrev pub flagsBy : (ℤ → ℤ → Bool) → ℕ → ℕ → ℕ → Flags

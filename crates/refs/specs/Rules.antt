@@ -22,7 +22,7 @@ use Rattle.order.specs.Laws.{row-rises, col-rises, before-up, before-left}
 use Rattle.order.specs.Reach.{aboveHas, leftHas, leading, reachBy, lumaHas, chromaHas, chromaHeight, chromaWidth}
 use Rattle.refs.specs.Counts.{Counted}
 use Rattle.refs.specs.Spots.{spotOf, Reads}
-use Rattle.refs.specs.Line.{told}
+use Rattle.substitution.specs.Line.{told}
 
 -- nothing is there above or left of the plane
 pub record Bounded (has : ℤ → ℤ → Bool) : Type 0 where

@@ -21,14 +21,16 @@ use Rattle.order.specs.Order.{pictureOk}
 use Rattle.order.specs.Reach.{reachBy, noReach, lumaPlaceOk, lumaReachNo, lumaHas, lumaReach, colour, chromaPlaceOk, chromaReachNo, chromaHas, chromaReach, chromaWidth}
 use Rattle.order.specs.Blocks.{luma-fine, chroma-fine}
 use Rattle.rows.specs.declared.Rows.{Rows}
-use Rattle.refs.specs.declared.Gathered.{Gathered}
+use Rattle.rows.specs.declared.Gathered.{Gathered}
 use Rattle.refs.specs.declared.GatheredPair.{GatheredPair}
 use Rattle.refs.specs.declared.Spot.{Spot}
 use Rattle.refs.specs.declared.LumaRefGeometry.{LumaRefGeometry}
 use Rattle.refs.specs.declared.ChromaRefGeometry.{ChromaRefGeometry}
 use Rattle.refs.specs.Gather.{gatheredBy, sampleOf}
-use Rattle.refs.specs.Door.{neutralAt, substituteNo, lumaBlock, lumaNumber, lumaLength, lumaNo, lumaRows, formatOf, chromaPicture, chromaBlock, chromaLength, chromaNumber, chromaNo, chromaRows}
-use Rattle.refs.specs.Line.{told}
+use Rattle.substitution.specs.Door.{neutralAt, neutralFor}
+use Rattle.refs.specs.Door.{lumaBlock, lumaNumber, lumaLength, lumaNo, lumaRows, formatOf, chromaPicture, chromaBlock, chromaLength, chromaNumber, chromaNo, chromaRows}
+use Rattle.substitution.specs.Line.{told}
+use Rattle.substitution.specs.Served.{neutral-for}
 use Rattle.refs.specs.Counts.{Counted}
 use Rattle.refs.specs.Spots.{spotOf, planeRows, Reads, rows-are}
 use Rattle.refs.specs.Rules.{Rule, luma-rule, chroma-rule, counted, reads}
@@ -147,25 +149,7 @@ chroma-ready cb cr g r er e =
     (omega (arith, w .good .tall .high, div-le-self (g .«luma_h») (subHeight (formatOf (g .format))))) (omega (arith, w .good .wide .high, div-le-self (g .«luma_w») (subWidth (formatOf (g .format))))) in
     (f .0, one cb (l .0), one cr (l .1))
 
--- substitution that is not refused
-pub substitute-fine : (bits n : ℕ) → substituteNo bits n ≡ 0 → (depthOk bits ≡ true) × (n ≤ 32)
-unfolding substituteNo
-substitute-fine bits n e =
-    let a = passed (depthOk bits) _ 1 (omega arith) e in
-    let b = passed (sizeOk n) 0 2 (omega arith) (a .1) in
-    (a .0, size-small n (size-of n (b .0)) .1)
-
--- a door's answer, refused and served, over any answer made of a number and what was worked out
-module _ {A B : Type 0} (answer : ℕ → A → B) (n : ℕ) (work kept : A) where
-  pub refused : {k : ℕ} {given : A} → k ≡ n → (k ≡ 0 → ⊥) → given ≡ kept → answer k given ≡ answer n (served n work kept)
-  refused e h z = ap₂ answer e (z ∙ unserved n work kept (λ q. h (e ∙ q)))
-
-  pub done : {given : A} → n ≡ 0 → given ≡ work → answer 0 given ≡ answer n (served n work kept)
-  done e d = ap₂ answer (sym e) (d ∙ worked n work kept e)
-
-abbrev pub gathered : ℕ → Rows → Gathered
-gathered k v = record { no = k; rows = v }
-
+-- a pair of planes
 abbrev pub gatheredPair : ℕ → List Rows → GatheredPair
 gatheredPair k v = record { no = k; planes = v }
 
@@ -189,28 +173,16 @@ twice m k =
     (λ e. ne-eqb (2 * m) (2 * k) (λ q. eqb-false m k e (let w : 2 * m ≡ 2 * k = q in omega arith)) ∙ sym e)
     (told (eqb m k))
 
-pub halved : (len k : ℕ) → (eqb (len % 2) 0 && eqb (len / 2) k) ≡ eqb len (2 * k)
-halved len k =
-    let both = eqb (len % 2) 0 && eqb (len / 2) k in
-    ⊎-elim
-    (λ e. let q = eqb-true len (2 * k) e in both-same (eq-eqb (len % 2) 0 (omega arith)) (eq-eqb (len / 2) k (omega arith)) ∙ sym e)
-    (λ e.
-    ⊎-elim
-    (λ t. let b = both-true (eqb (len % 2) 0) (eqb (len / 2) k) t in absurd (eqb-false len (2 * k) e (let p = eqb-true (len % 2) 0 (b .0) in let q = eqb-true (len / 2) k (b .1) in omega arith)))
-    (λ t. t ∙ sym e)
-    (told both))
-    (told (eqb len (2 * k)))
-
 -- the rows of a plane, from the parts that the code makes
 module _ {has : ℤ → ℤ → Bool} {r : Reach} (plane : List ℕ) (width row col n bits : ℕ) (y : Ready has r (length plane) width row col n) where
   inside : {w : ℕ} {s : Spot} → w ≡ width → s ≡ spotOf w row col → Reads r s (length plane) n
   inside e es = subst (λ (t : Spot). Reads r t (length plane) n) (sym (es ∙ ap (λ (x : ℕ). spotOf x row col) e)) (y .reads)
 
-  made : {w neutral : ℕ} {s : Spot} {v : Rows} → w ≡ width → s ≡ spotOf w row col → neutral ≡ neutralAt bits → v ≡ planeRows plane s r n neutral
-      → v ≡ gatheredBy has (sampleOf plane width) row col n (neutralAt bits)
-  made e es en ev =
+  made : depthOk bits ≡ true → {w neutral : ℕ} {s : Spot} {v : Rows} → w ≡ width → s ≡ spotOf w row col → neutral ≡ neutralFor bits
+      → v ≡ planeRows plane s r n neutral → v ≡ gatheredBy has (sampleOf plane width) row col n (neutralAt bits)
+  made deep e es en ev =
       ev
-      ∙ ap₂ (λ (t : Spot) (k : ℕ). planeRows plane t r n k) (es ∙ ap (λ (x : ℕ). spotOf x row col) e) en
+      ∙ ap₂ (λ (t : Spot) (k : ℕ). planeRows plane t r n k) (es ∙ ap (λ (x : ℕ). spotOf x row col) e) (en ∙ neutral-for bits deep)
       ∙ rows-are has plane width row col n (neutralAt bits) r (y .reads .few .side) (y .known)
 
 -- the same for the two doors, whose calls are not refused
@@ -218,7 +190,7 @@ module _ (plane : List ℕ) (g : LumaRefGeometry) (r : Reach) (er : r ≡ lumaRe
   abbrev luma : Ready (lumaHas (lumaBlock g)) r (length plane) (g .picture .width) (g .«block_row» .0) (g .«block_col» .0) (g .n)
   luma = luma-ready (length plane) g r er e .1
 
-  pub luma-depth : depthOk (g .bits) ≡ true
+  luma-depth : depthOk (g .bits) ≡ true
   luma-depth = luma-ready (length plane) g r er e .0
 
   pub luma-small : (g .picture .width ≤ 4096) × (g .«block_row» .0 ≤ 4096) × (g .«block_col» .0 ≤ 4096)
@@ -227,10 +199,10 @@ module _ (plane : List ℕ) (g : LumaRefGeometry) (r : Reach) (er : r ≡ lumaRe
   pub luma-inside : {s : Spot} → s ≡ spotOf (g .picture .width) (g .«block_row» .0) (g .«block_col» .0) → Reads r s (length plane) (g .n)
   luma-inside es = inside plane (g .picture .width) (g .«block_row» .0) (g .«block_col» .0) (g .n) (g .bits) luma refl es
 
-  pub luma-made : {s : Spot} {neutral : ℕ} {v : Rows} → s ≡ spotOf (g .picture .width) (g .«block_row» .0) (g .«block_col» .0) → neutral ≡ neutralAt (g .bits)
+  pub luma-made : {s : Spot} {neutral : ℕ} {v : Rows} → s ≡ spotOf (g .picture .width) (g .«block_row» .0) (g .«block_col» .0) → neutral ≡ neutralFor (g .bits)
       → v ≡ planeRows plane s r (g .n) neutral → v ≡ lumaRows plane g
   unfolding lumaRows
-  luma-made es en ev = made plane (g .picture .width) (g .«block_row» .0) (g .«block_col» .0) (g .n) (g .bits) luma refl es en ev
+  luma-made es en ev = made plane (g .picture .width) (g .«block_row» .0) (g .«block_col» .0) (g .n) (g .bits) luma luma-depth refl es en ev
 
 module _ (cb cr : List ℕ) (g : ChromaRefGeometry) (r : Reach) (er : r ≡ chromaReach (chromaBlock g)) (e : chromaNo (length cb) (length cr) g ≡ 0) where
   abbrev pub Chroma : List ℕ → Type 0
@@ -238,9 +210,6 @@ module _ (cb cr : List ℕ) (g : ChromaRefGeometry) (r : Reach) (er : r ≡ chro
 
   abbrev fine : (depthOk (g .bits) ≡ true) × Chroma cb × Chroma cr
   fine = chroma-ready (length cb) (length cr) g r er e
-
-  pub chroma-depth : depthOk (g .bits) ≡ true
-  chroma-depth = fine .0
 
   pub chroma-small : {w : ℕ} → w ≡ chromaWidth (chromaBlock g) → (w ≤ 4096) × (g .«block_row» .0 ≤ 4096) × (g .«block_col» .0 ≤ 4096)
   chroma-small ew = (omega (arith, fine .1 .width-few), fine .1 .row-few, fine .1 .col-few)
@@ -252,10 +221,10 @@ module _ (cb cr : List ℕ) (g : ChromaRefGeometry) (r : Reach) (er : r ≡ chro
     pub chroma-inside : Reads r s (length cb) (g .n) × Reads r s (length cr) (g .n)
     chroma-inside = (one-inside cb (fine .1), one-inside cr (fine .2))
 
-    one-made : (plane : List ℕ) → Chroma plane → {neutral : ℕ} {v : Rows} → neutral ≡ neutralAt (g .bits) → v ≡ planeRows plane s r (g .n) neutral → v ≡ chromaRows plane g
+    one-made : (plane : List ℕ) → Chroma plane → {neutral : ℕ} {v : Rows} → neutral ≡ neutralFor (g .bits) → v ≡ planeRows plane s r (g .n) neutral → v ≡ chromaRows plane g
     unfolding chromaRows
-    one-made plane y en ev = made plane (chromaWidth (chromaBlock g)) (g .«block_row» .0) (g .«block_col» .0) (g .n) (g .bits) y ew es en ev
+    one-made plane y en ev = made plane (chromaWidth (chromaBlock g)) (g .«block_row» .0) (g .«block_col» .0) (g .n) (g .bits) y (fine .0) ew es en ev
 
-    pub chroma-made : {neutral : ℕ} {v u : Rows} → neutral ≡ neutralAt (g .bits) → v ≡ planeRows cb s r (g .n) neutral → u ≡ planeRows cr s r (g .n) neutral
+    pub chroma-made : {neutral : ℕ} {v u : Rows} → neutral ≡ neutralFor (g .bits) → v ≡ planeRows cb s r (g .n) neutral → u ≡ planeRows cr s r (g .n) neutral
         → _≡_ {A = List Rows} (v ∷ u ∷ []) (chromaRows cb g ∷ chromaRows cr g ∷ [])
     chroma-made en ev eu = ap₂ (λ (a b : Rows). a ∷ b ∷ []) (one-made cb (fine .1) en ev) (one-made cr (fine .2) en eu)

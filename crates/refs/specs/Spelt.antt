@@ -13,9 +13,10 @@ use Rattle.bytes.specs.Laws.{length-samples}
 use Rattle.order.specs.Reach.{lumaReachNo, chromaReachNo}
 use Rattle.refs.specs.declared.LumaRefGeometry.{LumaRefGeometry}
 use Rattle.refs.specs.declared.ChromaRefGeometry.{ChromaRefGeometry}
-use Rattle.refs.specs.Substitution.{levelRows}
+use Rattle.substitution.specs.Substitution.{levelRows}
 use Rattle.refs.specs.Door.{lumaBlock, lumaLength, lumaNumber, lumaNo, lumaRows, lumaDoor, lumaBytesNo, lumaBytesDoor, chromaBlock, chromaLength, chromaNumber, chromaNo, chromaRows, chromaDoor, chromaBytesNo, chromaBytesDoor}
-use Rattle.refs.specs.Served.{gathered, gatheredPair, gather-fine, luma-no, chroma-no, twice}
+use Rattle.substitution.specs.Served.{gathered}
+use Rattle.refs.specs.Served.{gatheredPair, gather-fine, luma-no, chroma-no, twice}
 
 -- as many bytes as twice k, counted in samples
 count : (b : List ℕ) (m k : ℕ) → length b ≡ 2 * m → eqb (length b) (2 * k) ≡ eqb (length (samplesOf b)) k

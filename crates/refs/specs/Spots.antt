@@ -14,8 +14,8 @@ use Rattle.order.specs.declared.Reach.{Reach}
 use Rattle.rows.specs.declared.Rows.{Rows}
 use Rattle.refs.specs.declared.Spot.{Spot}
 use Rattle.refs.specs.Gather.{gatheredBy, sampleOf}
-use Rattle.refs.specs.Line.{anyBy}
-use Rattle.refs.specs.Substitution.{levelRows}
+use Rattle.substitution.specs.Line.{anyBy}
+use Rattle.substitution.specs.Substitution.{levelRows}
 use Rattle.refs.specs.Counts.{cornerAt, aboveAt, leftAt, startOf, cornerOf, restOf, edgeOf, reached, fromReach, Counted, from-reach}
 
 -- the corner, and entry 0 of the row above and of the left column

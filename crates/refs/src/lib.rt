@@ -1,5 +1,5 @@
-// Reference samples: substitution, the luma gather and the chroma pair gather (document 01, modules 3 and 4).
-// Rests on the contracts of order (which neighbours are there) alone; a sample's value never says whether it is there.
+// Reference samples: the luma gather and the chroma pair gather (document 01, modules 3 and 4).
+// Rests on the contracts of order (which neighbours are there) and on substitution; a sample's value never says whether it is there.
 ghost use mathlib.Core.Path.{_≡_};
 ghost use mathlib.Core.List.{[], _∷_};
 ghost use Prim.Native.Nat.{ℕ, _+_, _-_, _*_, _/_, _≤_, _<_};
@@ -8,14 +8,11 @@ ghost use lib.Dec.{eqb};
 ghost use lib.ListN.{length, getD, replicate};
 ghost use Rattle.laws.specs.Fill.{fill};
 ghost use Rattle.bytes.specs.Bytes.{samplesOf};
-ghost use Rattle.h265.specs.Substitution.{firstMarked, settled};
-ghost use Rattle.domain.specs.Domain.{depthOk};
 ghost use Rattle.order.specs.Edges.{Step};
 ghost use Rattle.order.specs.Reach.{lumaReach, chromaReach, chromaWidth};
-ghost use Rattle.refs.specs.Substitution.{levelRows, substituted};
-ghost use Rattle.refs.specs.Door.{neutralAt, substituteNo, substituteDoor, lumaBlock, lumaLength, lumaNo, lumaRows, lumaDoor, lumaBytesDoor, formatOf, chromaBlock, chromaLength, chromaNo, chromaRows, chromaDoor, chromaBytesDoor};
+ghost use Rattle.refs.specs.Door.{lumaBlock, lumaLength, lumaNo, lumaRows, lumaDoor, lumaBytesDoor, formatOf, chromaBlock, chromaLength, chromaNo, chromaRows, chromaDoor, chromaBytesDoor};
 ghost use Rattle.refs.specs.Served.{gatherNo};
-ghost use Rattle.refs.specs.Line.{lineOf, restBy};
+ghost use Rattle.substitution.specs.Line.{restBy};
 ghost use Rattle.refs.specs.Spots.{spotOf, onEdge, cornerOn, aboveOn, leftOn, planeRows, Few, Reads};
 ghost use Rattle.refs.specs.Seen.{seenCorner, entry, padded, padRows};
 use fmt::ChromaCol;
@@ -27,20 +24,8 @@ use order::ChromaBlock;
 use order::LumaBlock;
 use order::Picture;
 use order::Reach;
+use rows::Gathered;
 use rows::Rows;
-
-// Which entries of a block's rows are there.
-pub struct Flags {
-    pub corner: bool,
-    pub above: [bool; 65],
-    pub left: [bool; 65],
-}
-
-// A call's number, and its rows, all 0 where it is refused.
-pub struct Gathered {
-    pub no: u32,
-    pub rows: Rows,
-}
 
 // A call's number, and the rows of Cb and of Cr, all 0 where it is refused.
 pub struct GatheredPair {
@@ -69,196 +54,6 @@ pub struct ChromaRefGeometry {
     pub n: usize,
     pub cur_luma_row: LumaRow,
     pub cur_luma_col: LumaCol,
-}
-
-// The sample at place p of the line: left[e] down to left[0], the corner, above[0] to above[e].
-fn sample_on(left: &[u16; 65], corner: u16, above: &[u16; 65], e: usize, p: usize) -> u16
-    requires { ⌜ (e ≤ 64) × (p < 2 * e + 3) ⌝ }
-    ensures { λ r. ⌜ r ≡ lineOf 0 (now (left .entry)) corner (now (above .entry)) e p ⌝ }
-{
-    if p <= e {
-        return left[e - p];
-    }
-    if p == e + 1 {
-        return corner;
-    }
-    above[p - (e + 2)]
-}
-
-// Whether place p of the line is there.
-fn flag_on(left: &[bool; 65], corner: bool, above: &[bool; 65], e: usize, p: usize) -> bool
-    requires { ⌜ (e ≤ 64) × (p < 2 * e + 3) ⌝ }
-    ensures { λ r. ⌜ r ≡ lineOf false (now (left .entry)) corner (now (above .entry)) e p ⌝ }
-{
-    if p <= e {
-        return left[e - p];
-    }
-    if p == e + 1 {
-        return corner;
-    }
-    above[p - (e + 2)]
-}
-
-// The first place that is there, or the count of places.
-fn first_marked(left: &[bool; 65], corner: bool, above: &[bool; 65], e: usize) -> usize
-    requires { ⌜ e ≤ 64 ⌝ }
-    ensures { λ r. ⌜ r ≡ firstMarked (lineOf false (now (left .entry)) corner (now (above .entry)) e) 0 (2 * e + 3) ⌝ }
-{
-    let total = 2 * e + 3;
-    let mut p = 0;
-    while p < total {
-        if flag_on(left, corner, above, e, p) {
-            return p;
-        }
-        p += 1;
-    }
-    p
-}
-
-// A sample where it is there, another where it is not. Every sample may be 0.
-fn choose(there: bool, v: u16, other: u16) -> u16
-    ensures { λ r. ⌜ r ≡ cond there v other ⌝ }
-{
-    if there { v } else { other }
-}
-
-// The line in the end: each missing place takes the one before it, the places before the first take that one.
-fn settle(
-    left: &[u16; 65],
-    corner: u16,
-    above: &[u16; 65],
-    has_left: &[bool; 65],
-    has_corner: bool,
-    has_above: &[bool; 65],
-    e: usize,
-    found: usize,
-) -> [u16; 131]
-    requires { ⌜ (e ≤ 64) × (found < 2 * e + 3) ⌝ }
-    ensures { λ r. ⌜ r ≡ fill (settled (lineOf false (now («has_left» .entry)) «has_corner» (now («has_above» .entry)) e) (lineOf 0 (now (left .entry)) corner (now (above .entry)) e) found) (2 * e + 3) (replicate 131 0) ⌝ }
-{
-    let total = 2 * e + 3;
-    let mut vals = [0u16; 131];
-    let mut carried = sample_on(left, corner, above, e, found);
-    let mut p = 0;
-    while p < total {
-        let there = flag_on(has_left, has_corner, has_above, e, p);
-        let v = sample_on(left, corner, above, e, p);
-        carried = choose(there, v, carried);
-        vals[p] = carried;
-        p += 1;
-    }
-    vals
-}
-
-// The left row out of the line, its entries past e as they came.
-fn left_of(line: &[u16; 131], old: [u16; 65], e: usize) -> [u16; 65]
-    requires { ⌜ e ≤ 64 ⌝ }
-    ensures { λ r. ⌜ r ≡ fill (λ (i : ℕ). getD (now (line .entry)) (e - i) 0) (e + 1) old ⌝ }
-{
-    let mut out = old;
-    let mut i = 0;
-    while i <= e {
-        out[i] = line[e - i];
-        i += 1;
-    }
-    out
-}
-
-// The row above out of the line, its entries past e as they came.
-fn above_of(line: &[u16; 131], old: [u16; 65], e: usize) -> [u16; 65]
-    requires { ⌜ e ≤ 64 ⌝ }
-    ensures { λ r. ⌜ r ≡ fill (λ (i : ℕ). getD (now (line .entry)) (e + 2 + i) 0) (e + 1) old ⌝ }
-{
-    let mut out = old;
-    let mut i = 0;
-    while i <= e {
-        out[i] = line[e + 2 + i];
-        i += 1;
-    }
-    out
-}
-
-fn substitute(rows: Rows, flags: Flags, n: usize, neutral: u16) -> Rows
-    requires { ⌜ n ≤ 32 ⌝ }
-    ensures { λ r. ⌜ r ≡ substituted n neutral flags rows ⌝ }
-{
-    let e = 2 * n;
-    let left = rows.left;
-    let above = rows.above;
-    let has_left = flags.left;
-    let has_above = flags.above;
-    let found = first_marked(&has_left, flags.corner, &has_above, e);
-    if found >= 2 * e + 3 {
-        return level_rows(neutral);
-    }
-    let line = settle(
-        &left,
-        rows.corner,
-        &above,
-        &has_left,
-        flags.corner,
-        &has_above,
-        e,
-        found,
-    );
-    Rows {
-        corner: line[e + 1],
-        above: above_of(&line, above, e),
-        left: left_of(&line, left, e),
-    }
-}
-
-// The number that refuses a substitution, or 0.
-fn substitute_no(n: usize, bits: u32) -> u32
-    ensures { λ r. ⌜ r ≡ substituteNo bits n ⌝ }
-{
-    if !domain::depth_ok(bits) {
-        return 1;
-    }
-    if !domain::size_ok(n) {
-        return 2;
-    }
-    0
-}
-
-// The neutral sample of a depth.
-fn neutral_of(bits: u32) -> u16
-    requires { ⌜ depthOk bits ≡ true ⌝ }
-    ensures { λ r. ⌜ r ≡ neutralAt bits ⌝ }
-{
-    match bits {
-        8 => 128,
-        10 => 512,
-        _ => 2048,
-    }
-}
-
-// Reference rows with the missing entries substituted (H.265 8.4.4.2.2, document 01, module 3).
-pub fn substitute_refs(rows: Rows, flags: Flags, n: usize, bits: u32) -> Gathered
-    ensures { λ r. ⌜ r ≡ substituteDoor rows flags n bits ⌝ }
-{
-    let no = substitute_no(n, bits);
-    if no != 0 {
-        return Gathered {
-            no,
-            rows: level_rows(0),
-        };
-    }
-    Gathered {
-        no: 0,
-        rows: substitute(rows, flags, n, neutral_of(bits)),
-    }
-}
-
-// Every entry at one value.
-fn level_rows(v: u16) -> Rows
-    ensures { λ r. ⌜ r ≡ levelRows v ⌝ }
-{
-    Rows {
-        corner: v,
-        above: [v; 65],
-        left: [v; 65],
-    }
 }
 
 // Where a block's neighbours stand in a plane: the corner, entry 0 of the row above and entry 0 of the left column, and the plane's
@@ -371,8 +166,8 @@ fn finish(above: &mut [u16], left: &mut [u16], seen: u16, r: Reach, n: usize) ->
     requires { ⌜ Few r n × ((length (now above) ≡ 65) × (length (now left) ≡ 65)) ⌝ }
     ensures { λ c. ⌜ (c ≡ padRows r seen (now (above .entry)) (now (left .entry)) n .corner) × ((now (above .exit) ≡ padRows r seen (now (above .entry)) (now (left .entry)) n .above) × (now (left .exit) ≡ padRows r seen (now (above .entry)) (now (left .entry)) n .left)) ⌝ }
 {
-    let start = last_of(&*left, r.left, choose(r.corner, seen, above[0]));
-    let corner = choose(r.corner, seen, choose(r.left > 0, left[0], start));
+    let start = last_of(&*left, r.left, substitution::choose(r.corner, seen, above[0]));
+    let corner = substitution::choose(r.corner, seen, substitution::choose(r.left > 0, left[0], start));
     let rest = last_of(&*above, r.above, corner);
     pad(&mut *above, r.above, 2 * n + 1, rest);
     pad(&mut *left, r.left, 2 * n + 1, start);
@@ -396,7 +191,7 @@ fn plane_rows(plane: &[u16], s: Spot, r: Reach, n: usize, neutral: u16) -> Rows
     ensures { λ v. ⌜ v ≡ planeRows (now (plane .entry)) s r n neutral ⌝ }
 {
     if !((r.left > 0) | r.corner | (r.above > 0)) {
-        return level_rows(neutral);
+        return substitution::level_rows(neutral);
     }
     let mut above = [0u16; 65];
     let mut left = [0u16; 65];
@@ -413,7 +208,7 @@ fn plane_rows_in(plane: &[u8], s: Spot, r: Reach, n: usize, neutral: u16) -> Row
     ensures { λ v. ⌜ v ≡ planeRows (samplesOf (now (plane .entry))) s r n neutral ⌝ }
 {
     if !((r.left > 0) | r.corner | (r.above > 0)) {
-        return level_rows(neutral);
+        return substitution::level_rows(neutral);
     }
     let mut above = [0u16; 65];
     let mut left = [0u16; 65];
@@ -422,13 +217,6 @@ fn plane_rows_in(plane: &[u8], s: Spot, r: Reach, n: usize, neutral: u16) -> Row
     let seen = corner_seen_in(plane, s, r, n);
     let corner = finish(&mut above, &mut left, seen, r, n);
     with_corner(corner, [above, left])
-}
-
-// Whether bytes are as many as a plane of so many samples has. No product can pass the type's end.
-fn whole_in(bytes: usize, samples: usize) -> bool
-    ensures { λ r. ⌜ r ≡ eqb bytes (2 * samples) ⌝ }
-{
-    (bytes % 2 == 0) & (bytes / 2 == samples)
 }
 
 // The number that refuses a gather, or 0: the depth's, then the reach's 2 or 4, then the planes', then the reach's 6.
@@ -464,7 +252,7 @@ fn luma_rows(plane: &[u16], geo: LumaRefGeometry, reach: Reach) -> Rows
 {
     let width = geo.picture.width as usize;
     let s = spot_of(width, geo.block_row.0 as usize, geo.block_col.0 as usize);
-    plane_rows(plane, s, reach, geo.n, neutral_of(geo.bits))
+    plane_rows(plane, s, reach, geo.n, substitution::neutral_of(geo.bits))
 }
 
 // A plane's count of luma samples.
@@ -484,7 +272,7 @@ pub fn get_reference_samples(plane: &[u16], geo: LumaRefGeometry) -> Gathered
     if no != 0 {
         return Gathered {
             no,
-            rows: level_rows(0),
+            rows: substitution::level_rows(0),
         };
     }
     Gathered {
@@ -499,7 +287,7 @@ fn luma_rows_in(plane: &[u8], geo: LumaRefGeometry, reach: Reach) -> Rows
 {
     let width = geo.picture.width as usize;
     let s = spot_of(width, geo.block_row.0 as usize, geo.block_col.0 as usize);
-    plane_rows_in(plane, s, reach, geo.n, neutral_of(geo.bits))
+    plane_rows_in(plane, s, reach, geo.n, substitution::neutral_of(geo.bits))
 }
 
 // The same out of a plane of bytes: two a sample, the lower first.
@@ -507,11 +295,11 @@ pub fn get_reference_samples_bytes(plane: &[u8], geo: LumaRefGeometry) -> Gather
     ensures { λ r. ⌜ r ≡ lumaBytesDoor (now (plane .entry)) geo ⌝ }
 {
     let reach = order::luma_reach(luma_block(geo));
-    let no = gather_no(geo.bits, reach.no, whole_in(plane.len(), luma_length(geo)));
+    let no = gather_no(geo.bits, reach.no, bytes::whole_in(plane.len(), luma_length(geo)));
     if no != 0 {
         return Gathered {
             no,
-            rows: level_rows(0),
+            rows: substitution::level_rows(0),
         };
     }
     Gathered {
@@ -590,7 +378,7 @@ fn chroma_rows(
         geo.block_row.0 as usize,
         geo.block_col.0 as usize,
     );
-    let neutral = neutral_of(geo.bits);
+    let neutral = substitution::neutral_of(geo.bits);
     let n = geo.n;
     let cb = plane_rows(plane_cb, s, reach, n, neutral);
     let cr = plane_rows(plane_cr, s, reach, n, neutral);
@@ -611,7 +399,7 @@ fn chroma_rows_in(
         geo.block_row.0 as usize,
         geo.block_col.0 as usize,
     );
-    let neutral = neutral_of(geo.bits);
+    let neutral = substitution::neutral_of(geo.bits);
     let n = geo.n;
     let cb = plane_rows_in(plane_cb, s, reach, n, neutral);
     let cr = plane_rows_in(plane_cr, s, reach, n, neutral);
@@ -638,7 +426,7 @@ pub fn get_reference_samples_chroma_pair(
     let whole = (plane_cb.len() == len) & (plane_cr.len() == len);
     let no = gather_no(geo.bits, reach.no, whole);
     if no != 0 {
-        let none = level_rows(0);
+        let none = substitution::level_rows(0);
         return GatheredPair {
             no,
             planes: [none, none],
@@ -660,10 +448,10 @@ pub fn get_reference_samples_chroma_pair_bytes(
 {
     let reach = order::chroma_reach(chroma_block(geo));
     let len = chroma_length(geo);
-    let whole = whole_in(plane_cb.len(), len) & whole_in(plane_cr.len(), len);
+    let whole = bytes::whole_in(plane_cb.len(), len) & bytes::whole_in(plane_cr.len(), len);
     let no = gather_no(geo.bits, reach.no, whole);
     if no != 0 {
-        let none = level_rows(0);
+        let none = substitution::level_rows(0);
         return GatheredPair {
             no,
             planes: [none, none],

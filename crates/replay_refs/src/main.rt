@@ -21,7 +21,7 @@ use fmt::LumaRow;
 use listing::Count;
 use order::Picture;
 use refs::ChromaRefGeometry;
-use refs::Flags;
+use substitution::Flags;
 use refs::LumaRefGeometry;
 use rows::Rows;
 
@@ -122,7 +122,7 @@ fn substitution_same(line: &[u8], call: Call) -> bool {
         above: flags_of(call.cur_row, call.unit, call.width as usize),
         left: flags_of(call.cur_col, call.unit, call.height as usize),
     };
-    let answer = refs::substitute_refs(rows, flags, call.n, call.bits);
+    let answer = substitution::substitute_refs(rows, flags, call.n, call.bits);
     rows_same(line, call, answer.no, answer.rows)
 }
 

@@ -19,3 +19,9 @@ pub fn zero_rows() -> Rows
         left: [0u16; 65],
     }
 }
+
+// A call's number, and its rows, all 0 where it is refused.
+pub struct Gathered {
+    pub no: u32,
+    pub rows: Rows,
+}

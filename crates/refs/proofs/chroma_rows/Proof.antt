@@ -1,5 +1,5 @@
 -- The work of the chroma pair gather: nothing is read outside the planes. Assumes nothing.
-use Rattle.refs.specs.Served.{chroma-depth, chroma-small, chroma-inside, chroma-made}
+use Rattle.refs.specs.Served.{chroma-small, chroma-inside, chroma-made}
 use borrow.Author.Needs.{needs}
 use Rattle.refs.proofs.chroma_rows.Statement.{statement}
 use Rattle.refs.proofs.chroma_rows.Tie as tie
@@ -17,7 +17,7 @@ spot-of-requires : tie.Need-spot-of-requires
 spot-of-requires c κs = let s = c .before .before .before .before .before in chroma-small (s .args .plane-cb .now) (s .args .plane-cr .now) (s .args .geo) (s .args .reach) (s .pre .0) (s .pre .1) (c .before .before .chroma-width .ensures .0)
 
 neutral-of-requires : tie.Need-neutral-of-requires
-neutral-of-requires c κs = let s = c .before .before .before .before .before .before in chroma-depth (s .args .plane-cb .now) (s .args .plane-cr .now) (s .args .geo) (s .args .reach) (s .pre .0) (s .pre .1)
+neutral-of-requires c κs = search needs
 
 plane-rows-requires : tie.Need-plane-rows-requires
 plane-rows-requires c κs = let s = c .before .before .before .before .before .before .before in chroma-inside (s .args .plane-cb .now) (s .args .plane-cr .now) (s .args .geo) (s .args .reach) (s .pre .0) (s .pre .1) (c .before .before .before .before .chroma-width .ensures .0) (c .before .spot-of .ensures) .0

@@ -1,6 +1,6 @@
 -- The work of the chroma pair gather over bytes: nothing is read outside the planes. Assumes nothing.
 use Rattle.bytes.specs.Bytes.{samplesOf}
-use Rattle.refs.specs.Served.{chroma-depth, chroma-small, chroma-inside, chroma-made}
+use Rattle.refs.specs.Served.{chroma-small, chroma-inside, chroma-made}
 use borrow.Author.Needs.{needs}
 use Rattle.refs.proofs.chroma_rows_in.Statement.{statement}
 use Rattle.refs.proofs.chroma_rows_in.Tie as tie
@@ -18,7 +18,7 @@ spot-of-requires : tie.Need-spot-of-requires
 spot-of-requires c κs = let s = c .before .before .before .before .before in chroma-small (samplesOf (s .args .plane-cb .now)) (samplesOf (s .args .plane-cr .now)) (s .args .geo) (s .args .reach) (s .pre .0) (s .pre .1) (c .before .before .chroma-width .ensures .0)
 
 neutral-of-requires : tie.Need-neutral-of-requires
-neutral-of-requires c κs = let s = c .before .before .before .before .before .before in chroma-depth (samplesOf (s .args .plane-cb .now)) (samplesOf (s .args .plane-cr .now)) (s .args .geo) (s .args .reach) (s .pre .0) (s .pre .1)
+neutral-of-requires c κs = search needs
 
 plane-rows-in-requires : tie.Need-plane-rows-in-requires
 plane-rows-in-requires c κs = let s = c .before .before .before .before .before .before .before in chroma-inside (samplesOf (s .args .plane-cb .now)) (samplesOf (s .args .plane-cr .now)) (s .args .geo) (s .args .reach) (s .pre .0) (s .pre .1) (c .before .before .before .before .chroma-width .ensures .0) (c .before .spot-of .ensures) .0

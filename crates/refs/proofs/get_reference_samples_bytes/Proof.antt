@@ -4,9 +4,10 @@ use Prim.Native.Nat.{ℕ, _*_}
 use lib.Dec.{eqb}
 use lib.ListN.{length}
 use Rattle.bytes.specs.Bytes.{samplesOf}
-use Rattle.refs.specs.Substitution.{levelRows}
+use Rattle.substitution.specs.Substitution.{levelRows}
 use Rattle.refs.specs.Door.{lumaLength, lumaRows, lumaBytesNo, lumaBytesDoor}
-use Rattle.refs.specs.Served.{luma-number, refused, done, gathered}
+use Rattle.substitution.specs.Served.{refused, done, gathered}
+use Rattle.refs.specs.Served.{luma-number}
 use Rattle.refs.specs.Spelt.{luma-spelt-fine}
 use borrow.Author.Needs.{needs}
 use Rattle.refs.proofs.get_reference_samples_bytes.Statement.{statement}

@@ -6,9 +6,10 @@ use Prim.Native.Nat.{ℕ}
 use lib.Dec.{eqb}
 use lib.ListN.{length}
 use Rattle.rows.specs.declared.Rows.{Rows}
-use Rattle.refs.specs.Substitution.{levelRows}
+use Rattle.substitution.specs.Substitution.{levelRows}
 use Rattle.refs.specs.Door.{chromaLength, chromaNo, chromaRows, chromaDoor}
-use Rattle.refs.specs.Served.{chroma-number, refused, done, gatheredPair}
+use Rattle.substitution.specs.Served.{refused, done}
+use Rattle.refs.specs.Served.{chroma-number, gatheredPair}
 use borrow.Author.Needs.{needs}
 use Rattle.refs.proofs.get_reference_samples_chroma_pair.Statement.{statement}
 use Rattle.refs.proofs.get_reference_samples_chroma_pair.Tie as tie

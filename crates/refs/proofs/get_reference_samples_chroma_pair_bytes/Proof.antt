@@ -8,9 +8,10 @@ use lib.ListN.{length}
 use Rattle.laws.specs.Choose.{both-same}
 use Rattle.bytes.specs.Bytes.{samplesOf}
 use Rattle.rows.specs.declared.Rows.{Rows}
-use Rattle.refs.specs.Substitution.{levelRows}
+use Rattle.substitution.specs.Substitution.{levelRows}
 use Rattle.refs.specs.Door.{chromaLength, chromaRows, chromaBytesNo, chromaBytesDoor}
-use Rattle.refs.specs.Served.{chroma-number, refused, done, gatheredPair}
+use Rattle.substitution.specs.Served.{refused, done}
+use Rattle.refs.specs.Served.{chroma-number, gatheredPair}
 use Rattle.refs.specs.Spelt.{chroma-spelt-fine}
 use borrow.Author.Needs.{needs}
 use Rattle.refs.proofs.get_reference_samples_chroma_pair_bytes.Statement.{statement}

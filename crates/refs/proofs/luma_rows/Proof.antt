@@ -1,5 +1,5 @@
 -- The work of the luma gather: nothing is read outside the plane. Assumes nothing.
-use Rattle.refs.specs.Served.{luma-depth, luma-small, luma-inside, luma-made}
+use Rattle.refs.specs.Served.{luma-small, luma-inside, luma-made}
 use borrow.Author.Needs.{needs}
 use Rattle.refs.proofs.luma_rows.Statement.{statement}
 use Rattle.refs.proofs.luma_rows.Tie as tie
@@ -17,7 +17,7 @@ spot-of-requires : tie.Need-spot-of-requires
 spot-of-requires c κs = let s = c .before .before .before .before in luma-small (s .args .plane .now) (s .args .geo) (s .args .reach) (s .pre .0) (s .pre .1)
 
 neutral-of-requires : tie.Need-neutral-of-requires
-neutral-of-requires c κs = let s = c .before .before .before .before .before in luma-depth (s .args .plane .now) (s .args .geo) (s .args .reach) (s .pre .0) (s .pre .1)
+neutral-of-requires c κs = search needs
 
 plane-rows-requires : tie.Need-plane-rows-requires
 plane-rows-requires c κs = let s = c .before .before .before .before .before .before in luma-inside (s .args .plane .now) (s .args .geo) (s .args .reach) (s .pre .0) (s .pre .1) (c .before .spot-of .ensures)

@@ -1,6 +1,6 @@
 -- The work of the luma gather: nothing is read outside the plane's bytes. Assumes nothing.
 use Rattle.bytes.specs.Bytes.{samplesOf}
-use Rattle.refs.specs.Served.{luma-depth, luma-small, luma-inside, luma-made}
+use Rattle.refs.specs.Served.{luma-small, luma-inside, luma-made}
 use borrow.Author.Needs.{needs}
 use Rattle.refs.proofs.luma_rows_in.Statement.{statement}
 use Rattle.refs.proofs.luma_rows_in.Tie as tie
@@ -18,7 +18,7 @@ spot-of-requires : tie.Need-spot-of-requires
 spot-of-requires c κs = let s = c .before .before .before .before in luma-small (samplesOf (s .args .plane .now)) (s .args .geo) (s .args .reach) (s .pre .0) (s .pre .1)
 
 neutral-of-requires : tie.Need-neutral-of-requires
-neutral-of-requires c κs = let s = c .before .before .before .before .before in luma-depth (samplesOf (s .args .plane .now)) (s .args .geo) (s .args .reach) (s .pre .0) (s .pre .1)
+neutral-of-requires c κs = search needs
 
 plane-rows-in-requires : tie.Need-plane-rows-in-requires
 plane-rows-in-requires c κs = let s = c .before .before .before .before .before .before in luma-inside (samplesOf (s .args .plane .now)) (s .args .geo) (s .args .reach) (s .pre .0) (s .pre .1) (c .before .spot-of .ensures)
