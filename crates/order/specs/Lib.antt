@@ -1,13 +1,11 @@
--- Order: document 01, module 2, with the doors. The rest is what the proofs go by, and the laws of the order.
+-- Order: document 01, module 2, with the doors. The rest is what the proofs go by.
 pub mod Order
 pub mod Cells
 pub mod Good
 pub mod Spread
 pub mod Signs
-pub mod Laws
 pub mod Reach
 pub mod Leading
 pub mod Edges
 pub mod Walk
 pub mod Blocks
-pub mod Figures

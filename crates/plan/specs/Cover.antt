@@ -12,7 +12,7 @@ use borrow.Author.Tests.{lt-ltb}
 use Rattle.domain.specs.Facts.{at-size}
 use Rattle.order.specs.Cells.{dbl}
 use Rattle.order.specs.Good.{Good, sized, ctus-cover}
-use Rattle.order.specs.Laws.{block-in, block-only}
+use Rattle.order_laws.specs.Laws.{block-in, block-only}
 use Rattle.plan.specs.declared.Frame.{Frame}
 use Rattle.plan.specs.declared.Block.{Block}
 use Rattle.plan.specs.Plan.{pictureOf, In, cellAt, Of, Covered, Placed, Next, GoodPlan, place}

@@ -18,7 +18,7 @@ use Rattle.order.specs.declared.ChromaBlock.{ChromaBlock}
 use Rattle.order.specs.Order.{before, numberAt}
 use Rattle.order.specs.Good.{Good}
 use Rattle.order.specs.Leading.{leading-from-leads}
-use Rattle.order.specs.Laws.{row-rises, col-rises, before-up, before-left}
+use Rattle.order_laws.specs.Laws.{row-rises, col-rises, before-up, before-left}
 use Rattle.order.specs.Reach.{aboveHas, leftHas, leading, reachBy, lumaHas, chromaHas, chromaHeight, chromaWidth}
 use Rattle.refs.specs.Counts.{Counted}
 use Rattle.refs.specs.Spots.{spotOf, Reads}

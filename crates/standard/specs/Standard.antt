@@ -27,7 +27,7 @@ use Rattle.fmt.specs.declared.LumaCol.{LumaCol}
 use Rattle.order.specs.declared.Picture.{Picture}
 use Rattle.order.specs.Order.{gridOf, numberAt, before, availableTo, pictureOk}
 use Rattle.order.specs.Good.{Good}
-use Rattle.order.specs.Laws.{standard-agrees, own-cell-apart, before-up, before-left}
+use Rattle.order_laws.specs.Laws.{standard-agrees, own-cell-apart, before-up, before-left}
 use Rattle.order.specs.Reach.{lumaPlaceOk}
 use Rattle.rows.specs.declared.Rows.{Rows}
 use Rattle.rows.specs.Neighbours.{neighboursOf}
