@@ -9,8 +9,8 @@ use Rattle.h265.specs.Notation.{clipTo}
 use Rattle.h265.specs.Setting.{lumaAt, first}
 use Rattle.h265.specs.Prediction.{predicted}
 use Rattle.order.specs.Order.{gridOf}
-use Rattle.plan.specs.declared.Block.{Block}
-use Rattle.plan.specs.Plan.{pictureOf, place}
+use Rattle.tiling.specs.declared.Block.{Block}
+use Rattle.tiling.specs.Tiling.{pictureOf, place}
 use Rattle.still.specs.declared.Still.{Still}
 use Rattle.still.specs.Checks.{largestOf}
 

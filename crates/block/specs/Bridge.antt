@@ -16,9 +16,9 @@ use Rattle.refs.specs.declared.LumaRefGeometry.{LumaRefGeometry}
 use Rattle.refs.specs.Door.{lumaNo, lumaRows}
 use Rattle.standard.specs.Standard.{luma-standard}
 use Rattle.predict.specs.Modes.{pred-alone}
-use Rattle.plan.specs.declared.Block.{Block}
-use Rattle.plan.specs.Plan.{pictureOf, Placed}
-use Rattle.plan.specs.Tests.{good-picture}
+use Rattle.tiling.specs.declared.Block.{Block}
+use Rattle.tiling.specs.Tiling.{pictureOf, Placed}
+use Rattle.tiling.specs.Tests.{good-picture}
 use Rattle.still.specs.declared.Still.{Still}
 use Rattle.block.specs.Block.{predictedAt}
 

@@ -6,9 +6,9 @@ use lib.Dec.{leb}
 use Rattle.laws.specs.Choose.{_unless_, firstFail}
 use Rattle.domain.specs.Domain.{depthOk, sizeOk, modeOk}
 use Rattle.order.specs.Order.{pictureOk}
-use Rattle.plan.specs.declared.Block.{Block}
-use Rattle.plan.specs.Plan.{pictureOf}
-use Rattle.plan.specs.Check.{placedOk}
+use Rattle.tiling.specs.declared.Block.{Block}
+use Rattle.tiling.specs.Tiling.{pictureOf}
+use Rattle.tiling.specs.Check.{placedOk}
 use Rattle.still.specs.declared.Still.{Still}
 use Rattle.still.specs.Checks.{Tables, whole, roomy}
 

@@ -26,10 +26,10 @@ use Rattle.rows.specs.Neighbours.{neighboursOf}
 use Rattle.rows.specs.declared.Gathered.{Gathered}
 use Rattle.refs.specs.Door.{lumaNo, lumaBlock, lumaDoor, lumaRows}
 use Rattle.predict.specs.Door.{predictNo}
-use Rattle.plan.specs.declared.Block.{Block}
-use Rattle.plan.specs.Plan.{pictureOf, Placed}
-use Rattle.plan.specs.Check.{placedOk}
-use Rattle.plan.specs.Tests.{picture-good, good-picture, placed-of, of-placed}
+use Rattle.tiling.specs.declared.Block.{Block}
+use Rattle.tiling.specs.Tiling.{pictureOf, Placed}
+use Rattle.tiling.specs.Check.{placedOk}
+use Rattle.tiling.specs.Tests.{picture-good, good-picture, placed-of, of-placed}
 use Rattle.still.specs.declared.Still.{Still}
 use Rattle.still.specs.Checks.{largestOf, largestAt, Tables, whole, roomy}
 use Rattle.still.specs.Laws.{largest-is}

@@ -6,8 +6,8 @@ use Prim.Native.Nat.{ℕ, _+_, _*_, _≤_, _<_}
 use lib.ListN.{getD}
 use Rattle.domain.specs.Facts.{Depth}
 use Rattle.order.specs.Good.{Good}
-use Rattle.plan.specs.declared.Block.{Block}
-use Rattle.plan.specs.Plan.{pictureOf, Placed}
+use Rattle.tiling.specs.declared.Block.{Block}
+use Rattle.tiling.specs.Tiling.{pictureOf, Placed}
 use Rattle.still.specs.declared.Still.{Still}
 use Rattle.still.specs.Checks.{Tables, roomy}
 use Rattle.block.specs.Block.{predictedAt}

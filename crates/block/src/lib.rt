@@ -19,9 +19,9 @@ ghost use Rattle.block.specs.Laws.{Brought, lessAt, backAt};
 use fmt::LumaCol;
 use fmt::LumaRow;
 use order::Picture;
-use plan::Block;
 use refs::LumaRefGeometry;
 use still::Still;
+use tiling::Block;
 
 // A residual, but no more than 65535: its sum with a sample fits, and is clamped the same.
 fn brought(r: i32) -> i32

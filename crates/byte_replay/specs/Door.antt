@@ -11,7 +11,7 @@ use Rattle.bytes.specs.Bytes.{samplesOf, bytesOf, residualsOf, pairInto}
 use Rattle.domain.specs.Domain.{depthOk}
 use Rattle.order.specs.Order.{pictureOk}
 use Rattle.plan.specs.declared.Verdict.{Verdict}
-use Rattle.plan.specs.Plan.{pictureOf}
+use Rattle.tiling.specs.Tiling.{pictureOf}
 use Rattle.plan.specs.Records.{recordsOf, wholeRecords}
 use Rattle.still.specs.declared.Still.{Still}
 use Rattle.still.specs.Checks.{every, residualOk}

@@ -12,15 +12,15 @@ use Rattle.laws.specs.Fill.{block}
 use Rattle.h265.specs.Setting.{lumaAt, first}
 use Rattle.h265.specs.Prediction.{predSamples}
 use Rattle.rows.specs.Neighbours.{neighboursOf}
-use Rattle.plan.specs.declared.Block.{Block}
+use Rattle.tiling.specs.declared.Block.{Block}
 use Rattle.laws.specs.Chain.{units}
 use Rattle.bytes.specs.Bytes.{byte1, byte2, byte3, samplesOf, bytesOf, residualsOf}
 use Rattle.bytes.specs.Laws.{AreBytes, length-samples, length-residuals, bytes-back, pair-stored}
 use Rattle.domain.specs.Domain.{depthOk}
 use Rattle.order.specs.Order.{pictureOk}
-use Rattle.plan.specs.declared.Frame.{Frame}
+use Rattle.tiling.specs.declared.Frame.{Frame}
 use Rattle.plan.specs.declared.Verdict.{Verdict}
-use Rattle.plan.specs.Plan.{pictureOf}
+use Rattle.tiling.specs.Tiling.{pictureOf}
 use Rattle.plan.specs.Check.{planVerdict}
 use Rattle.plan.specs.Records.{recordsOf, wholeRecords, bytesVerdict}
 use Rattle.rows.specs.declared.Gathered.{Gathered}

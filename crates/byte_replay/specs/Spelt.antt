@@ -15,9 +15,9 @@ use Rattle.bytes.specs.Bytes.{samplesOf, bytesOf, residualsOf}
 use Rattle.bytes.specs.Laws.{AreBytes, length-samples, length-bytes, two-bytes}
 use Rattle.domain.specs.Facts.{Depth, at-depth}
 use Rattle.helpers.specs.Ways.{clip-most}
-use Rattle.plan.specs.declared.Block.{Block}
+use Rattle.tiling.specs.declared.Block.{Block}
 use Rattle.plan.specs.declared.Verdict.{Verdict}
-use Rattle.plan.specs.Plan.{place}
+use Rattle.tiling.specs.Tiling.{place}
 use Rattle.plan.specs.Records.{recordsOf}
 use Rattle.still.specs.declared.Still.{Still}
 use Rattle.still.specs.Checks.{largestOf}

@@ -19,9 +19,9 @@ ghost use Rattle.walk.specs.Door.{doing};
 ghost use Rattle.walk.specs.Ready.{Sound};
 ghost use Rattle.byte_replay.specs.Door.{wholeBy, byteVerdict, answered, replayed};
 ghost use Rattle.byte_replay.specs.Laws.{own, wordAt, byteNo};
-use plan::Block;
 use plan::Verdict;
 use still::Still;
+use tiling::Block;
 use walk::Progress;
 
 // Residual i.
@@ -281,7 +281,7 @@ fn replay_blocks(
     let mut at: usize = 0;
     let mut k: usize = 0;
     while k < upto {
-        let b = plan::record_at(plan, k);
+        let b = tiling::record_at(plan, k);
         at = replay_turn(
             s,
             b,

@@ -14,11 +14,11 @@ use fmt::ChromaRow;
 use fmt::LumaCol;
 use fmt::LumaRow;
 use order::Picture;
-use plan::Frame;
 use refs::ChromaRefGeometry;
 use refs::LumaRefGeometry;
 use rows::Rows;
 use still::Still;
+use tiling::Frame;
 use walk::Progress;
 
 // Stores the sample at a place of a buffer, counted in samples.

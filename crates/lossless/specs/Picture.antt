@@ -25,9 +25,9 @@ use Rattle.rows.specs.Neighbours.{neighboursOf}
 use Rattle.refs.specs.Door.{lumaBlock, lumaRows}
 use Rattle.refs.specs.Gather.{sampleOf}
 use Rattle.standard.specs.Unread.{luma-unread}
-use Rattle.plan.specs.declared.Block.{Block}
-use Rattle.plan.specs.Plan.{Of, cellAt, place}
-use Rattle.plan.specs.Cover.{apart, earlier, area}
+use Rattle.tiling.specs.declared.Block.{Block}
+use Rattle.tiling.specs.Tiling.{Of, cellAt, place}
+use Rattle.tiling.specs.Cover.{apart, earlier, area}
 use Rattle.plan.specs.Verdict.{Accepted}
 use Rattle.still.specs.declared.Still.{Still}
 use Rattle.still.specs.Checks.{largestOf}

@@ -3,10 +3,11 @@ use mathlib.Core.Path.{_≡_, refl}
 use mathlib.Core.List.{List, [], _∷_}
 use Prim.Native.Nat.{ℕ}
 use Rattle.h265.specs.Notation.{halvings}
-use Rattle.plan.specs.declared.Frame.{Frame}
+use Rattle.tiling.specs.declared.Frame.{Frame}
 use Rattle.plan.specs.declared.Verdict.{Verdict}
 use Rattle.plan.specs.Plan.{planOf}
-use Rattle.plan.specs.Check.{aheadBy, ahead, blockNo, verdictFrom, planVerdict}
+use Rattle.tiling.specs.Check.{aheadBy, ahead, blockNo}
+use Rattle.plan.specs.Check.{verdictFrom, planVerdict}
 
 abbrev still : ℕ → ℕ → Frame
 still width height = record { width = width; height = height; ctu = 16 }

@@ -10,13 +10,15 @@ use borrow.Author.Tests.{eq-eqb, ne-eqb}
 use Rattle.laws.specs.Choose.{if-yes, if-no}
 use Rattle.order.specs.Order.{pictureOk}
 use Rattle.order.specs.Good.{Good}
-use Rattle.plan.specs.declared.Frame.{Frame}
-use Rattle.plan.specs.declared.Block.{Block}
+use Rattle.tiling.specs.declared.Frame.{Frame}
+use Rattle.tiling.specs.declared.Block.{Block}
 use Rattle.plan.specs.declared.Verdict.{Verdict}
 use Rattle.plan.specs.declared.Checking.{Checking}
-use Rattle.plan.specs.Plan.{pictureOf, Plan}
-use Rattle.plan.specs.Check.{blockNo, planVerdict}
-use Rattle.plan.specs.Tests.{picture-good}
+use Rattle.tiling.specs.Tiling.{pictureOf}
+use Rattle.plan.specs.Plan.{Plan}
+use Rattle.tiling.specs.Check.{blockNo}
+use Rattle.plan.specs.Check.{planVerdict}
+use Rattle.tiling.specs.Tests.{picture-good}
 use Rattle.plan.specs.Steps.{Running, running-none, running-stops, running-fits, running-more, running-end}
 
 -- number 4 comes before the blocks

@@ -33,9 +33,9 @@ use fmt::LumaRow;
 use order::LumaNeighbour;
 use order::Picture;
 use refs::ChromaRefGeometry;
-use substitution::Flags;
 use refs::LumaRefGeometry;
 use rows::Rows;
+use substitution::Flags;
 
 // A depth's figures, all 0 where the call is refused.
 #[repr(C)]

@@ -13,9 +13,10 @@ use Rattle.domain.specs.Domain.{depthOk}
 use Rattle.domain.specs.Facts.{Depth, depth-of, at-depth}
 use Rattle.order.specs.Order.{pictureOk}
 use Rattle.plan.specs.declared.Verdict.{Verdict}
-use Rattle.plan.specs.Plan.{pictureOf, Plan, place}
+use Rattle.tiling.specs.Tiling.{pictureOf, place}
+use Rattle.plan.specs.Plan.{Plan}
 use Rattle.plan.specs.Check.{blocksVerdict, planVerdict}
-use Rattle.plan.specs.Tests.{good-picture}
+use Rattle.tiling.specs.Tests.{good-picture}
 use Rattle.plan.specs.Verdict.{Accepted, verdict-good, good-verdict}
 use Rattle.still.specs.declared.Still.{Still}
 use Rattle.walk.specs.declared.Progress.{Progress}

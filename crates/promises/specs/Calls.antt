@@ -4,9 +4,10 @@ use mathlib.Core.Path.{_≡_}
 use mathlib.Core.List.{List, [], _∷_}
 use lib.IntN.{ℤ, pos}
 use lib.ListN.{length, getD}
-use Rattle.plan.specs.declared.Block.{Block}
+use Rattle.tiling.specs.declared.Block.{Block}
 use Rattle.plan.specs.declared.Verdict.{Verdict}
-use Rattle.plan.specs.Plan.{Plan, place}
+use Rattle.tiling.specs.Tiling.{place}
+use Rattle.plan.specs.Plan.{Plan}
 use Rattle.still.specs.declared.Still.{Still}
 use Rattle.walk.specs.declared.Progress.{Progress}
 use Rattle.block.specs.Block.{World}

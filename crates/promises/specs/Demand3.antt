@@ -6,7 +6,7 @@ use mathlib.Core.List.{List}
 use lib.IntN.{ℤ, pos, _-ℤ_}
 use Rattle.laws.specs.Chain.{sum}
 use Rattle.plan.specs.declared.Verdict.{Verdict}
-use Rattle.plan.specs.Plan.{In, Of, Covered}
+use Rattle.tiling.specs.Tiling.{In, Of, Covered}
 use Rattle.walk.specs.declared.Progress.{Progress}
 use Rattle.block.specs.Block.{World, sampleAt, predictedAt}
 use Rattle.walk.specs.Door.{steppedBy}

@@ -7,7 +7,8 @@ use lib.IntN.{pos}
 use lib.ListN.{replicate}
 use Rattle.laws.specs.Chain.{sum}
 use Rattle.plan.specs.Plan.{planOf}
-use Rattle.plan.specs.Check.{aheadBy, ahead, blockNo, verdictFrom}
+use Rattle.tiling.specs.Check.{aheadBy, ahead, blockNo}
+use Rattle.plan.specs.Check.{verdictFrom}
 use Rattle.h265.specs.Notation.{halvings}
 use Rattle.block.specs.Block.{World}
 use Rattle.still.specs.Checks.{every}

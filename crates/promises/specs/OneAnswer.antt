@@ -71,7 +71,7 @@ use Rattle.refs.proofs.get_reference_samples.Reads as refs-get-reference-sample
 use Rattle.refs.proofs.get_reference_samples_chroma_pair.Reads as refs-get-reference-samples-chroma-pair
 use Rattle.refs.proofs.get_reference_samples_bytes.Reads as refs-get-reference-samples-bytes
 use Rattle.refs.proofs.get_reference_samples_chroma_pair_bytes.Reads as refs-get-reference-samples-chroma-pair-bytes
-use Rattle.plan.proofs.record_at.Reads as plan-record-at
+use Rattle.tiling.proofs.record_at.Reads as plan-record-at
 use Rattle.plan.proofs.check_plan_bytes.Reads as plan-check-plan-bytes
 use Rattle.plan.proofs.check_plan_numbers.Reads as plan-check-plan-numbers
 use Rattle.plan.proofs.check_plan as plan-check-plan

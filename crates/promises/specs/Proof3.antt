@@ -12,8 +12,8 @@ use Rattle.laws.specs.Choose.{worked}
 use Rattle.laws.specs.Chain.{sum, units}
 use Rattle.domain.specs.Facts.{Depth, at-depth, size-small}
 use Rattle.plan.specs.declared.Verdict.{Verdict}
-use Rattle.plan.specs.Plan.{In, Covered, place}
-use Rattle.plan.specs.Cover.{area}
+use Rattle.tiling.specs.Tiling.{In, Covered, place}
+use Rattle.tiling.specs.Cover.{area}
 use Rattle.plan.specs.Verdict.{Accepted}
 use Rattle.still.specs.declared.Still.{Still}
 use Rattle.walk.specs.declared.Progress.{Progress}

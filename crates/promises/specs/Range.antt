@@ -21,7 +21,7 @@ use Rattle.domain.specs.Facts.{Depth, Size, at-depth}
 use Rattle.flat.specs.Range.{planar-between, dc-between}
 use Rattle.angular.specs.Range.{mean-angular}
 use Rattle.predict.specs.Modes.{byMode, is-by-mode}
-use Rattle.plan.specs.declared.Block.{Block}
+use Rattle.tiling.specs.declared.Block.{Block}
 use Rattle.still.specs.declared.Still.{Still}
 use Rattle.still.specs.Checks.{largestOf}
 use Rattle.block.specs.Block.{sampleAt, predictedAt}

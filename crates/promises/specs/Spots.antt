@@ -16,8 +16,8 @@ use borrow.Author.Tests.{leb-true}
 use Rattle.laws.specs.Choose.{both-true, both-same}
 use Rattle.laws.specs.Diff.{order}
 use Rattle.helpers.specs.Ways.{apart-below, apart-above}
-use Rattle.plan.specs.declared.Block.{Block}
-use Rattle.plan.specs.Plan.{In, Covered, place}
+use Rattle.tiling.specs.declared.Block.{Block}
+use Rattle.tiling.specs.Tiling.{In, Covered, place}
 use Rattle.plan.specs.Verdict.{Accepted}
 use Rattle.still.specs.declared.Still.{Still}
 use Rattle.block.specs.Block.{sampleAt, predictedAt}

@@ -15,7 +15,7 @@ use Rattle.refs.specs.declared.LumaRefGeometry.{LumaRefGeometry}
 use Rattle.refs.specs.declared.ChromaRefGeometry.{ChromaRefGeometry}
 use Rattle.refs.specs.Door.{lumaLength, chromaLength}
 use Rattle.bytes.specs.Bytes.{residualsOf}
-use Rattle.plan.specs.Plan.{pictureOf}
+use Rattle.tiling.specs.Tiling.{pictureOf}
 use Rattle.plan.specs.Records.{recordsOf}
 use Rattle.still.specs.declared.Still.{Still}
 use Rattle.walk.specs.declared.Progress.{Progress}

@@ -14,10 +14,11 @@ use borrow.Author.Tests.{eqb-true, eqb-false, ltb-true, ne-eqb}
 use Rattle.laws.specs.Bytes.{leAt}
 use Rattle.laws.specs.FillLaws.{length-fill, fill-at}
 use Rattle.domain.specs.Facts.{Depth}
-use Rattle.plan.specs.declared.Frame.{Frame}
-use Rattle.plan.specs.declared.Block.{Block}
+use Rattle.tiling.specs.declared.Frame.{Frame}
+use Rattle.tiling.specs.declared.Block.{Block}
 use Rattle.plan.specs.declared.Verdict.{Verdict}
-use Rattle.plan.specs.Plan.{pictureOf, planOf}
+use Rattle.tiling.specs.Tiling.{pictureOf}
+use Rattle.plan.specs.Plan.{planOf}
 use Rattle.walk.specs.declared.Stepped.{Stepped}
 use Rattle.still.specs.Checks.{largestOf}
 use Rattle.walk.specs.Door.{steppedBy}

@@ -20,13 +20,15 @@ use borrow.Author.Tests.{eqb-true, eqb-false}
 use Rattle.laws.specs.Choose.{if-no}
 use Rattle.domain.specs.Facts.{Depth, Size}
 use Rattle.order.specs.Order.{pictureOk}
-use Rattle.plan.specs.declared.Frame.{Frame}
-use Rattle.plan.specs.declared.Block.{Block}
+use Rattle.tiling.specs.declared.Frame.{Frame}
+use Rattle.tiling.specs.declared.Block.{Block}
 use Rattle.plan.specs.declared.Verdict.{Verdict}
-use Rattle.plan.specs.Plan.{pictureOf, Plan, In, Covered, Placed, Next}
-use Rattle.plan.specs.Check.{placedOk, blocksVerdict, planVerdict}
+use Rattle.tiling.specs.Tiling.{pictureOf, In, Covered, Placed, Next}
+use Rattle.plan.specs.Plan.{Plan}
+use Rattle.tiling.specs.Check.{placedOk}
+use Rattle.plan.specs.Check.{blocksVerdict, planVerdict}
 use Rattle.plan.specs.Records.{recordsOf, wholeRecords, bytesVerdict}
-use Rattle.plan.specs.Tests.{picture-good, placed-of}
+use Rattle.tiling.specs.Tests.{picture-good, placed-of}
 use Rattle.plan.specs.Verdict.{Fine, Broken, bad-size, bad-mode, bad-place, bad-order, Told, is-good, bad-picture, bad-block, bad-cover, told, verdict-good, good-verdict}
 use Rattle.still.specs.declared.Still.{Still}
 use Rattle.walk.specs.declared.Progress.{Progress}

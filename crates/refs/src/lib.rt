@@ -166,8 +166,16 @@ fn finish(above: &mut [u16], left: &mut [u16], seen: u16, r: Reach, n: usize) ->
     requires { ⌜ Few r n × ((length (now above) ≡ 65) × (length (now left) ≡ 65)) ⌝ }
     ensures { λ c. ⌜ (c ≡ padRows r seen (now (above .entry)) (now (left .entry)) n .corner) × ((now (above .exit) ≡ padRows r seen (now (above .entry)) (now (left .entry)) n .above) × (now (left .exit) ≡ padRows r seen (now (above .entry)) (now (left .entry)) n .left)) ⌝ }
 {
-    let start = last_of(&*left, r.left, substitution::choose(r.corner, seen, above[0]));
-    let corner = substitution::choose(r.corner, seen, substitution::choose(r.left > 0, left[0], start));
+    let start = last_of(
+        &*left,
+        r.left,
+        substitution::choose(r.corner, seen, above[0]),
+    );
+    let corner = substitution::choose(
+        r.corner,
+        seen,
+        substitution::choose(r.left > 0, left[0], start),
+    );
     let rest = last_of(&*above, r.above, corner);
     pad(&mut *above, r.above, 2 * n + 1, rest);
     pad(&mut *left, r.left, 2 * n + 1, start);
@@ -295,7 +303,11 @@ pub fn get_reference_samples_bytes(plane: &[u8], geo: LumaRefGeometry) -> Gather
     ensures { λ r. ⌜ r ≡ lumaBytesDoor (now (plane .entry)) geo ⌝ }
 {
     let reach = order::luma_reach(luma_block(geo));
-    let no = gather_no(geo.bits, reach.no, bytes::whole_in(plane.len(), luma_length(geo)));
+    let no = gather_no(
+        geo.bits,
+        reach.no,
+        bytes::whole_in(plane.len(), luma_length(geo)),
+    );
     if no != 0 {
         return Gathered {
             no,

@@ -21,9 +21,9 @@ use fmt::LumaRow;
 use listing::Count;
 use order::Picture;
 use refs::ChromaRefGeometry;
-use substitution::Flags;
 use refs::LumaRefGeometry;
 use rows::Rows;
+use substitution::Flags;
 
 // What a line gives a call, which entries it compares, and the number and the corner that it wants.
 struct Call {

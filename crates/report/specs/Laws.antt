@@ -14,8 +14,9 @@ use borrow.Author.Tests.{lt-ltb, ltb-true, ltb-false}
 use Rattle.io.specs.Digits.{digits, glyph, Fewest}
 use Rattle.laws.specs.Fill.{fill}
 use Rattle.laws.specs.FillLaws.{length-fill}
-use Rattle.plan.specs.declared.Block.{Block}
-use Rattle.plan.specs.Plan.{Plan, place}
+use Rattle.tiling.specs.declared.Block.{Block}
+use Rattle.tiling.specs.Tiling.{place}
+use Rattle.plan.specs.Plan.{Plan}
 use Rattle.walk.specs.declared.Stepped.{Stepped}
 use Rattle.block.specs.Block.{World}
 use Rattle.walk.specs.Door.{steppedBy, walkVerdict, walkAfter}

@@ -18,7 +18,7 @@ use Rattle.file.specs.declared.Trailer.{Trailer}
 use Rattle.file.specs.File.{trailerOf, area, regionsOk, fileOk, sourceOf, recordAt, recordsOf}
 use Rattle.plan.specs.declared.Verdict.{Verdict}
 use Rattle.plan.specs.Plan.{Plan, planOf}
-use Rattle.plan.specs.Cover.{area as plan-area}
+use Rattle.tiling.specs.Cover.{area as plan-area}
 use Rattle.still.specs.declared.Still.{Still}
 use Rattle.walk.specs.declared.Progress.{Progress}
 use Rattle.walk.specs.declared.Stepped.{Stepped}

@@ -12,9 +12,9 @@ ghost use Rattle.report.specs.Told.{stillOf, tables, fresh, agree, line,
 ghost use Rattle.report.specs.Laws.{Laid, Listed, Walked};
 ghost use Rattle.report.specs.Whole.{Blank, Held};
 use file::Trailer;
-use plan::Block;
-use plan::Frame;
 use still::Still;
+use tiling::Block;
+use tiling::Frame;
 use walk::Progress;
 use walk::Stepped;
 

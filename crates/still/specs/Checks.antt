@@ -9,7 +9,7 @@ use Rattle.laws.specs.Choose.{_unless_, firstFail}
 use Rattle.domain.specs.Domain.{depthOk}
 use Rattle.order.specs.Order.{pictureOk}
 use Rattle.plan.specs.declared.Verdict.{Verdict}
-use Rattle.plan.specs.Plan.{pictureOf}
+use Rattle.tiling.specs.Tiling.{pictureOf}
 use Rattle.still.specs.declared.Still.{Still}
 
 -- the largest sample of the depth

@@ -13,7 +13,7 @@ use Rattle.domain.specs.Domain.{depthOk}
 use Rattle.domain.specs.Facts.{Depth, depth-of, at-depth}
 use Rattle.order.specs.Order.{pictureOk}
 use Rattle.plan.specs.declared.Verdict.{Verdict}
-use Rattle.plan.specs.Plan.{pictureOf}
+use Rattle.tiling.specs.Tiling.{pictureOf}
 use Rattle.still.specs.declared.Still.{Still}
 use Rattle.still.specs.Checks.{largestAt, every, openingNo, callNo, settle}
 

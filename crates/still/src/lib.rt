@@ -4,10 +4,10 @@ ghost use mathlib.Core.Path.{_≡_};
 ghost use Prim.Native.Nat.{ℕ, min, _-_};
 ghost use lib.Dec.{leb};
 ghost use Rattle.order.specs.Order.{pictureOk};
-ghost use Rattle.plan.specs.Plan.{pictureOf};
+ghost use Rattle.tiling.specs.Tiling.{pictureOf};
 ghost use Rattle.still.specs.Checks.{largestAt, every, whole, roomy, openingNo, residualOk, replayNo, walkNo, settle};
-use plan::Frame;
 use plan::Verdict;
+use tiling::Frame;
 
 // A still: its depth, its luma sides and its CTU.
 pub struct Still {

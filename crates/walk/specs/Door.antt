@@ -10,7 +10,8 @@ use Rattle.laws.specs.Chain.{units}
 use Rattle.domain.specs.Domain.{depthOk}
 use Rattle.order.specs.Order.{pictureOk}
 use Rattle.plan.specs.declared.Verdict.{Verdict}
-use Rattle.plan.specs.Plan.{pictureOf, Plan}
+use Rattle.tiling.specs.Tiling.{pictureOf}
+use Rattle.plan.specs.Plan.{Plan}
 use Rattle.plan.specs.Check.{blocksVerdict}
 use Rattle.still.specs.declared.Still.{Still}
 use Rattle.still.specs.Checks.{largestOf, every, whole, Tables, roomy, residualOk}

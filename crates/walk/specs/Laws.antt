@@ -14,12 +14,13 @@ use Rattle.laws.specs.Choose.{if-yes, if-no, passed, both-true, worked, unserve
 use Rattle.domain.specs.Domain.{depthOk}
 use Rattle.domain.specs.Facts.{size-small, depth-of}
 use Rattle.order.specs.Order.{pictureOk}
-use Rattle.plan.specs.declared.Frame.{Frame}
-use Rattle.plan.specs.declared.Block.{Block}
+use Rattle.tiling.specs.declared.Frame.{Frame}
+use Rattle.tiling.specs.declared.Block.{Block}
 use Rattle.plan.specs.declared.Verdict.{Verdict}
-use Rattle.plan.specs.Plan.{pictureOf, Plan, Placed, place}
-use Rattle.plan.specs.Steps.{area-small}
-use Rattle.plan.specs.Cover.{area}
+use Rattle.tiling.specs.Tiling.{pictureOf, Placed, place}
+use Rattle.plan.specs.Plan.{Plan}
+use Rattle.tiling.specs.Ahead.{area-small}
+use Rattle.tiling.specs.Cover.{area}
 use Rattle.plan.specs.Check.{blocksVerdict, planVerdict}
 use Rattle.plan.specs.Verdict.{Accepted, verdict-good}
 use Rattle.still.specs.declared.Still.{Still}

@@ -13,7 +13,8 @@ use Rattle.laws.specs.Chain.{units}
 use Rattle.laws.specs.Choose.{served, if-yes, if-no, worked, unserved}
 use Rattle.order.specs.Order.{pictureOk}
 use Rattle.plan.specs.declared.Verdict.{Verdict}
-use Rattle.plan.specs.Plan.{pictureOf, Plan, noBlock}
+use Rattle.tiling.specs.Tiling.{pictureOf}
+use Rattle.plan.specs.Plan.{Plan, noBlock}
 use Rattle.plan.specs.Check.{planVerdict}
 use Rattle.plan.specs.Verdict.{verdict-good}
 use Rattle.still.specs.declared.Still.{Still}

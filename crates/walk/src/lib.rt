@@ -13,10 +13,10 @@ ghost use Rattle.block.specs.Ready.{Ready, Lies};
 ghost use Rattle.walk.specs.Door.{steppedBy, replayVerdict, replayAfter, walkVerdict, walkAfter};
 ghost use Rattle.walk.specs.Ready.{ReplayReady, WalkReady};
 ghost use Rattle.walk.specs.Listed.{scratchTables, bare, callOf};
-use plan::Block;
 use plan::Verdict;
 use scratch::AngularScratch;
 use still::Still;
+use tiling::Block;
 
 // How many blocks of the plan are done; 0 when fresh.
 pub struct Progress {

@@ -6,10 +6,10 @@ ghost use Rattle.plan.specs.Plan.{planOf, listed};
 ghost use Rattle.walk.specs.Listed.{scratchTables};
 ghost use Rattle.walk.specs.Door.{steppedBy, walkVerdict, walkAfter, replayVerdict, replayAfter};
 ghost use Rattle.walk_probes.specs.Probes.{planAnswer, stillOf, stepOf};
-use plan::Block;
-use plan::Frame;
 use scratch::AngularScratch;
 use still::Still;
+use tiling::Block;
+use tiling::Frame;
 use walk::Progress;
 use walk::Stepped;
 

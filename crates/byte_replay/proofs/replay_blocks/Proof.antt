@@ -9,8 +9,8 @@ use native.Mathlib.Omega.{arith}
 use Rattle.laws.specs.Chain.{units}
 use Rattle.bytes.specs.Bytes.{samplesOf, residualsOf}
 use Rattle.bytes.specs.Laws.{samples-alike}
-use Rattle.plan.specs.declared.Block.{Block}
-use Rattle.plan.specs.Plan.{place}
+use Rattle.tiling.specs.declared.Block.{Block}
+use Rattle.tiling.specs.Tiling.{place}
 use Rattle.plan.specs.Records.{recordsOf}
 use Rattle.block.specs.Block.{rebuilt, replayUnit}
 use Rattle.block.specs.Places.{place-none, place-more}

@@ -45,17 +45,17 @@ use denote.Triple.Spec.{Meets, tripleOf}
 use denote.Triple.Table.{entered, cited}
 use denote.Triple.Walked.{says, Stays, stay-none-slice, stay-none, walkOf, goes-none-slice, goes-none, Walks, ends-at, walked, walk-meets}
 use denote.Exit.{yes}
-use Rattle.plan.specs.declared.Frame.{Frame}
-use Rattle.plan.specs.declared.Block.{Block}
+use Rattle.tiling.specs.declared.Frame.{Frame}
+use Rattle.tiling.specs.declared.Block.{Block}
 use Rattle.plan.specs.declared.Verdict.{Verdict}
 use Rattle.plan.specs.declared.Checking.{Checking}
 use Rattle.plan.specs.Plan.{noBlock, listed}
 use Rattle.plan.specs.Check.{planVerdict}
 use Rattle.plan.specs.Standing.{Small, startOf, stepOf, endOf, Standing, standing-small, standing-none, standing-more, standing-end}
-use Rattle.plan.proofs.Frame as F
-use Rattle.plan.proofs.Frame.Laws as F′
-use Rattle.plan.proofs.Block as T
-use Rattle.plan.proofs.Block.Laws as T′
+use Rattle.tiling.proofs.Frame as F
+use Rattle.tiling.proofs.Frame.Laws as F′
+use Rattle.tiling.proofs.Block as T
+use Rattle.tiling.proofs.Block.Laws as T′
 use Rattle.plan.proofs.Verdict as Q
 use Rattle.plan.proofs.Verdict.Laws as Q′
 use Rattle.plan.proofs.Checking as S

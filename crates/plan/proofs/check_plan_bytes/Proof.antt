@@ -3,7 +3,7 @@ use mathlib.Core.Path.{refl, sym, _∙_}
 use borrow.Author.Tests.{not-true, not-false, eq-eqb, ne-eqb}
 use Rattle.laws.specs.Choose.{if-yes, if-no}
 use Rattle.order.specs.Order.{pictureOk}
-use Rattle.plan.specs.Plan.{pictureOf}
+use Rattle.tiling.specs.Tiling.{pictureOf}
 use Rattle.plan.specs.Records.{wholeRecords, bytesVerdict}
 use Rattle.plan.specs.Check.{planVerdict}
 use borrow.Author.Needs.{needs}

@@ -4,7 +4,8 @@ use native.Mathlib.Omega.{arith}
 use borrow.Author.Needs.{needs}
 use borrow.Author.Tests.{eq-eqb, ne-eqb}
 use Rattle.plan.specs.Standing.{lookOf, stepOf, small-fits}
-use Rattle.plan.specs.Steps.{area-small}
+use Rattle.tiling.specs.Ahead.{area-small}
+use Rattle.tiling.specs.Tests.{door-good}
 use Rattle.plan.proofs.check_step.Statement.{statement}
 use Rattle.plan.proofs.check_step.Tie as tie
 
@@ -13,27 +14,27 @@ unfolding stepOf
 returns c = simp (ne-eqb _ _ (c .if1 .taken))
 
 block-no-requires : tie.Need-block-no-requires
-block-no-requires c κs = c .before .before .pre (c .if1 .left) .0
+block-no-requires c κs = search needs
 
 cast-t8 : tie.Need-cast-t8
 cast-t8 c = let p = c .before .before .before .before .pre (c .before .before .if1 .left) in let a = area-small (p .0) in record { fits = omega (arith, p .1, a) }
 
 returns-2 : tie.Need-returns-2
 unfolding stepOf lookOf
-returns-2 c = simp (eq-eqb _ _ (c .before .before .if1 .left), sym (c .before .block-no .ensures), ne-eqb _ _ (c .if2 .taken))
+returns-2 c = simp (eq-eqb _ _ (c .before .before .if1 .left), sym (c .before .block-no .ensures ∙ door-good _ _ _ (c .before .before .before .before .pre (c .before .before .if1 .left) .0)), ne-eqb _ _ (c .if2 .taken))
 
 cast-n : tie.Need-cast-n
 cast-n c = search needs
 
 mul-t9 : tie.Need-mul-t9
-mul-t9 c = let p = small-fits (c .before .before .before .before .before .args .t) (c .before .before .before .before .before .args .i) (c .before .before .before .before .before .pre) (c .before .before .before .if1 .left) (c .before .before .before .before .before .args .b) (sym (c .before .before .block-no .ensures) ∙ c .before .if2 .left) in record { fits = omega (arith, p) }
+mul-t9 c = let p = small-fits (c .before .before .before .before .before .args .t) (c .before .before .before .before .before .args .i) (c .before .before .before .before .before .pre) (c .before .before .before .if1 .left) (c .before .before .before .before .before .args .b) (sym (c .before .before .block-no .ensures ∙ door-good _ _ _ (c .before .before .before .before .before .pre (c .before .before .before .if1 .left) .0)) ∙ c .before .if2 .left) in record { fits = omega (arith, p) }
 
 add-t10 : tie.Need-add-t10
-add-t10 c = let p = small-fits (c .before .before .before .before .before .before .args .t) (c .before .before .before .before .before .before .args .i) (c .before .before .before .before .before .before .pre) (c .before .before .before .before .if1 .left) (c .before .before .before .before .before .before .args .b) (sym (c .before .before .before .block-no .ensures) ∙ c .before .before .if2 .left) in let a = area-small (c .before .before .before .before .before .before .pre (c .before .before .before .before .if1 .left) .0) in record { fits = omega (arith, p, a) }
+add-t10 c = let p = small-fits (c .before .before .before .before .before .before .args .t) (c .before .before .before .before .before .before .args .i) (c .before .before .before .before .before .before .pre) (c .before .before .before .before .if1 .left) (c .before .before .before .before .before .before .args .b) (sym (c .before .before .before .block-no .ensures ∙ door-good _ _ _ (c .before .before .before .before .before .before .pre (c .before .before .before .before .if1 .left) .0)) ∙ c .before .before .if2 .left) in let a = area-small (c .before .before .before .before .before .before .pre (c .before .before .before .before .if1 .left) .0) in record { fits = omega (arith, p, a) }
 
 returns-3 : tie.Need-returns-3
 unfolding stepOf lookOf
-returns-3 c = simp (eq-eqb _ _ (c .before .before .before .before .if1 .left), eq-eqb _ _ (sym (c .before .before .before .block-no .ensures) ∙ c .before .before .if2 .left))
+returns-3 c = simp (eq-eqb _ _ (c .before .before .before .before .if1 .left), eq-eqb _ _ (sym (c .before .before .before .block-no .ensures ∙ door-good _ _ _ (c .before .before .before .before .before .before .pre (c .before .before .before .before .if1 .left) .0)) ∙ c .before .before .if2 .left))
 
 pub check-step-spec : {M : Type 1} → statement M
 check-step-spec =

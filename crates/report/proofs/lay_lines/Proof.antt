@@ -4,7 +4,8 @@ use Prim.Native.Nat.{_-_, _*_, _≤_}
 use mathlib.Core.Path.{_≡_, ap}
 use native.Mathlib.Omega.{arith}
 use lib.ListN.{length}
-use Rattle.plan.specs.Plan.{planOf, place}
+use Rattle.tiling.specs.Tiling.{place}
+use Rattle.plan.specs.Plan.{planOf}
 use Rattle.block.specs.Places.{place-none, place-more}
 use Rattle.report.specs.Told.{lines}
 use Rattle.report.specs.Laws.{Laid, said, lines-none, square, among, next-line}

@@ -7,8 +7,9 @@ use lib.Dec.{leb}
 use lib.ListN.{length}
 use native.Mathlib.Omega.{arith}
 use Rattle.laws.specs.Chain.{units}
-use Rattle.plan.specs.declared.Block.{Block}
-use Rattle.plan.specs.Plan.{planOf, place}
+use Rattle.tiling.specs.declared.Block.{Block}
+use Rattle.tiling.specs.Tiling.{place}
+use Rattle.plan.specs.Plan.{planOf}
 use Rattle.block.specs.Block.{World, walked, walkUnit}
 use Rattle.block.specs.Places.{place-none, place-more}
 use Rattle.walk.specs.Laws.{lies, ready}

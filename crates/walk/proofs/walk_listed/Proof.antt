@@ -49,10 +49,11 @@ use denote.Triple.Table.{entered, cited}
 use denote.Triple.Walked.{says, needs, Stays, stay-none-slice, stay-slice, stay-ref, stay-none, walkOf, goes-none-slice, goes-slice, goes-ref, goes-none, Walks, ends-at, walked, walk-meets}
 use denote.Exit.{yes}
 use Rattle.laws.specs.Chain.{units}
-use Rattle.plan.specs.declared.Block.{Block}
-use Rattle.plan.specs.Plan.{noBlock, listed, place}
-use Rattle.plan.proofs.Block as T
-use Rattle.plan.proofs.Block.Laws as T′
+use Rattle.tiling.specs.declared.Block.{Block}
+use Rattle.tiling.specs.Tiling.{place}
+use Rattle.plan.specs.Plan.{noBlock, listed}
+use Rattle.tiling.proofs.Block as T
+use Rattle.tiling.proofs.Block.Laws as T′
 use Rattle.scratch.specs.declared.AngularScratch.{AngularScratch}
 use Rattle.scratch.proofs.AngularScratch as G
 use Rattle.scratch.proofs.Tables.{Long, made, Loan, tableAt, Tokens, Lent, Kept, Holds, lend, regain}

@@ -40,14 +40,14 @@ use denote.Triple.Table.{entered, cited}
 use denote.Triple.Walked.{says, Stays, stay-none-slice, gave-slice, gave-ref, stay-none, walkOf, goes-none-slice, goes-gave-slice, goes-gave-ref, goes-none, Walks, ends-at, walked, walk-meets}
 use denote.Exit.{yes}
 use Rattle.laws.specs.Chain.{units}
-use Rattle.plan.specs.declared.Frame.{Frame}
-use Rattle.plan.specs.declared.Block.{Block}
+use Rattle.tiling.specs.declared.Frame.{Frame}
+use Rattle.tiling.specs.declared.Block.{Block}
 use Rattle.plan.specs.declared.Verdict.{Verdict}
 use Rattle.plan.specs.Plan.{listed}
 use Rattle.plan.specs.Check.{planVerdict}
-use Rattle.plan.proofs.Frame as F
-use Rattle.plan.proofs.Frame.Laws as F′
-use Rattle.plan.proofs.Block as T
+use Rattle.tiling.proofs.Frame as F
+use Rattle.tiling.proofs.Frame.Laws as F′
+use Rattle.tiling.proofs.Block as T
 use Rattle.plan.proofs.Verdict as Q
 use Rattle.plan.proofs.Verdict.Laws as Q′
 use Rattle.plan.proofs.check_plan as chk

@@ -1,14 +1,14 @@
--- `plan::block_no` meets its contract, test by test.
+-- `tiling::placed_no` meets its contract, test by test.
 use mathlib.Core.Path.{sym, _∙_}
 use mathlib.Core.Bool.{true, false}
 use native.Mathlib.Omega.{arith}
 use borrow.Author.Tests.{not-true, not-false}
 use Rattle.domain.specs.Facts.{size-of}
-use Rattle.plan.specs.Cover.{first-in}
-use Rattle.plan.specs.Tests.{placed-of, no-2, no-3, no-6, no-last}
+use Rattle.tiling.specs.Cover.{first-in}
+use Rattle.tiling.specs.Tests.{placed-of, no-2, no-3, no-6, no-last}
 use borrow.Author.Needs.{needs}
-use Rattle.plan.proofs.block_no.Statement.{statement}
-use Rattle.plan.proofs.block_no.Tie as tie
+use Rattle.tiling.proofs.placed_no.Statement.{statement}
+use Rattle.tiling.proofs.placed_no.Tie as tie
 
 cast-size-ok : tie.Need-cast-size-ok
 cast-size-ok c = search needs
@@ -45,8 +45,8 @@ returns-4 c = no-last _ _ _ (sym (c .before .before .before .before .before .bef
 returns-5 : tie.Need-returns-5
 returns-5 c = no-last _ _ _ (sym (c .before .before .before .before .before .before .before .before .before .size-ok .ensures) ∙ not-false _ (c .before .before .before .before .before .before .before .before .if1 .left)) (omega (arith, c .before .before .before .before .before .before .if2 .left)) (sym (c .before .before .before .before .before .placed-ok .ensures) ∙ not-false _ (c .before .before .before .before .if3 .left)) true (sym (c .before .starts-next .ensures) ∙ not-false _ (c .if4 .left))
 
-pub block-no-spec : {M : Type 1} → statement M
-block-no-spec =
+pub placed-no-spec : {M : Type 1} → statement M
+placed-no-spec =
     tie.close
     (tie.spec
     cast-size-ok

@@ -2,8 +2,8 @@
 use mathlib.Core.Path.{_≡_}
 use mathlib.Core.Logic.{⊎-elim}
 use Rattle.h265.specs.Notation.{halvings}
-use Rattle.plan.proofs.levels_of.Statement.{statement}
-use Rattle.plan.proofs.levels_of.Tie as tie
+use Rattle.tiling.proofs.levels_of.Statement.{statement}
+use Rattle.tiling.proofs.levels_of.Tie as tie
 
 returns : tie.Need-returns
 unfolding halvings

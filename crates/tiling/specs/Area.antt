@@ -12,11 +12,11 @@ use Rattle.laws.specs.Choose.{both-true}
 use Rattle.h265.specs.Notation.{log2, halvings}
 use Rattle.order.specs.Cells.{cellNo, dbl, quad, cell-bound}
 use Rattle.order.specs.Good.{Good, sized, levels, ctusIn, ctus-cover, cell-in, number-cell}
-use Rattle.plan.specs.declared.Frame.{Frame}
-use Rattle.plan.specs.Plan.{pictureOf, In, cellAt}
-use Rattle.plan.specs.Check.{aheadBy, ahead}
-use Rattle.plan.specs.Cell.{rowOf, colOf, cell-of, of-cell}
-use Rattle.plan.specs.Count.{cnt, cnt-add, cnt-none, cnt-zero, cnt-mono, from-start, four, part, halves, glue, two}
+use Rattle.tiling.specs.declared.Frame.{Frame}
+use Rattle.tiling.specs.Tiling.{pictureOf, In, cellAt}
+use Rattle.tiling.specs.Check.{aheadBy, ahead}
+use Rattle.tiling.specs.Cell.{rowOf, colOf, cell-of, of-cell}
+use Rattle.tiling.specs.Count.{cnt, cnt-add, cnt-none, cnt-zero, cnt-mono, from-start, four, part, halves, glue, two}
 
 -- halvings from the CTU to the cell, and the CTUs in a row
 abbrev pub deep : Frame → ℕ

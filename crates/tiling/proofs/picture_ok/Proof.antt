@@ -1,7 +1,7 @@
 -- `plan::picture_ok` meets its contract.
 use borrow.Author.Needs.{needs}
-use Rattle.plan.proofs.picture_ok.Statement.{statement}
-use Rattle.plan.proofs.picture_ok.Tie as tie
+use Rattle.tiling.proofs.picture_ok.Statement.{statement}
+use Rattle.tiling.proofs.picture_ok.Tie as tie
 
 side-ok-requires : tie.Need-side-ok-requires
 side-ok-requires c κs = search needs

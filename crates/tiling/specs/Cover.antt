@@ -13,13 +13,13 @@ use Rattle.domain.specs.Facts.{at-size}
 use Rattle.order.specs.Cells.{dbl}
 use Rattle.order.specs.Good.{Good, sized, ctus-cover}
 use Rattle.order_laws.specs.Laws.{block-in, block-only}
-use Rattle.plan.specs.declared.Frame.{Frame}
-use Rattle.plan.specs.declared.Block.{Block}
-use Rattle.plan.specs.Plan.{pictureOf, In, cellAt, Of, Covered, Placed, Next, GoodPlan, place}
-use Rattle.plan.specs.Check.{ahead}
-use Rattle.plan.specs.Cell.{rowOf, colOf, col-of-lt}
-use Rattle.plan.specs.Count.{cnt, cnt-all, cnt-mono, cnt-up, cnt-meets, from-start}
-use Rattle.plan.specs.Area.{deep, across, inside, numbers, w-pos, num-inside, num-lt, is-num, inside-num, picture-area, cnt-most, ahead-is}
+use Rattle.tiling.specs.declared.Frame.{Frame}
+use Rattle.tiling.specs.declared.Block.{Block}
+use Rattle.tiling.specs.Tiling.{pictureOf, In, cellAt, Of, Covered, Placed, Next, GoodPlan, place}
+use Rattle.tiling.specs.Check.{ahead}
+use Rattle.tiling.specs.Cell.{rowOf, colOf, col-of-lt}
+use Rattle.tiling.specs.Count.{cnt, cnt-all, cnt-mono, cnt-up, cnt-meets, from-start}
+use Rattle.tiling.specs.Area.{deep, across, inside, numbers, w-pos, num-inside, num-lt, is-num, inside-num, picture-area, cnt-most, ahead-is}
 
 -- the cells of a block of side n
 abbrev cells : ℕ → ℕ

@@ -4,8 +4,8 @@ use mathlib.Core.Bool.{Bool, _&&_}
 use mathlib.Core.Logic.{⊎-elim}
 use Prim.Native.Nat.{ℕ, _%_}
 use lib.Dec.{eqb}
-use Rattle.plan.proofs.aligned.Statement.{statement}
-use Rattle.plan.proofs.aligned.Tie as tie
+use Rattle.tiling.proofs.aligned.Statement.{statement}
+use Rattle.tiling.proofs.aligned.Tie as tie
 
 -- what is asked of a side
 abbrev asked : ℕ → ℕ → ℕ → Bool

@@ -12,10 +12,10 @@ use Rattle.order.specs.Order.{pictureOk}
 use Rattle.order.specs.Good.{Good}
 use Rattle.order.specs.Reach.{inPlane}
 use Rattle.order.specs.Blocks.{picture-of, in-plane}
-use Rattle.plan.specs.declared.Frame.{Frame}
-use Rattle.plan.specs.declared.Block.{Block}
-use Rattle.plan.specs.Plan.{pictureOf, Placed}
-use Rattle.plan.specs.Check.{ahead, placedOk, blockNo}
+use Rattle.tiling.specs.declared.Frame.{Frame}
+use Rattle.tiling.specs.declared.Block.{Block}
+use Rattle.tiling.specs.Tiling.{pictureOf, Placed}
+use Rattle.tiling.specs.Check.{ahead, placedOk, blockNo, blockDoor}
 
 -- the picture
 pub picture-good : (f : Frame) → pictureOk (pictureOf f) ≡ true → Good (pictureOf f)
@@ -84,3 +84,8 @@ module _ (f : Frame) (b : Block) (covered : ℕ) where
   pub no-last : sizeOk (b .side) ≡ true → b .mode ≤ 34 → placedOk f b ≡ true → (a : Bool) → eqb (ahead f (b .row) (b .col)) covered ≡ a → cond a 0 9 ≡ blockNo f b covered
   unfolding blockNo
   no-last s m p a e = if-yes (sizeOk (b .side)) _ 2 _ s (if-yes (modeOk (b .mode)) _ 3 _ (le-leb (b .mode) 34 m) (if-yes (placedOk f b) _ 6 _ p (ap (λ (x : Bool). cond x 0 9) (sym e))))
+
+  -- in a good picture number 4 is not given
+  pub door-good : Good (pictureOf f) → blockDoor f b covered ≡ blockNo f b covered
+  unfolding blockDoor
+  door-good g = rw (good-picture f g)

@@ -4,8 +4,8 @@ use Prim.Native.Nat.{ℕ, _*_, _≤_}
 use native.Mathlib.Nat.{mul-le-mul}
 use native.Mathlib.Omega.{arith}
 use borrow.Author.Needs.{needs}
-use Rattle.plan.proofs.strip.Statement.{statement}
-use Rattle.plan.proofs.strip.Tie as tie
+use Rattle.tiling.proofs.strip.Statement.{statement}
+use Rattle.tiling.proofs.strip.Tie as tie
 
 lesser-requires : tie.Need-lesser-requires
 lesser-requires c κs = search needs
