@@ -20,6 +20,7 @@ use Rattle.block.specs.Block.{World}
 use Rattle.byte_replay.specs.Door.{After}
 use Rattle.byte_predict.specs.Entries.{Written, wrote}
 use Rattle.bytes.proofs.sample.Reads as bytes-sample
+use Rattle.bytes.proofs.whole_in.Reads as bytes-whole-in
 use Rattle.bytes.proofs.residual.Reads as bytes-residual
 use Rattle.bytes.proofs.byte_0.Reads as bytes-byte-0
 use Rattle.bytes.proofs.byte_1.Reads as bytes-byte-1
@@ -66,12 +67,17 @@ use Rattle.helpers.proofs.clamp.Reads as helpers-clamp
 use Rattle.smooth.proofs.should_filter_refs.Reads as smooth-should-filter-refs
 use Rattle.smooth.proofs.filter_references.Reads as smooth-filter-references
 use Rattle.smooth.proofs.filter_luma_refs.Reads as smooth-filter-luma-refs
-use Rattle.refs.proofs.substitute_refs.Reads as refs-substitute-refs
+use Rattle.substitution.proofs.choose.Reads as substitution-choose
+use Rattle.substitution.proofs.neutral_of.Reads as substitution-neutral-of
+use Rattle.substitution.proofs.level_rows.Reads as substitution-level-rows
+use Rattle.substitution.proofs.substitute_refs.Reads as substitution-substitute-refs
 use Rattle.refs.proofs.get_reference_samples.Reads as refs-get-reference-samples
 use Rattle.refs.proofs.get_reference_samples_chroma_pair.Reads as refs-get-reference-samples-chroma-pair
 use Rattle.refs.proofs.get_reference_samples_bytes.Reads as refs-get-reference-samples-bytes
 use Rattle.refs.proofs.get_reference_samples_chroma_pair_bytes.Reads as refs-get-reference-samples-chroma-pair-bytes
-use Rattle.tiling.proofs.record_at.Reads as plan-record-at
+use Rattle.tiling.proofs.picture_ok.Reads as tiling-picture-ok
+use Rattle.tiling.proofs.block_no.Reads as tiling-block-no
+use Rattle.tiling.proofs.record_at.Reads as tiling-record-at
 use Rattle.plan.proofs.check_plan_bytes.Reads as plan-check-plan-bytes
 use Rattle.plan.proofs.check_plan_numbers.Reads as plan-check-plan-numbers
 use Rattle.plan.proofs.check_plan as plan-check-plan
@@ -169,6 +175,9 @@ by-number work kept p q u v = (p ∙ sym q, u ∙ ap (λ (k : ℕ). served k wor
 -- bytes
 bytes-sample-once : Once (bytes-sample.Post tt)
 bytes-sample-once a x y s t p q = p ∙ sym q
+
+bytes-whole-in-once : Once (bytes-whole-in.Post tt)
+bytes-whole-in-once a x y s t p q = p ∙ sym q
 
 bytes-residual-once : Once (bytes-residual.Post tt)
 bytes-residual-once a x y s t p q = p ∙ sym q
@@ -316,10 +325,20 @@ smooth-filter-references-once κs a x y s t p q = p ∙ sym q
 smooth-filter-luma-refs-once : (κs : Lfts 2) → Once (smooth-filter-luma-refs.Post κs)
 smooth-filter-luma-refs-once κs a x y s t p q = p ∙ sym q
 
--- refs
-refs-substitute-refs-once : Once (refs-substitute-refs.Post tt)
-refs-substitute-refs-once a x y s t p q = p ∙ sym q
+-- substitution
+substitution-choose-once : Once (substitution-choose.Post tt)
+substitution-choose-once a x y s t p q = p ∙ sym q
 
+substitution-neutral-of-once : Once (substitution-neutral-of.Post tt)
+substitution-neutral-of-once a x y s t p q = p ∙ sym q
+
+substitution-level-rows-once : Once (substitution-level-rows.Post tt)
+substitution-level-rows-once a x y s t p q = p ∙ sym q
+
+substitution-substitute-refs-once : Once (substitution-substitute-refs.Post tt)
+substitution-substitute-refs-once a x y s t p q = p ∙ sym q
+
+-- refs
 refs-get-reference-samples-once : (κs : Lfts 1) → Once (refs-get-reference-samples.Post κs)
 refs-get-reference-samples-once κs a x y s t p q = p ∙ sym q
 
@@ -332,12 +351,19 @@ refs-get-reference-samples-bytes-once κs a x y s t p q = p ∙ sym q
 refs-get-reference-samples-chroma-pair-bytes-once : (κs : Lfts 2) → Once (refs-get-reference-samples-chroma-pair-bytes.Post κs)
 refs-get-reference-samples-chroma-pair-bytes-once κs a x y s t p q = p ∙ sym q
 
+-- tiling
+tiling-picture-ok-once : Once (tiling-picture-ok.Post tt)
+tiling-picture-ok-once a x y s t p q = p ∙ sym q
+
+tiling-block-no-once : Once (tiling-block-no.Post tt)
+tiling-block-no-once a x y s t p q = p ∙ sym q
+
+tiling-record-at-once : (κs : Lfts 1) → Once (tiling-record-at.Post κs)
+tiling-record-at-once κs a x y s t p q = p ∙ sym q
+
 -- plan
 plan-check-plan-numbers-once : (κs : Lfts 1) → Once (plan-check-plan-numbers.Post κs)
 plan-check-plan-numbers-once κs a x y s t p q = p ∙ sym q
-
-plan-record-at-once : (κs : Lfts 1) → Once (plan-record-at.Post κs)
-plan-record-at-once κs a x y s t p q = p ∙ sym q
 
 plan-check-plan-bytes-once : (κs : Lfts 1) → Once (plan-check-plan-bytes.Post κs)
 plan-check-plan-bytes-once κs a x y s t p q = p ∙ sym q
