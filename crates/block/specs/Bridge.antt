@@ -15,7 +15,7 @@ use Rattle.rows.specs.Neighbours.{neighboursOf}
 use Rattle.refs.specs.declared.LumaRefGeometry.{LumaRefGeometry}
 use Rattle.refs.specs.Door.{lumaNo, lumaRows}
 use Rattle.refs.specs.Standard.{luma-standard}
-use Rattle.predict.specs.Modes.{pred-alone}
+use Rattle.modes.specs.Modes.{pred-alone}
 use Rattle.plan.specs.declared.Block.{Block}
 use Rattle.plan.specs.Plan.{pictureOf, Placed}
 use Rattle.plan.specs.Tests.{good-picture}
