@@ -13,7 +13,8 @@ use Rattle.laws.specs.FillLaws.{run-at, rows-same}
 use Rattle.domain.specs.Facts.{Size, size-small}
 use Rattle.h265.specs.Notation.{Neighbours, fromRows}
 use Rattle.h265.specs.Angular.{angular}
-use Rattle.angular.specs.Unsigned.{angles, inverses, interpOf, startOf, fractionOf, refAt, sampleAt, edgeOf, angularAt}
+use Rattle.taps.specs.Taps.{interpOf, edgeOf}
+use Rattle.angular.specs.Unsigned.{angles, inverses, startOf, fractionOf, refAt, sampleAt, angularAt}
 use Rattle.angular.specs.Bridge.{angular-same}
 use Rattle.angular.specs.Lines.{turns, bends, lineStart, lineAt, firstOf, first-le}
 use Rattle.angular.specs.Tables.{turn-angle, bend-inverse}

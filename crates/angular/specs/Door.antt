@@ -1,36 +1,14 @@
--- The angular door's number, from document 01's table, and what a call that is served has. Assumes nothing.
+-- What a call to the angular door has where its number is 0. Rests on the numbers.
 use mathlib.Core.Path.{_≡_}
-use mathlib.Core.Bool.{Bool, _&&_}
-use mathlib.Core.List.{[], _∷_}
+use mathlib.Core.Bool.{_&&_}
 use Prim.Native.Nat.{ℕ, _*_, _≤_, _<_}
 use native.Mathlib.Omega.{arith}
 use lib.Dec.{leb}
 use borrow.Author.Tests.{leb-true}
-use Rattle.laws.specs.Choose.{firstFail, _unless_, passed, both-true}
+use Rattle.laws.specs.Choose.{passed, both-true}
 use Rattle.domain.specs.Domain.{depthOk, sizeOk, modeOk, predictorRow}
 use Rattle.domain.specs.Facts.{Depth, Size, at-size, depth-of, size-of}
-
--- the lengths of what a call lends
-pub record Lent : Type 0 where
-  pub above : ℕ
-  pub left : ℕ
-  pub pred : ℕ
-  pub refs : ℕ
-  pub indices : ℕ
-  pub fractions : ℕ
-
-abbrev pub enough : ℕ → Lent → Bool
-enough n l =
-    leb (predictorRow n) (l .above) && leb (predictorRow n) (l .left) && leb (n * n) (l .pred) && leb 193 (l .refs) && leb 32 (l .indices) && leb 32 (l .fractions)
-
-abbrev pub angularNo : ℕ → ℕ → ℕ → Lent → ℕ
-angularNo bits n mode l =
-    firstFail ((1 unless depthOk bits) ∷ (2 unless sizeOk n) ∷ (3 unless (leb 2 mode && modeOk mode)) ∷ (5 unless enough n l) ∷ [])
-
--- the number where rows of 2n entries are enough, and no table is lent
-unfoldable pub shortNo : ℕ → ℕ → ℕ → ℕ → ℕ → ℕ → ℕ
-shortNo bits n mode above left pred =
-    firstFail ((1 unless depthOk bits) ∷ (2 unless sizeOk n) ∷ (3 unless (leb 2 mode && modeOk mode)) ∷ (5 unless (leb (2 * n) above && leb (2 * n) left && leb (n * n) pred)) ∷ [])
+use Rattle.numbers.specs.Numbers.{Lent, enough, angularNo, angularShortNo}
 
 -- what a call that is served has
 pub record Fit (bits n mode : ℕ) (l : Lent) : Type 0 where
@@ -72,9 +50,9 @@ fit bits n mode l e =
       refs = let h : 193 ≤ l .refs = leb-true _ _ (c .1) in omega arith;
     }
 
-pub fit-short : (bits n mode above left pred : ℕ) → shortNo bits n mode above left pred ≡ 0
+pub fit-short : (bits n mode above left pred : ℕ) → angularShortNo bits n mode above left pred ≡ 0
     → Fit bits n mode (record { above = above; left = left; pred = pred; refs = 129; indices = 0; fractions = 0 })
-unfolding shortNo
+unfolding angularShortNo
 fit-short bits n mode above left pred e =
     let p = passed (depthOk bits) _ 1 (omega arith) e in
     let q = passed (sizeOk n) _ 2 (omega arith) (p .1) in

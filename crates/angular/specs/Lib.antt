@@ -4,11 +4,9 @@ pub mod Lines
 -- Bridge: Unsigned is the standard's; Tables: the tables are.
 pub mod Bridge
 pub mod Tables
--- Door: the number of a call.
+-- Door: what a call that is served has.
 pub mod Door
 -- Grid: columns of a block; Reach: how far an angle reads; Blocks: what the loops write is the standard's block.
 pub mod Grid
 pub mod Reach
 pub mod Blocks
--- Range: angular prediction without edge filter is a mean, and what it reads.
-pub mod Range

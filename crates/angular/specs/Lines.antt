@@ -5,7 +5,8 @@ use Prim.Native.Nat.{ℕ, _+_, _-_, _*_, _/_, _≤_, _<_}
 use native.Mathlib.Nat.{mul-le-mul-left, add-mul}
 use native.Mathlib.Omega.{arith}
 use lib.ListN.{getD}
-use Rattle.angular.specs.Unsigned.{interpOf, startOf, fractionOf}
+use Rattle.taps.specs.Taps.{interpOf}
+use Rattle.angular.specs.Unsigned.{startOf, fractionOf}
 
 -- the angle plus 32, and the inverse angle turned positive, by how far the mode is from 18
 abbrev pub turns : List ℕ

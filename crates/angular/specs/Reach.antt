@@ -1,19 +1,18 @@
--- How far an angle reaches among the references, and what each kind of reference and of edge sample is. Assumes nothing.
+-- How far an angle reaches among the references, and what each kind of reference is. Assumes nothing.
 use mathlib.Core.Path.{_≡_, refl, sym, ap, _∙_}
 use mathlib.Core.Logic.{⊎-elim}
 use mathlib.Core.List.{List}
-use Prim.Native.Nat.{ℕ, zero, suc, _+_, _-_, _*_, _/_, _%_, _≤_, _<_, min}
+use Prim.Native.Nat.{ℕ, zero, suc, _+_, _-_, _*_, _/_, _%_, _≤_, _<_}
 use native.Mathlib.Nat.{mul-add, mul-assoc, mul-le-mul-left, mul-le-mul-right, zero-add}
 use native.Mathlib.Omega.{arith}
 use lib.ListN.{length, getD}
-use lib.IntN.{pos, subℕ, _-ℤ_}
 use borrow.Author.Tests.{lt-ltb, le-ltb, eq-eqb, ne-eqb}
 use Rattle.laws.specs.Fill.{fill, run, rows}
 use Rattle.laws.specs.FillLaws.{run-same, run-at, fill-at}
-use Rattle.laws.specs.Diff.{order, sub-neg, sub-pos, as-sub}
-use Rattle.domain.specs.Facts.{Depth, Size, at-size}
+use Rattle.domain.specs.Facts.{Size, at-size}
 use Rattle.h265.specs.Notation.{Neighbours}
-use Rattle.angular.specs.Unsigned.{interpOf, fractionOf, sideOf, refAt, edgeOf}
+use Rattle.taps.specs.Taps.{interpOf}
+use Rattle.angular.specs.Unsigned.{fractionOf, sideOf, refAt}
 use Rattle.angular.specs.Lines.{lineStart, firstOf}
 use Rattle.angular.specs.Grid.{column}
 
@@ -60,9 +59,6 @@ last-size n s a b c = ⊎-elim (λ e. absurd (a e)) (λ s. ⊎-elim (λ e. absur
 pub last-edge : (n : ℕ) → Size n → n < 32 → (n ≡ 4 → ⊥) → (n ≡ 8 → ⊥) → n ≡ 16
 last-edge n s l a b = ⊎-elim (λ e. absurd (a e)) (λ s. ⊎-elim (λ e. absurd (b e)) (λ s. ⊎-elim (λ e. e) (λ e. absurd (let q : n ≡ 32 = e in omega arith)) s) s) s
 
-pub last-depth : (b : ℕ) → Depth b → (b ≡ 8 → ⊥) → (b ≡ 10 → ⊥) → b ≡ 12
-last-depth b s a c = ⊎-elim (λ e. absurd (a e)) (λ s. ⊎-elim (λ e. absurd (c e)) (λ e. e) s) s
-
 -- the first reference of a negative angle is the corner or before it
 pub first-reach : (e n : ℕ) → e < 32 → Size n → firstOf e n ≤ 64
 first-reach e n h s = at-size (λ (m : ℕ). firstOf e m ≤ 64) (omega arith) (omega arith) (omega arith) (omega arith) n s
@@ -87,22 +83,6 @@ module _ (nb : Neighbours) (inv j : ℕ) where
   pub ref-side : j ≤ 64 → (sideOf inv j ≡ 0 → ⊥) → nb .left (sideOf inv j - 1) ≡ refAt nb inv j
   unfolding refAt
   ref-side h z = rw (le-ltb 64 j h, ne-eqb (sideOf inv j) 0 z)
-
--- an edge sample with no number below 0
-minus : (l c : ℕ) → pos l -ℤ pos c ≡ subℕ l c
-minus l zero = ap pos (let e : l + 0 ≡ l = omega arith in e) ∙ as-sub l
-minus l (suc c) = refl
-
-pub edge-low : (m a l c : ℕ) → c < 65536 → a + (l + 65536 - c) / 2 < 32768 → 0 ≡ edgeOf m a l c
-edge-low m a l c k h =
-    rw (minus l c, sub-neg l c (omega arith), sub-neg a (suc ((c - suc l) / 2)) (omega arith))
-
-pub edge-high : (m a l c : ℕ) → c < 65536 → 32768 ≤ a + (l + 65536 - c) / 2 → min (a + (l + 65536 - c) / 2 - 32768) m ≡ edgeOf m a l c
-edge-high m a l c b h =
-    ⊎-elim
-    (λ k. rw (minus l c, sub-neg l c k, sub-pos a (suc ((c - suc l) / 2)) (omega arith)) (ap (λ (v : ℕ). min v m) (omega arith)))
-    (λ k. rw (minus l c, sub-pos l c k) (ap (λ (v : ℕ). min v m) (omega arith)))
-    (order l c)
 
 -- by way of another list: a row, a first row, a column, a block
 pub by-way : (g : ℕ → ℕ) (t z d : List ℕ) (a n : ℕ) → n ≤ length z → t ≡ run g 0 n z → run (λ (c : ℕ). getD t (0 + c) 0) a n d ≡ run g a n d

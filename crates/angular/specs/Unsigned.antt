@@ -4,9 +4,8 @@ use mathlib.Core.Bool.{Bool, cond, _&&_}
 use mathlib.Core.List.{List, [], _∷_}
 use lib.Dec.{leb, ltb, eqb}
 use lib.ListN.{getD}
-use lib.IntN.{pos, _+ℤ_, _-ℤ_}
-use lib.Signed.{shrZ}
-use Rattle.h265.specs.Notation.{Neighbours, clipTo}
+use Rattle.h265.specs.Notation.{Neighbours}
+use Rattle.taps.specs.Taps.{interpOf, edgeOf}
 
 -- intraPredAngle plus 32, by mode
 abbrev pub angles : List ℕ
@@ -17,10 +16,6 @@ angles =
 abbrev pub inverses : List ℕ
 inverses =
     0 ∷ 0 ∷ 0 ∷ 0 ∷ 0 ∷ 0 ∷ 0 ∷ 0 ∷ 0 ∷ 0 ∷ 0 ∷ 4096 ∷ 1638 ∷ 910 ∷ 630 ∷ 482 ∷ 390 ∷ 315 ∷ 256 ∷ 315 ∷ 390 ∷ 482 ∷ 630 ∷ 910 ∷ 1638 ∷ 4096 ∷ 0 ∷ 0 ∷ 0 ∷ 0 ∷ 0 ∷ 0 ∷ 0 ∷ 0 ∷ 0 ∷ []
-
--- 32 - f parts of x and f of y
-unfoldable pub interpOf : ℕ → ℕ → ℕ → ℕ
-interpOf f x y = ((32 - f) * x + f * y + 16) / 32
 
 -- where row r of an angle starts among the references, and its fraction
 abbrev pub startOf : ℕ → ℕ → ℕ
@@ -46,10 +41,6 @@ sampleAt nb e inv r c =
 -- above and left exchanged: a horizontal mode is a vertical one, mirrored
 abbrev pub mirror : Neighbours → Neighbours
 mirror nb = record { corner = nb .corner; above = nb .left; left = nb .above }
-
--- an edge sample: a, and half of l less c, brought to 0 .. m
-abbrev pub edgeOf : ℕ → ℕ → ℕ → ℕ → ℕ
-edgeOf m a l c = clipTo m (pos a +ℤ shrZ (pos l -ℤ pos c) 2)
 
 -- the sample in column x and row y of any mode
 unfoldable pub angularAt : ℕ → Bool → ℕ → ℕ → Neighbours → ℕ → ℕ → ℕ

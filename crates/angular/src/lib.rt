@@ -1,28 +1,19 @@
-// Angular prediction, modes 2 to 34, as H.265 8.4.4.2.6 has it. Rests on the laws, the standard's definitions and the domain's tests.
+// Angular prediction, modes 2 to 34, as H.265 8.4.4.2.6 has it. Rests on the standard's definitions, on the doors' numbers and on the arithmetic of one sample (taps).
 // An angle stands as the angle plus 32 (`e`), and ref[i] at entry 64 + i of the scratch, so that no number is below 0.
-ghost use mathlib.Core.Bool.{Bool, true, _&&_};
 ghost use mathlib.Core.Path.{_≡_};
-ghost use Prim.Native.Nat.{ℕ, _+_, _-_, _*_, _/_, _%_, _^_, _≤_, _<_};
+ghost use Prim.Native.Nat.{ℕ, _+_, _-_, _*_, _/_, _%_, _≤_, _<_};
 ghost use mathlib.Core.List.{List};
-ghost use lib.Dec.{ltb};
 ghost use lib.ListN.{length, getD};
 ghost use Rattle.laws.specs.Fill.{fill, run, block};
 ghost use Rattle.laws.specs.Choose.{served};
 ghost use Rattle.h265.specs.Notation.{fromRows};
 ghost use Rattle.h265.specs.Angular.{angular};
 ghost use Rattle.domain.specs.Facts.{Depth, Size};
-ghost use Rattle.angular.specs.Unsigned.{interpOf, fractionOf, sideOf, refAt, sampleAt, edgeOf, angularAt};
+ghost use Rattle.taps.specs.Taps.{interpOf, edgeOf};
+ghost use Rattle.numbers.specs.Numbers.{angularNo, angularShortNo};
+ghost use Rattle.angular.specs.Unsigned.{fractionOf, sideOf, refAt, sampleAt, angularAt};
 ghost use Rattle.angular.specs.Lines.{turns, bends, lineStart, lineAt, firstOf, Reads};
 ghost use Rattle.angular.specs.Grid.{column};
-ghost use Rattle.angular.specs.Door.{Lent, enough, angularNo, shortNo};
-
-// Between two references: 32 - f parts of x and f of y.
-fn interp(f: u32, x: u16, y: u16) -> u16
-    requires { ⌜ f < 32 ⌝ }
-    ensures { λ r. ⌜ r ≡ interpOf f x y ⌝ }
-{
-    (((32 - f) * (x as u32) + f * (y as u32) + 16) >> 5) as u16
-}
 
 // Where row r of an angle starts in a row of references whose entry b is ref[1], and its fraction.
 fn start(b: usize, e: usize, r: usize) -> usize
@@ -55,7 +46,7 @@ fn mix_row(refs: &[u16], s: usize, f: u32, n: usize, at: usize, pred: &mut [u16]
     ensures { λ _. ⌜ now (pred .exit) ≡ run (λ (c : ℕ). interpOf f (getD (now (refs .entry)) (s + c) 0) (getD (now (refs .entry)) (s + c + 1) 0)) at n (now (pred .entry)) ⌝ }
 {
     for c in 0..n {
-        pred[at + c] = interp(f, refs[s + c], refs[s + c + 1]);
+        pred[at + c] = taps::interp(f, refs[s + c], refs[s + c + 1]);
     }
 }
 
@@ -213,27 +204,13 @@ fn flats(left: &[u16], n: usize, pred: &mut [u16])
     }
 }
 
-// The edge filter of the pure modes: a and half of l less c, rounded down and clipped. The half stands 32768 higher, so that no number is below 0.
-fn edge(a: u16, l: u16, c: u16, max: u16) -> u16
-    ensures { λ r. ⌜ r ≡ edgeOf max a l c ⌝ }
-{
-    let half = ((l as u32) + 65536 - (c as u32)) >> 1;
-    let v = (a as u32) + half;
-    if v < 32768 {
-        return 0;
-    }
-    if v - 32768 < (max as u32) {
-        return (v - 32768) as u16;
-    }
-    max
-}
-
+// The edge samples of the pure modes.
 fn edges(a: u16, side: &[u16], corner: u16, max: u16, n: usize, t: &mut [u16])
     requires { ⌜ (n ≤ length (now side)) × (n ≤ length (now t)) ⌝ }
     ensures { λ _. ⌜ now (t .exit) ≡ fill (λ (i : ℕ). edgeOf max a (getD (now (side .entry)) i 0) corner) n (now (t .entry)) ⌝ }
 {
     for i in 0..n {
-        t[i] = edge(a, side[i], corner, max);
+        t[i] = taps::edge(a, side[i], corner, max);
     }
 }
 
@@ -422,24 +399,6 @@ fn horizontal(
     }
 }
 
-fn largest(bits: u32) -> u16
-    requires { ⌜ Depth bits ⌝ }
-    ensures { λ r. ⌜ r ≡ 2 ^ bits - 1 ⌝ }
-{
-    match bits {
-        8 => 255,
-        10 => 1023,
-        _ => 4095,
-    }
-}
-
-// Whether the edge filter is on.
-fn filtered(edge: bool, n: usize) -> bool
-    ensures { λ r. ⌜ r ≡ (edge && ltb n 32) ⌝ }
-{
-    edge & (n < 32)
-}
-
 // Modes 26 and 10.
 fn pure_vertical(
     corner: u16,
@@ -454,8 +413,15 @@ fn pure_vertical(
     ensures { λ _. ⌜ now (pred .exit) ≡ block (λ (y x : ℕ). angularAt bits edge n 26 (fromRows corner (now (above .entry)) (now (left .entry))) x y) n (now (pred .entry)) ⌝ }
 {
     copies(above, 0, 32, n, &mut *pred);
-    if filtered(edge, n) {
-        edge_down(above[0], left, corner, largest(bits), n, &mut *pred);
+    if taps::filtered(edge, n) {
+        edge_down(
+            above[0],
+            left,
+            corner,
+            taps::largest_of(bits),
+            n,
+            &mut *pred,
+        );
     }
 }
 
@@ -472,8 +438,15 @@ fn pure_horizontal(
     ensures { λ _. ⌜ now (pred .exit) ≡ block (λ (y x : ℕ). angularAt bits edge n 10 (fromRows corner (now (above .entry)) (now (left .entry))) x y) n (now (pred .entry)) ⌝ }
 {
     flats(left, n, &mut *pred);
-    if filtered(edge, n) {
-        edge_across(left[0], above, corner, largest(bits), n, &mut *pred);
+    if taps::filtered(edge, n) {
+        edge_across(
+            left[0],
+            above,
+            corner,
+            taps::largest_of(bits),
+            n,
+            &mut *pred,
+        );
     }
 }
 
@@ -504,54 +477,6 @@ fn work(
     }
 }
 
-fn lent(
-    n: usize,
-    above: usize,
-    left: usize,
-    pred: usize,
-    refs: usize,
-    indices: usize,
-    fractions: usize,
-) -> bool
-    requires { ⌜ Size n ⌝ }
-    ensures { λ r. ⌜ r ≡ enough n (record { above = above; left = left; pred = pred; refs = refs; indices = indices; fractions = fractions }) ⌝ }
-{
-    (above >= 65)
-        & (left >= 65)
-        & (pred >= n * n)
-        & (refs >= 193)
-        & (indices >= 32)
-        & (fractions >= 32)
-}
-
-fn angular_no(
-    bits: u32,
-    n: usize,
-    mode: u8,
-    above: usize,
-    left: usize,
-    pred: usize,
-    refs: usize,
-    indices: usize,
-    fractions: usize,
-) -> u32
-    ensures { λ r. ⌜ r ≡ angularNo bits n mode (record { above = above; left = left; pred = pred; refs = refs; indices = indices; fractions = fractions }) ⌝ }
-{
-    if !domain::depth_ok(bits) {
-        return 1;
-    }
-    if !domain::size_ok(n) {
-        return 2;
-    }
-    if !((mode >= 2) & domain::mode_ok(mode)) {
-        return 3;
-    }
-    if !lent(n, above, left, pred, refs, indices, fractions) {
-        return 5;
-    }
-    0
-}
-
 // The slices are the three tables of the Rust's scratch. The indices and fractions are asked for and go unused: a column's are constants of its loop.
 pub fn predict_angular_slices(
     corner: u16,
@@ -568,7 +493,7 @@ pub fn predict_angular_slices(
 ) -> u32
     ensures { λ r. ⌜ (r ≡ angularNo bits n mode (record { above = length (now (above .entry)); left = length (now (left .entry)); pred = length (now (pred .entry)); refs = length (now (refs .entry)); indices = length (now (indices .entry)); fractions = length (now (fractions .entry)) })) × ((now (pred .exit) ≡ served r (block (λ (y x : ℕ). angular bits «filter_boundary» n mode (fromRows corner (now (above .entry)) (now (left .entry))) x y) n (now (pred .entry))) (now (pred .entry))) × ((r ≡ 0 → ⊥) → (now (refs .exit) ≡ now (refs .entry)) × ((now (indices .exit) ≡ now (indices .entry)) × (now (fractions .exit) ≡ now (fractions .entry))))) ⌝ }
 {
-    let no = angular_no(
+    let no = numbers::angular_no(
         bits,
         n,
         mode,
@@ -595,25 +520,6 @@ pub fn predict_angular_slices(
     no
 }
 
-// The number where rows of 2n entries are enough.
-fn short_no(bits: u32, n: usize, mode: u8, above: usize, left: usize, pred: usize) -> u32
-    ensures { λ r. ⌜ r ≡ shortNo bits n mode above left pred ⌝ }
-{
-    if !domain::depth_ok(bits) {
-        return 1;
-    }
-    if !domain::size_ok(n) {
-        return 2;
-    }
-    if !((mode >= 2) & domain::mode_ok(mode)) {
-        return 3;
-    }
-    if (above >= 2 * n) & (left >= 2 * n) & (pred >= n * n) {
-        return 0;
-    }
-    5
-}
-
 // From rows of 2n entries, all that is read, with a table of its own.
 pub fn angular_2n(
     corner: u16,
@@ -625,9 +531,9 @@ pub fn angular_2n(
     bits: u32,
     pred: &mut [u16],
 ) -> u32
-    ensures { λ r. ⌜ (r ≡ shortNo bits n mode (length (now (above .entry))) (length (now (left .entry))) (length (now (pred .entry)))) × (now (pred .exit) ≡ served r (block (λ (y x : ℕ). angular bits «filter_boundary» n mode (fromRows corner (now (above .entry)) (now (left .entry))) x y) n (now (pred .entry))) (now (pred .entry))) ⌝ }
+    ensures { λ r. ⌜ (r ≡ angularShortNo bits n mode (length (now (above .entry))) (length (now (left .entry))) (length (now (pred .entry)))) × (now (pred .exit) ≡ served r (block (λ (y x : ℕ). angular bits «filter_boundary» n mode (fromRows corner (now (above .entry)) (now (left .entry))) x y) n (now (pred .entry))) (now (pred .entry))) ⌝ }
 {
-    let no = short_no(bits, n, mode, above.len(), left.len(), pred.len());
+    let no = numbers::angular_short_no(bits, n, mode, above.len(), left.len(), pred.len());
     if no == 0 {
         let mut refs = [0u16; 129];
         work(

@@ -15,7 +15,7 @@ use Rattle.rows.specs.Neighbours.{neighboursOf}
 use Rattle.refs.specs.declared.LumaRefGeometry.{LumaRefGeometry}
 use Rattle.refs.specs.Door.{lumaNo, lumaRows}
 use Rattle.standard.specs.Standard.{luma-standard}
-use Rattle.predict.specs.Modes.{pred-alone}
+use Rattle.modes.specs.Modes.{pred-alone}
 use Rattle.tiling.specs.declared.Block.{Block}
 use Rattle.tiling.specs.Tiling.{pictureOf, Placed}
 use Rattle.tiling.specs.Tests.{good-picture}

@@ -25,14 +25,15 @@ use Rattle.rows.specs.declared.Rows.{Rows}
 use Rattle.rows.specs.Neighbours.{neighboursOf}
 use Rattle.rows.specs.declared.Gathered.{Gathered}
 use Rattle.refs.specs.Door.{lumaNo, lumaBlock, lumaDoor, lumaRows}
-use Rattle.predict.specs.Door.{predictNo}
+use Rattle.numbers.specs.Numbers.{predictNo}
 use Rattle.tiling.specs.declared.Block.{Block}
 use Rattle.tiling.specs.Tiling.{pictureOf, Placed}
 use Rattle.tiling.specs.Check.{placedOk}
 use Rattle.tiling.specs.Tests.{picture-good, good-picture, placed-of, of-placed}
 use Rattle.still.specs.declared.Still.{Still}
-use Rattle.still.specs.Checks.{largestOf, largestAt, Tables, whole, roomy}
-use Rattle.still.specs.Laws.{largest-is}
+use Rattle.taps.specs.Taps.{largestAt}
+use Rattle.taps.specs.Laws.{largest-is}
+use Rattle.still.specs.Checks.{largestOf, Tables, whole, roomy}
 use Rattle.block.specs.Block.{predictedAt, rebuilt, stored, World, walked}
 use Rattle.block.specs.Door.{earlyNo, numberOf, fits}
 use Rattle.block.specs.Bridge.{geoOf, bridge}

@@ -256,7 +256,7 @@ pub fn rebuild_block(
         base_of(s, b),
         s.frame.width as usize,
         at,
-        still::largest_of(s.bits),
+        taps::largest_of(s.bits),
     );
     0
 }
@@ -375,7 +375,7 @@ pub fn walk_block(
         base_of(s, b),
         s.frame.width as usize,
         at,
-        still::largest_of(s.bits),
+        taps::largest_of(s.bits),
     );
     0
 }

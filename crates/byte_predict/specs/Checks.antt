@@ -13,18 +13,16 @@ use Rattle.laws.specs.FillLaws.{length-fill, fill-same, fill-at, rows-same}
 use Rattle.laws.specs.Bytes.{byteOf}
 use Rattle.domain.specs.Domain.{depthOk, sizeOk, modeOk, predictorRow}
 use Rattle.domain.specs.Facts.{Size, at-size, size-of, size-small}
-use Rattle.flat.specs.Flat.{square}
-use Rattle.flat.specs.Flat as flat
-use Rattle.angular.specs.Door as door
+use Rattle.numbers.specs.Numbers.{flatShortNo, angularShortNo, square}
 use Rattle.predict.specs.Door.{did}
 use Rattle.bytes.specs.Bytes.{samplesOf}
 use Rattle.h265.specs.Notation.{fromRows}
 use Rattle.h265.specs.Planar.{planar}
 use Rattle.h265.specs.Dc.{dc, dcVal}
 use Rattle.h265.specs.Angular.{angular}
-use Rattle.flat.specs.Range.{planar-alone, dc-alone}
-use Rattle.angular.specs.Range.{angular-alone}
-use Rattle.predict.specs.Modes.{byMode, plain}
+use Rattle.modes.specs.Flat.{planar-alone, dc-alone}
+use Rattle.modes.specs.Angular.{angular-alone}
+use Rattle.modes.specs.Modes.{byMode, plain}
 use Rattle.predict.specs.Contents.{chromaAt, chroma-plain}
 use Rattle.byte_predict.specs.Entries.{wrote, entry, rowOf, neighboursIn, blockIn, room, flatEntryNo, modeEntryNo, planarIn, dcIn, angularMode, angularIn, chromaIn}
 
@@ -86,12 +84,12 @@ narrow bits n mode above left out taken h e = leb-true mode 34 (h (mode-fit bits
 
 -- a predictor serves rows of 2n samples and a buffer that has room for the block
 module _ (n a l p : ℕ) (size : sizeOk n ≡ true) (ha : 2 * n ≤ a) (hl : 2 * n ≤ l) (hp : n * n ≤ p) where
-  pub flat-serves : flat.shortNo n a l p ≡ 0
-  unfolding flat.shortNo
+  pub flat-serves : flatShortNo n a l p ≡ 0
+  unfolding flatShortNo
   flat-serves = rw (size, le-leb (2 * n) a ha, le-leb (2 * n) l hl, le-leb (n * n) p hp)
 
-  pub angular-serves : (bits mode : ℕ) → depthOk bits ≡ true → angularMode mode ≡ true → door.shortNo bits n mode a l p ≡ 0
-  unfolding door.shortNo
+  pub angular-serves : (bits mode : ℕ) → depthOk bits ≡ true → angularMode mode ≡ true → angularShortNo bits n mode a l p ≡ 0
+  unfolding angularShortNo
   angular-serves bits mode d m = rw (d, size, m, le-leb (2 * n) a ha, le-leb (2 * n) l hl, le-leb (n * n) p hp)
 
 -- the samples of a row in bytes

@@ -25,7 +25,7 @@ use Rattle.plan.specs.Check.{planVerdict}
 use Rattle.plan.specs.Records.{recordsOf, wholeRecords, bytesVerdict}
 use Rattle.rows.specs.declared.Gathered.{Gathered}
 use Rattle.refs.specs.Door.{lumaDoor}
-use Rattle.predict.specs.Door.{predictNo}
+use Rattle.numbers.specs.Numbers.{predictNo}
 use Rattle.still.specs.declared.Still.{Still}
 use Rattle.still.specs.Checks.{every, Tables, residualOk, callNo, replayFits, settle}
 use Rattle.block.specs.Block.{replayUnit}

@@ -225,7 +225,7 @@ fn rebuild_block(
         block::base_of(s, b),
         s.frame.width as usize,
         at,
-        still::largest_of(s.bits),
+        taps::largest_of(s.bits),
     );
 }
 

@@ -20,8 +20,7 @@ use Rattle.order.specs.declared.Picture.{Picture}
 use Rattle.order.specs.Order.{numberAt, orderNo, orderDoor}
 use Rattle.smooth.specs.declared.Rule.{Rule}
 use Rattle.smooth.specs.Smoothing.{rowOf, smoothed, ruleDoor, filterDoor, lumaDoor}
-use Rattle.flat.specs.Flat.{flatNo}
-use Rattle.angular.specs.Door.{angularNo}
+use Rattle.numbers.specs.Numbers.{flatNo, angularNo}
 use Rattle.residual.specs.Residual.{allInRange, reconstructNo, reconstructed}
 
 -- a row of 65 entries of one value, one of 0, 1, 2, .., 64, and one that opens with an entry and goes on with 0

@@ -11,7 +11,7 @@ use Rattle.laws.specs.Fill.{run, block}
 use Rattle.laws.specs.FillLaws.{rows-same}
 use Rattle.h265.specs.Notation.{Neighbours}
 use Rattle.h265.specs.Dc.{dcVal, dc}
-use Rattle.flat.specs.Flat.{blended, cornered}
+use Rattle.taps.specs.Taps.{blended, cornered}
 use Rattle.flat.specs.Stores.{heads, rows-put, run-rows, heads-rows}
 
 -- the first row, then the first column, then the corner

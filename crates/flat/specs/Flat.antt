@@ -1,25 +1,16 @@
--- The number of a planar or DC call, from document 01, and one sample of each predictor over the samples that it mixes. Rests on the domain.
+-- What the loops ask of a planar or DC call, which a number of 0 tells, and one sample of planar over the samples that it mixes. Rests on the domain and on the numbers.
 use Prim.Native.Nat.{ℕ, _+_, _-_, _*_, _/_, _≤_, _<_}
 use mathlib.Core.Path.{_≡_, subst}
 use mathlib.Core.Bool.{_&&_}
-use mathlib.Core.List.{[], _∷_}
 use mathlib.Core.Logic.{⊎-elim}
 use native.Mathlib.Omega.{arith}
 use lib.Dec.{leb}
 use borrow.Author.Tests.{leb-true}
-use Rattle.laws.specs.Choose.{_unless_, firstFail, passed, both-true}
+use Rattle.laws.specs.Choose.{passed, both-true}
 use Rattle.laws.specs.Weigh.{row-room}
 use Rattle.domain.specs.Domain.{sizeOk, predictorRow}
 use Rattle.domain.specs.Facts.{Size, size-of, size-small, at-size}
-
--- the side is n, the rows have a and l entries, the block's buffer p
-unfoldable pub flatNo : ℕ → ℕ → ℕ → ℕ → ℕ
-flatNo n a l p =
-    firstFail ((2 unless sizeOk n) ∷ (5 unless (leb (predictorRow n) a && leb (predictorRow n) l && leb (n * n) p)) ∷ [])
-
--- the same where rows of 2n entries are enough
-unfoldable pub shortNo : ℕ → ℕ → ℕ → ℕ → ℕ
-shortNo n a l p = firstFail ((2 unless sizeOk n) ∷ (5 unless (leb (2 * n) a && leb (2 * n) l && leb (n * n) p)) ∷ [])
+use Rattle.numbers.specs.Numbers.{flatNo, flatShortNo}
 
 -- what the loops ask of the side and the rows: planar reads entries 0 .. n, DC less
 pub record Ready (n a l : ℕ) : Type 0 where
@@ -47,8 +38,8 @@ ready n a l p e =
     let hl = leb-true (predictorRow n) l (v .1) in
     (record { size = size; some = small .0; most = small .1; above = omega arith; left = omega arith }, leb-true (n * n) p (u .1))
 
-pub ready-short : (n a l p : ℕ) → shortNo n a l p ≡ 0 → Ready n a l × (n * n ≤ p)
-unfolding shortNo
+pub ready-short : (n a l p : ℕ) → flatShortNo n a l p ≡ 0 → Ready n a l × (n * n ≤ p)
+unfolding flatShortNo
 ready-short n a l p e =
     let s = passed (sizeOk n) _ 2 (omega arith) e in
     let t = passed (leb (2 * n) a && leb (2 * n) l && leb (n * n) p) 0 5 (omega arith) (s .1) in
@@ -62,9 +53,6 @@ ready-short n a l p e =
 pub wide : (n p : ℕ) → 0 < n → n * n ≤ p → n ≤ p
 wide n p h l = omega (arith, row-room 0 n h)
 
-pub square : (n : ℕ) → Size n → n * n ≤ 1024
-square n s = at-size (λ (m : ℕ). m * m ≤ 1024) (omega arith) (omega arith) (omega arith) (omega arith) n s
-
 -- where n is none of the first three sizes
 pub last-size : (n : ℕ) → Size n → (n ≡ 4 → ⊥) → (n ≡ 8 → ⊥) → (n ≡ 16 → ⊥) → n ≡ 32
 last-size n s a b c = ⊎-elim (λ e. absurd (a e)) (λ r. ⊎-elim (λ e. absurd (b e)) (λ q. ⊎-elim (λ e. absurd (c e)) (λ e. e) q) r) s
@@ -76,10 +64,3 @@ as-found n m a l p e h = subst (λ (k : ℕ). Ready k a l × (k * k ≤ p)) e h
 -- planar at row y and column x: l stands left of the row, tr right of the row above, t above the column, bl below the left column
 unfoldable pub planarMix : ℕ → ℕ → ℕ → ℕ → ℕ → ℕ → ℕ → ℕ
 planarMix n y x l tr t bl = ((n - 1 - x) * l + (x + 1) * tr + ((n - 1 - y) * t + (y + 1) * bl) + n) / (2 * n)
-
--- the DC edge: a neighbour r and the value v, and at the corner both neighbours
-abbrev pub blended : ℕ → ℕ → ℕ
-blended r v = (r + 3 * v + 2) / 4
-
-abbrev pub cornered : ℕ → ℕ → ℕ → ℕ
-cornered l a v = (l + 2 * v + a + 2) / 4

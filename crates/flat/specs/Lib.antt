@@ -1,7 +1,6 @@
--- Flat: the number of a call, what the loops ask, and one sample of each predictor. Text: that these are the standard's.
--- Stores: laws of stores into a block. Edge: the DC edge as stores. Range: what the samples depend on and lie between.
+-- Flat: what the loops ask of a call, and one sample of planar. Text: that planar and the DC value are the standard's.
+-- Stores: laws of stores into a block. Edge: the DC edge as stores.
 pub mod Flat
 pub mod Text
 pub mod Stores
 pub mod Edge
-pub mod Range

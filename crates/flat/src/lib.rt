@@ -1,4 +1,4 @@
-// Planar and DC prediction, H.265 8.4.4.2.4 and 8.4.4.2.5. Rests on the domain's tests.
+// Planar and DC prediction, H.265 8.4.4.2.4 and 8.4.4.2.5. Rests on the doors' numbers and on the arithmetic of one sample (taps).
 // The stores run with a side that is a constant of each call, and a row that is read and written goes by way of a local array:
 // all reads then come before the first store, and the compiler can use wide ones.
 ghost use mathlib.Core.Path.{_≡_};
@@ -6,48 +6,15 @@ ghost use Prim.Native.Nat.{ℕ, _+_, _*_, _/_, _≤_, _<_};
 ghost use lib.ListN.{length, getD};
 ghost use Rattle.laws.specs.Fill.{fill, run, block};
 ghost use Rattle.laws.specs.Choose.{served};
-ghost use Rattle.domain.specs.Domain.{predictorRow};
 ghost use Rattle.h265.specs.Notation.{fromRows};
 ghost use Rattle.h265.specs.Planar.{planar};
 ghost use Rattle.h265.specs.Dc.{dc};
-ghost use Rattle.flat.specs.Flat.{flatNo, shortNo, Ready, planarMix, blended, cornered};
+ghost use Rattle.taps.specs.Taps.{blended};
+ghost use Rattle.numbers.specs.Numbers.{flatNo, flatShortNo};
+ghost use Rattle.flat.specs.Flat.{Ready, planarMix};
 ghost use Rattle.flat.specs.Text.{Total};
 ghost use Rattle.flat.specs.Stores.{heads};
 ghost use Rattle.flat.specs.Edge.{edges};
-
-// The least entries of a reference row.
-fn predictor_row(n: usize) -> usize
-    ensures { λ r. ⌜ r ≡ predictorRow n ⌝ }
-{
-    65
-}
-
-// The number of a call whose rows have a and l entries and whose block buffer has p.
-fn flat_no(n: usize, a: usize, l: usize, p: usize) -> u32
-    ensures { λ r. ⌜ r ≡ flatNo n a l p ⌝ }
-{
-    if !domain::size_ok(n) {
-        return 2;
-    }
-    let row = predictor_row(n);
-    if (a >= row) & (l >= row) & (p >= n * n) {
-        return 0;
-    }
-    5
-}
-
-// The same where rows of 2n entries are enough.
-fn short_no(n: usize, a: usize, l: usize, p: usize) -> u32
-    ensures { λ r. ⌜ r ≡ shortNo n a l p ⌝ }
-{
-    if !domain::size_ok(n) {
-        return 2;
-    }
-    if (a >= 2 * n) & (l >= 2 * n) & (p >= n * n) {
-        return 0;
-    }
-    5
-}
 
 // Two samples by weights.
 fn mix(a: u32, x: u16, b: u32, y: u16) -> u32
@@ -163,7 +130,7 @@ fn planar_block(above: &[u16], left: &[u16], n: usize, pred: &mut [u16])
 pub fn predict_planar_into(above: &[u16], left: &[u16], n: usize, pred: &mut [u16]) -> u32
     ensures { λ r. ⌜ (r ≡ flatNo n (length (now (above .entry))) (length (now (left .entry))) (length (now (pred .entry)))) × (now (pred .exit) ≡ served r (block (λ (y x : ℕ). planar n (fromRows 0 (now (above .entry)) (now (left .entry))) x y) n (now (pred .entry))) (now (pred .entry))) ⌝ }
 {
-    let no = flat_no(n, above.len(), left.len(), pred.len());
+    let no = numbers::flat_no(n, above.len(), left.len(), pred.len());
     if no == 0 {
         planar_block(above, left, n, &mut *pred);
     }
@@ -172,9 +139,9 @@ pub fn predict_planar_into(above: &[u16], left: &[u16], n: usize, pred: &mut [u1
 
 // From rows of 2n entries, all that is read. Where n is a constant of the call, so are the lengths of all loops.
 pub fn planar_2n(above: &[u16], left: &[u16], n: usize, pred: &mut [u16]) -> u32
-    ensures { λ r. ⌜ (r ≡ shortNo n (length (now (above .entry))) (length (now (left .entry))) (length (now (pred .entry)))) × (now (pred .exit) ≡ served r (block (λ (y x : ℕ). planar n (fromRows 0 (now (above .entry)) (now (left .entry))) x y) n (now (pred .entry))) (now (pred .entry))) ⌝ }
+    ensures { λ r. ⌜ (r ≡ flatShortNo n (length (now (above .entry))) (length (now (left .entry))) (length (now (pred .entry)))) × (now (pred .exit) ≡ served r (block (λ (y x : ℕ). planar n (fromRows 0 (now (above .entry)) (now (left .entry))) x y) n (now (pred .entry))) (now (pred .entry))) ⌝ }
 {
-    let no = short_no(n, above.len(), left.len(), pred.len());
+    let no = numbers::flat_short_no(n, above.len(), left.len(), pred.len());
     if no == 0 {
         planar_n(above, left, n, &mut *pred);
     }
@@ -210,25 +177,13 @@ fn flat_fill(dc: u16, count: usize, pred: &mut [u16])
     }
 }
 
-// The edge: a neighbour and the value three to one, and at the corner both neighbours and the value twice.
-fn blend(neighbour: u16, dc: u16) -> u16
-    ensures { λ r. ⌜ r ≡ blended neighbour dc ⌝ }
-{
-    (((neighbour as u32) + 3 * (dc as u32) + 2) >> 2) as u16
-}
-
-fn corner(left: u16, above: u16, dc: u16) -> u16
-    ensures { λ r. ⌜ r ≡ cornered left above dc ⌝ }
-{
-    (((left as u32) + 2 * (dc as u32) + (above as u32) + 2) >> 2) as u16
-}
-
+// The edge: the first row and the first column, each by way of one function for a sample.
 fn blend_row(above: &[u16], dc: u16, n: usize, out: &mut [u16])
     requires { ⌜ (n ≤ length (now above)) × (n ≤ length (now out)) ⌝ }
     ensures { λ _. ⌜ now (out .exit) ≡ fill (λ (x : ℕ). blended (getD (now (above .entry)) x 0) dc) n (now (out .entry)) ⌝ }
 {
     for col in 0..n {
-        out[col] = blend(above[col], dc);
+        out[col] = taps::blend(above[col], dc);
     }
 }
 
@@ -246,7 +201,7 @@ fn edge_column(left: &[u16], dc: u16, n: usize, pred: &mut [u16])
     ensures { λ _. ⌜ now (pred .exit) ≡ heads (λ (y : ℕ). blended (getD (now (left .entry)) y 0) dc) n n (now (pred .entry)) ⌝ }
 {
     for row in 0..n {
-        pred[row * n] = blend(left[row], dc);
+        pred[row * n] = taps::blend(left[row], dc);
     }
 }
 
@@ -256,7 +211,7 @@ fn edge(above: &[u16], left: &[u16], dc: u16, n: usize, pred: &mut [u16])
 {
     edge_row(above, dc, n, &mut *pred);
     edge_column(left, dc, n, &mut *pred);
-    pred[0] = corner(left[0], above[0], dc);
+    pred[0] = taps::corner(left[0], above[0], dc);
 }
 
 fn dc_n(above: &[u16], left: &[u16], all: u32, n: usize, filter_boundary: bool, pred: &mut [u16])
@@ -292,7 +247,7 @@ pub fn predict_dc_into(
 ) -> u32
     ensures { λ r. ⌜ (r ≡ flatNo n (length (now (above .entry))) (length (now (left .entry))) (length (now (pred .entry)))) × (now (pred .exit) ≡ served r (block (λ (y x : ℕ). dc «filter_boundary» n (fromRows 0 (now (above .entry)) (now (left .entry))) x y) n (now (pred .entry))) (now (pred .entry))) ⌝ }
 {
-    let no = flat_no(n, above.len(), left.len(), pred.len());
+    let no = numbers::flat_no(n, above.len(), left.len(), pred.len());
     if no == 0 {
         dc_block(above, left, n, filter_boundary, &mut *pred);
     }
@@ -301,9 +256,9 @@ pub fn predict_dc_into(
 
 // DC from rows of 2n entries.
 pub fn dc_2n(above: &[u16], left: &[u16], n: usize, filter_boundary: bool, pred: &mut [u16]) -> u32
-    ensures { λ r. ⌜ (r ≡ shortNo n (length (now (above .entry))) (length (now (left .entry))) (length (now (pred .entry)))) × (now (pred .exit) ≡ served r (block (λ (y x : ℕ). dc «filter_boundary» n (fromRows 0 (now (above .entry)) (now (left .entry))) x y) n (now (pred .entry))) (now (pred .entry))) ⌝ }
+    ensures { λ r. ⌜ (r ≡ flatShortNo n (length (now (above .entry))) (length (now (left .entry))) (length (now (pred .entry)))) × (now (pred .exit) ≡ served r (block (λ (y x : ℕ). dc «filter_boundary» n (fromRows 0 (now (above .entry)) (now (left .entry))) x y) n (now (pred .entry))) (now (pred .entry))) ⌝ }
 {
-    let no = short_no(n, above.len(), left.len(), pred.len());
+    let no = numbers::flat_short_no(n, above.len(), left.len(), pred.len());
     if no == 0 {
         let all = total(above, left, n);
         dc_n(above, left, all, n, filter_boundary, &mut *pred);

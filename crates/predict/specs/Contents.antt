@@ -21,7 +21,7 @@ use Rattle.smooth.specs.declared.Smoothed.{Smoothed}
 use Rattle.smooth.specs.Smoothing.{smoothed, ruleDoor, lumaDoor}
 use Rattle.smooth.specs.Standard.{is-standard}
 use Rattle.predict.specs.Door.{Block}
-use Rattle.predict.specs.Modes.{byMode, plain, is-by-mode, by-mode-alone}
+use Rattle.modes.specs.Modes.{byMode, plain, is-by-mode, by-mode-alone}
 
 -- chroma of the first edition; how it is sampled, here 4:2:0, plays no part once the neighbours are there
 abbrev pub chromaAt : ℕ → Component

@@ -1,21 +1,14 @@
--- The number of a call, from document 01's table, and that the predictors serve each call that has number 0. Rests on the domain and on their numbers.
+-- What a call with number 0 has, and that the predictors serve it. Rests on the domain and on the numbers.
 use mathlib.Core.Path.{_≡_, sym, _∙_}
 use mathlib.Core.Bool.{true, _&&_}
-use mathlib.Core.List.{[], _∷_}
 use Prim.Native.Nat.{ℕ, _*_, _≤_}
 use native.Mathlib.Omega.{arith}
 use lib.Dec.{leb}
 use borrow.Author.Tests.{leb-true, le-leb}
-use Rattle.laws.specs.Choose.{firstFail, _unless_, served, worked, passed, both-true, both-same}
+use Rattle.laws.specs.Choose.{served, worked, passed, both-true, both-same}
 use Rattle.domain.specs.Domain.{depthOk, sizeOk, modeOk, predictorRow}
 use Rattle.domain.specs.Facts.{Size, size-of}
-use Rattle.flat.specs.Flat.{flatNo}
-use Rattle.angular.specs.Door.{Lent, enough, angularNo}
-
--- the depth, the side, the mode, then what is lent: each is asked for in every mode
-abbrev pub predictNo : ℕ → ℕ → ℕ → Lent → ℕ
-predictNo bits n mode l =
-    firstFail ((1 unless depthOk bits) ∷ (2 unless sizeOk n) ∷ (3 unless modeOk mode) ∷ (5 unless enough n l) ∷ [])
+use Rattle.numbers.specs.Numbers.{Lent, enough, flatNo, angularNo, predictNo}
 
 -- the tests of a block that hold where a call is served, and what is lent
 pub record Block (bits n mode : ℕ) : Type 0 where

@@ -1,68 +1,19 @@
 // A block's prediction in any mode, H.265 8.4.4.2.1: chroma from its references as they are, luma from references that are smoothed by the rule.
-// Rests on the predictors, on smoothing, and on the domain's tests.
+// Rests on the predictors, on smoothing, and on the doors' numbers.
 ghost use mathlib.Core.Path.{_≡_};
 ghost use mathlib.Core.Bool.{true};
 ghost use Prim.Native.Nat.{ℕ};
 ghost use lib.ListN.{length};
 ghost use Rattle.laws.specs.Fill.{block};
 ghost use Rattle.laws.specs.Choose.{served};
-ghost use Rattle.domain.specs.Facts.{Size};
 ghost use Rattle.h265.specs.Notation.{fromRows};
 ghost use Rattle.h265.specs.Setting.{lumaAt, first};
 ghost use Rattle.h265.specs.Prediction.{predSamples};
 ghost use Rattle.rows.specs.Neighbours.{neighboursOf};
-ghost use Rattle.angular.specs.Door.{enough};
-ghost use Rattle.predict.specs.Modes.{byMode};
-ghost use Rattle.predict.specs.Door.{predictNo, Block};
+ghost use Rattle.numbers.specs.Numbers.{predictNo};
+ghost use Rattle.modes.specs.Modes.{byMode};
+ghost use Rattle.predict.specs.Door.{Block};
 ghost use Rattle.predict.specs.Contents.{chromaAt, lumaRows};
-
-fn lent(
-    n: usize,
-    above: usize,
-    left: usize,
-    pred: usize,
-    refs: usize,
-    indices: usize,
-    fractions: usize,
-) -> bool
-    requires { ⌜ Size n ⌝ }
-    ensures { λ r. ⌜ r ≡ enough n (record { above = above; left = left; pred = pred; refs = refs; indices = indices; fractions = fractions }) ⌝ }
-{
-    (above >= 65)
-        & (left >= 65)
-        & (pred >= n * n)
-        & (refs >= 193)
-        & (indices >= 32)
-        & (fractions >= 32)
-}
-
-fn predict_no(
-    bits: u32,
-    n: usize,
-    mode: u8,
-    above: usize,
-    left: usize,
-    pred: usize,
-    refs: usize,
-    indices: usize,
-    fractions: usize,
-) -> u32
-    ensures { λ r. ⌜ r ≡ predictNo bits n mode (record { above = above; left = left; pred = pred; refs = refs; indices = indices; fractions = fractions }) ⌝ }
-{
-    if !domain::depth_ok(bits) {
-        return 1;
-    }
-    if !domain::size_ok(n) {
-        return 2;
-    }
-    if !domain::mode_ok(mode) {
-        return 3;
-    }
-    if !lent(n, above, left, pred, refs, indices, fractions) {
-        return 5;
-    }
-    0
-}
 
 // The block of a mode, from references as they are; edge says whether edges are filtered.
 fn by_mode(
@@ -159,7 +110,7 @@ pub fn predict_chroma_tb_slices(
 ) -> u32
     ensures { λ r. ⌜ (r ≡ predictNo bits n mode (record { above = length (now (above .entry)); left = length (now (left .entry)); pred = length (now (pred .entry)); refs = length (now (refs .entry)); indices = length (now (indices .entry)); fractions = length (now (fractions .entry)) })) × ((now (pred .exit) ≡ served r (block (λ (y x : ℕ). predSamples (chromaAt bits) (first true) n mode (fromRows corner (now (above .entry)) (now (left .entry))) x y) n (now (pred .entry))) (now (pred .entry))) × ((r ≡ 0 → ⊥) → (now (refs .exit) ≡ now (refs .entry)) × ((now (indices .exit) ≡ now (indices .entry)) × (now (fractions .exit) ≡ now (fractions .entry))))) ⌝ }
 {
-    let no = predict_no(
+    let no = numbers::predict_no(
         bits,
         n,
         mode,
@@ -201,7 +152,7 @@ pub fn predict_luma_tb_slices(
 ) -> u32
     ensures { λ r. ⌜ (r ≡ predictNo bits n mode (record { above = 65; left = 65; pred = length (now (pred .entry)); refs = length (now (refs .entry)); indices = length (now (indices .entry)); fractions = length (now (fractions .entry)) })) × ((now (pred .exit) ≡ served r (block (λ (y x : ℕ). predSamples (lumaAt bits) (first true) n mode (neighboursOf rows) x y) n (now (pred .entry))) (now (pred .entry))) × ((r ≡ 0 → ⊥) → (now (refs .exit) ≡ now (refs .entry)) × ((now (indices .exit) ≡ now (indices .entry)) × (now (fractions .exit) ≡ now (fractions .entry))))) ⌝ }
 {
-    let no = predict_no(
+    let no = numbers::predict_no(
         bits,
         n,
         mode,

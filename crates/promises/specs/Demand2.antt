@@ -25,7 +25,7 @@ use Rattle.refs.specs.Door as gather
 use Rattle.standard.specs.Standard.{luma-standard}
 use Rattle.smooth.specs.Smoothing as smoothing
 use Rattle.smooth.specs.Standard.{door-is-standard}
-use Rattle.predict.specs.Modes.{pred-alone}
+use Rattle.modes.specs.Modes.{pred-alone}
 
 -- the neighbours that 6.4.1 and 8.4.4.2.2 give a luma block, from a plane in rows
 abbrev pub standardNeighbours : List ℕ → LumaRefGeometry → Neighbours

@@ -32,6 +32,17 @@ use Rattle.domain.proofs.mode_ok.Reads as domain-mode-ok
 use Rattle.domain.proofs.side_ok.Reads as domain-side-ok
 use Rattle.domain.proofs.ctu_ok.Reads as domain-ctu-ok
 use Rattle.domain.proofs.unit_ok.Reads as domain-unit-ok
+use Rattle.taps.proofs.largest_of.Reads as taps-largest-of
+use Rattle.taps.proofs.interp.Reads as taps-interp
+use Rattle.taps.proofs.edge.Reads as taps-edge
+use Rattle.taps.proofs.filtered.Reads as taps-filtered
+use Rattle.taps.proofs.blend.Reads as taps-blend
+use Rattle.taps.proofs.corner.Reads as taps-corner
+use Rattle.numbers.proofs.flat_no.Reads as numbers-flat-no
+use Rattle.numbers.proofs.flat_short_no.Reads as numbers-flat-short-no
+use Rattle.numbers.proofs.angular_no.Reads as numbers-angular-no
+use Rattle.numbers.proofs.angular_short_no.Reads as numbers-angular-short-no
+use Rattle.numbers.proofs.predict_no.Reads as numbers-predict-no
 use Rattle.listing.proofs.word.Reads as listing-word
 use Rattle.listing.proofs.other.Reads as listing-other
 use Rattle.listing.proofs.sample.Reads as listing-sample
@@ -82,7 +93,6 @@ use Rattle.plan.proofs.check_plan_bytes.Reads as plan-check-plan-bytes
 use Rattle.plan.proofs.check_plan_numbers.Reads as plan-check-plan-numbers
 use Rattle.plan.proofs.check_plan as plan-check-plan
 use Rattle.walk.proofs.Progress.fresh.Reads as walk-fresh
-use Rattle.still.proofs.largest_of.Reads as still-largest-of
 use Rattle.still.proofs.picture_ok.Reads as still-picture-ok
 use Rattle.still.proofs.is_whole.Reads as still-is-whole
 use Rattle.still.proofs.is_roomy.Reads as still-is-roomy
@@ -212,6 +222,41 @@ domain-ctu-ok-once a x y s t p q = p ∙ sym q
 
 domain-unit-ok-once : Once (domain-unit-ok.Post tt)
 domain-unit-ok-once a x y s t p q = p ∙ sym q
+
+-- taps
+taps-largest-of-once : Once (taps-largest-of.Post tt)
+taps-largest-of-once a x y s t p q = p ∙ sym q
+
+taps-interp-once : Once (taps-interp.Post tt)
+taps-interp-once a x y s t p q = p ∙ sym q
+
+taps-edge-once : Once (taps-edge.Post tt)
+taps-edge-once a x y s t p q = p ∙ sym q
+
+taps-filtered-once : Once (taps-filtered.Post tt)
+taps-filtered-once a x y s t p q = p ∙ sym q
+
+taps-blend-once : Once (taps-blend.Post tt)
+taps-blend-once a x y s t p q = p ∙ sym q
+
+taps-corner-once : Once (taps-corner.Post tt)
+taps-corner-once a x y s t p q = p ∙ sym q
+
+-- numbers
+numbers-flat-no-once : Once (numbers-flat-no.Post tt)
+numbers-flat-no-once a x y s t p q = p ∙ sym q
+
+numbers-flat-short-no-once : Once (numbers-flat-short-no.Post tt)
+numbers-flat-short-no-once a x y s t p q = p ∙ sym q
+
+numbers-angular-no-once : Once (numbers-angular-no.Post tt)
+numbers-angular-no-once a x y s t p q = p ∙ sym q
+
+numbers-angular-short-no-once : Once (numbers-angular-short-no.Post tt)
+numbers-angular-short-no-once a x y s t p q = p ∙ sym q
+
+numbers-predict-no-once : Once (numbers-predict-no.Post tt)
+numbers-predict-no-once a x y s t p q = p ∙ sym q
 
 -- listing
 listing-word-once : (κs : Lfts 1) → Once (listing-word.Post κs)
@@ -373,9 +418,6 @@ walk-fresh-once : Once (walk-fresh.Post tt)
 walk-fresh-once a x y s t p q = p ∙ sym q
 
 -- still
-still-largest-of-once : Once (still-largest-of.Post tt)
-still-largest-of-once a x y s t p q = p ∙ sym q
-
 still-picture-ok-once : Once (still-picture-ok.Post tt)
 still-picture-ok-once a x y s t p q = p ∙ sym q
 

@@ -18,9 +18,9 @@ use Rattle.h265.specs.Angular.{intraPredAngle, invAngle, ref, project, angular}
 use Rattle.h265.specs.Prediction.{filters, prepared, predicted}
 use Rattle.h265.specs.Mean.{Under, even, between}
 use Rattle.domain.specs.Facts.{Depth, Size, at-depth}
-use Rattle.flat.specs.Range.{planar-between, dc-between}
-use Rattle.angular.specs.Range.{mean-angular}
-use Rattle.predict.specs.Modes.{byMode, is-by-mode}
+use Rattle.modes.specs.Flat.{planar-between, dc-between}
+use Rattle.modes.specs.Angular.{mean-angular}
+use Rattle.modes.specs.Modes.{byMode, is-by-mode}
 use Rattle.tiling.specs.declared.Block.{Block}
 use Rattle.still.specs.declared.Still.{Still}
 use Rattle.still.specs.Checks.{largestOf}

@@ -53,9 +53,7 @@ use Rattle.substitution.specs.Door.{substituteNo, substituteDoor}
 use Rattle.refs.specs.Door.{lumaBlock, lumaNumber, lumaLength, lumaNo, lumaDoor, lumaBytesNo, lumaBytesDoor, formatOf, chromaPicture, chromaBlock, chromaLength, chromaNumber, chromaNo, chromaDoor, chromaBytesNo, chromaBytesDoor}
 use Rattle.smooth.specs.Smoothing as smoothing
 use Rattle.smooth.specs.Smoothing.{ruleDoor, filterNo, filterDoor}
-use Rattle.flat.specs.Flat.{flatNo}
-use Rattle.angular.specs.Door.{Lent, enough, angularNo}
-use Rattle.predict.specs.Door.{predictNo}
+use Rattle.numbers.specs.Numbers.{flatNo, Lent, enough, angularNo, predictNo}
 use Rattle.scratch.specs.Lent.{withScratch}
 use Rattle.residual.specs.Residual.{inRange, allInRange, residualNo, reconstructNo}
 use Rattle.promises.specs.Exact.{Row, _when_, _or_, Exact, Tells, exact-none, exact-row, exact-answer, all-of, and-more, at-most, less, same, fact}

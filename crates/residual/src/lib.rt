@@ -1,12 +1,12 @@
-// Residual and reconstruction. Rests on the standard's clip, the domain's tests and the helpers.
+// Residual and reconstruction. Rests on the standard's clip, the domain's tests, the largest sample of a depth (taps) and the helpers.
 ghost use mathlib.Core.Path.{_≡_};
 ghost use mathlib.Core.Bool.{true};
-ghost use Prim.Native.Nat.{ℕ, _+_, _-_, _*_, _^_, _≤_, _<_};
+ghost use Prim.Native.Nat.{ℕ, _+_, _*_, _≤_, _<_};
 ghost use lib.ListN.{length, getD, replicate};
 ghost use lib.IntN.{pos, natAbs, _+ℤ_, _-ℤ_};
 ghost use Rattle.laws.specs.Fill.{fill, run};
 ghost use Rattle.h265.specs.Notation.{clipTo};
-ghost use Rattle.domain.specs.Facts.{Depth, Size};
+ghost use Rattle.domain.specs.Facts.{Size};
 ghost use Rattle.residual.specs.Residual.{residualAt, rebuiltTo, inRange, allInRange, residualNo, reconstructNo, residualsAfter, reconstructed};
 ghost use Rattle.residual.specs.Laws.{Fits, raise};
 
@@ -20,18 +20,6 @@ fn runs_of(n: usize) -> usize
         8 => 4,
         16 => 16,
         _ => 64,
-    }
-}
-
-// The largest sample.
-fn largest_of(bits: u32) -> u16
-    requires { ⌜ Depth bits ⌝ }
-    ensures { λ r. ⌜ r ≡ 2 ^ bits - 1 ⌝ }
-{
-    match bits {
-        8 => 255,
-        10 => 1023,
-        _ => 4095,
     }
 }
 
@@ -216,6 +204,12 @@ pub fn reconstruct_into(pred: &[u16], residual: &[i32], n: usize, bits: u32, out
     if no != 0 {
         return no;
     }
-    rebuild(pred, residual, runs_of(n), largest_of(bits), &mut *out);
+    rebuild(
+        pred,
+        residual,
+        runs_of(n),
+        taps::largest_of(bits),
+        &mut *out,
+    );
     0
 }

@@ -4,7 +4,7 @@ use Prim.Native.Nat.{ℕ}
 use mathlib.Core.List.{List}
 use lib.ListN.{length}
 use Rattle.laws.specs.Choose.{served}
-use Rattle.angular.specs.Door.{Lent}
+use Rattle.numbers.specs.Numbers.{Lent}
 use Rattle.scratch.specs.declared.AngularScratch.{AngularScratch}
 use Rattle.scratch.specs.Lent.{withScratch}
 use Rattle.scratch.proofs.Tables.{Long}

@@ -1,7 +1,7 @@
 -- What a call with the scratch struct lends: its tables have the lengths of their types, so only the rows and the block can be short. Assumes nothing.
 use Prim.Native.Nat.{ℕ}
 use lib.ListN.{replicate}
-use Rattle.angular.specs.Door.{Lent}
+use Rattle.numbers.specs.Numbers.{Lent}
 use Rattle.scratch.specs.declared.AngularScratch.{AngularScratch}
 
 -- the lengths: the row above, the row to the left, the block, and the scratch's tables

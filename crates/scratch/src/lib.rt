@@ -11,8 +11,7 @@ ghost use Rattle.h265.specs.Angular.{angular};
 ghost use Rattle.h265.specs.Setting.{lumaAt, first};
 ghost use Rattle.h265.specs.Prediction.{predSamples};
 ghost use Rattle.rows.specs.Neighbours.{neighboursOf};
-ghost use Rattle.angular.specs.Door.{angularNo};
-ghost use Rattle.predict.specs.Door.{predictNo};
+ghost use Rattle.numbers.specs.Numbers.{angularNo, predictNo};
 ghost use Rattle.predict.specs.Contents.{chromaAt};
 ghost use Rattle.scratch.specs.Lent.{zeroScratch, withScratch};
 

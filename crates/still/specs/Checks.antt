@@ -16,10 +16,6 @@ use Rattle.still.specs.declared.Still.{Still}
 abbrev pub largestOf : Still → ℕ
 largestOf s = 2 ^ s .bits - 1
 
--- the same of any number of bits: 0 where there is no such depth
-abbrev pub largestAt : ℕ → ℕ
-largestAt bits = cond (depthOk bits) (2 ^ bits - 1) 0
-
 -- a test of every entry
 unfoldable pub every : {A : Type 0} → (A → Bool) → List A → Bool
 every p [] = true

@@ -2,7 +2,7 @@
 use mathlib.Core.Path.{_≡_, refl, sym, ap, _∙_}
 use mathlib.Core.Bool.{Bool, true, false, cond, _&&_}
 use mathlib.Core.List.{List, [], _∷_}
-use Prim.Native.Nat.{ℕ, zero, suc, _+_, _-_, _^_, _≤_}
+use Prim.Native.Nat.{ℕ, zero, suc, _+_, _≤_}
 use native.Mathlib.Numerals.{add-one}
 use native.Mathlib.Omega.{arith}
 use lib.Dec.{leb, eqb}
@@ -10,12 +10,12 @@ use lib.ListN.{length, getD}
 use borrow.Author.Tests.{leb-true, eqb-true, eqb-false}
 use Rattle.laws.specs.Choose.{_unless_, firstFail, passed}
 use Rattle.domain.specs.Domain.{depthOk}
-use Rattle.domain.specs.Facts.{Depth, depth-of, at-depth}
+use Rattle.domain.specs.Facts.{Depth, depth-of}
 use Rattle.order.specs.Order.{pictureOk}
 use Rattle.plan.specs.declared.Verdict.{Verdict}
 use Rattle.tiling.specs.Tiling.{pictureOf}
 use Rattle.still.specs.declared.Still.{Still}
-use Rattle.still.specs.Checks.{largestAt, every, openingNo, callNo, settle}
+use Rattle.still.specs.Checks.{every, openingNo, callNo, settle}
 
 -- the first k entries pass a test
 unfoldable pub passTo : {A : Type 0} → (A → Bool) → A → List A → ℕ → Bool
@@ -81,10 +81,6 @@ good-call s fit k ok e = passed (pictureOk (pictureOf (s .frame))) _ 4 (omega ar
 -- number 0 of 1, 4, 5: the depth is one
 pub opening-depth : (s : Still) (fit : Bool) → openingNo s fit ≡ 0 → Depth (s .bits)
 opening-depth s fit e = depth-of (s .bits) (passed (depthOk (s .bits)) _ 1 (omega arith) e .0)
-
--- the largest sample of a depth
-pub largest-is : (bits : ℕ) → Depth bits → largestAt bits ≡ 2 ^ bits - 1
-largest-is bits d = at-depth (λ (k : ℕ). largestAt k ≡ 2 ^ k - 1) refl refl refl bits d
 
 -- number 0 says that the plan is good, and the record not above its count
 pub settle-zero : (found : Verdict) (count : ℕ) (done : ℕ) (early : ℕ) → settle found count done early .no ≡ 0 → (found .no ≡ 0) × (done ≤ count)

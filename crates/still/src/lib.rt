@@ -5,7 +5,7 @@ ghost use Prim.Native.Nat.{ℕ, min, _-_};
 ghost use lib.Dec.{leb};
 ghost use Rattle.order.specs.Order.{pictureOk};
 ghost use Rattle.tiling.specs.Tiling.{pictureOf};
-ghost use Rattle.still.specs.Checks.{largestAt, every, whole, roomy, openingNo, residualOk, replayNo, walkNo, settle};
+ghost use Rattle.still.specs.Checks.{every, whole, roomy, openingNo, residualOk, replayNo, walkNo, settle};
 use plan::Verdict;
 use tiling::Frame;
 
@@ -13,18 +13,6 @@ use tiling::Frame;
 pub struct Still {
     pub bits: u32,
     pub frame: Frame,
-}
-
-// The largest sample of a depth.
-pub fn largest_of(bits: u32) -> u16
-    ensures { λ r. ⌜ r ≡ largestAt bits ⌝ }
-{
-    match bits {
-        8 => 255,
-        10 => 1023,
-        12 => 4095,
-        _ => 0,
-    }
 }
 
 // Number 4: whether the picture is not refused.
@@ -135,7 +123,7 @@ pub fn walk_no(
     if no != 0 {
         return no;
     }
-    if samples_ok(source, largest_of(s.bits)) {
+    if samples_ok(source, taps::largest_of(s.bits)) {
         0
     } else {
         7

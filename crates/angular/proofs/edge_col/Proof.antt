@@ -2,7 +2,7 @@
 use mathlib.Core.Path.{_∙_}
 use Prim.Native.Nat.{ℕ}
 use lib.ListN.{getD, replicate}
-use Rattle.angular.specs.Unsigned.{edgeOf}
+use Rattle.taps.specs.Taps.{edgeOf}
 use Rattle.angular.specs.Reach.{column-by-fill}
 use borrow.Author.Needs.{needs}
 use Rattle.angular.proofs.edge_col.Statement.{statement}

@@ -3,7 +3,7 @@ use mathlib.Core.Path.{_≡_}
 use Prim.Native.Nat.{ℕ, _-_, _≤_}
 use borrow.Author.Needs.{needs}
 use lib.ListN.{length, getD}
-use Rattle.angular.specs.Unsigned.{edgeOf}
+use Rattle.taps.specs.Taps.{edgeOf}
 use Rattle.laws.specs.Fill.{fill}
 use Rattle.laws.specs.FillLaws.{fill-none, fill-more, fill-done}
 use Rattle.angular.proofs.edges.Statement.{statement}

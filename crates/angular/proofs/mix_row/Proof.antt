@@ -1,11 +1,12 @@
 -- `angular::mix_row` meets its contract. The loop makes a run, one entry a turn. Assumes nothing.
 use Prim.Native.Nat.{ℕ, _+_, _-_, _≤_}
-use mathlib.Core.Path.{_≡_}
+use mathlib.Core.Path.{_≡_, _∙_}
 use lib.ListN.{length, getD}
 use borrow.Author.Needs.{needs}
 use Rattle.laws.specs.Fill.{run}
 use Rattle.laws.specs.FillLaws.{run-none, run-more, run-done}
-use Rattle.angular.specs.Unsigned.{interpOf}
+use Rattle.taps.specs.Taps.{interpOf}
+use Rattle.taps.specs.Laws.{by-fraction}
 use Rattle.angular.proofs.mix_row.Statement.{statement}
 use Rattle.angular.proofs.mix_row.Tie as tie
 
@@ -60,7 +61,7 @@ loop-less c = search needs
 
 loop-again : tie.Need-loop-again Inv-loop μ-loop
 loop-again c =
-    (search needs, (search needs, run-more _ _ _ (c .before .before .before .before .loop .inv .1 .1) (c .interp .ensures)))
+    (search needs, (search needs, run-more _ _ _ (c .before .before .before .before .loop .inv .1 .1) (c .interp .ensures ∙ by-fraction _ _ _ (c .before .before .before .before .before .before .before .pre .0))))
 
 same-length : tie.Need-same-length Inv-loop μ-loop
 same-length c = search needs

@@ -2,7 +2,8 @@
 use lib.ListN.{length}
 use mathlib.Core.Path.{refl, sym, _∙_}
 use Rattle.laws.specs.Choose.{worked, unserved}
-use Rattle.angular.specs.Door.{Lent, fit}
+use Rattle.numbers.specs.Numbers.{Lent}
+use Rattle.angular.specs.Door.{fit}
 use borrow.Author.Needs.{needs}
 use Rattle.angular.proofs.predict_angular_slices.Statement.{statement}
 use Rattle.angular.proofs.predict_angular_slices.Tie as tie

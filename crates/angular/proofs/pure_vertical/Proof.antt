@@ -3,6 +3,7 @@ use mathlib.Core.Path.{refl, sym, ap, _∙_}
 use native.Mathlib.Omega.{arith}
 use Rattle.domain.specs.Facts.{size-small}
 use Rattle.laws.specs.Choose.{both-true}
+use Rattle.taps.specs.Laws.{largest-is}
 use borrow.Author.Tests.{ltb-true}
 use Rattle.angular.specs.Grid.{column}
 use Rattle.angular.specs.Blocks.{upright, upright-edge}
@@ -24,8 +25,8 @@ shared-slice-read-edge-down c =
     let h = size-small _ (c .before .before .before .before .before .before .before .before .before .before .pre .1 .0) in
     search needs
 
-largest-requires : tie.Need-largest-requires
-largest-requires c κs = c .before .before .before .before .before .before .before .before .before .before .pre .0
+largest-of-requires : tie.Need-largest-of-requires
+largest-of-requires c κs = search needs
 
 edge-down-requires : tie.Need-edge-down-requires
 edge-down-requires c κs =
@@ -39,7 +40,7 @@ returns : tie.Need-returns
 returns c =
     let a = c .before .before .before .before .before .before .before .before .before .before .before .before .before .before .before .args in
     let p = c .before .before .before .before .before .before .before .before .before .before .before .before .before .before .before .pre in
-    c .before .before .edge-down .ensures ∙ ap (column _ 0 (a .n) (a .n)) (c .before .before .before .before .before .before .before .before .before .before .copies .ensures) ∙ upright-edge (a .corner) (a .above .now) (a .left .now) (a .bits) (a .n) (a .edge) (p .1 .0) (a .pred .now) _ (c .before .before .before .before .largest .ensures) (sym (c .before .before .before .before .before .before .before .filtered .ensures) ∙ c .before .before .before .before .before .before .if1 .taken) (p .1 .1 .1 .1)
+    c .before .before .edge-down .ensures ∙ ap (column _ 0 (a .n) (a .n)) (c .before .before .before .before .before .before .before .before .before .before .copies .ensures) ∙ upright-edge (a .corner) (a .above .now) (a .left .now) (a .bits) (a .n) (a .edge) (p .1 .0) (a .pred .now) _ (c .before .before .before .before .largest-of .ensures ∙ largest-is (a .bits) (p .0)) (sym (c .before .before .before .before .before .before .before .filtered .ensures) ∙ c .before .before .before .before .before .before .if1 .taken) (p .1 .1 .1 .1)
 
 same-length-2 : tie.Need-same-length-2
 same-length-2 c = search needs
@@ -56,7 +57,7 @@ pure-vertical-spec =
     copies-requires
     filtered-requires
     shared-slice-read-edge-down
-    largest-requires
+    largest-of-requires
     edge-down-requires
     same-length
     returns

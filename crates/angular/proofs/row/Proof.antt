@@ -2,7 +2,7 @@
 use mathlib.Core.Path.{_∙_}
 use Prim.Native.Nat.{ℕ, _+_}
 use lib.ListN.{getD, replicate}
-use Rattle.angular.specs.Unsigned.{interpOf}
+use Rattle.taps.specs.Taps.{interpOf}
 use Rattle.angular.specs.Reach.{by-way}
 use borrow.Author.Needs.{needs}
 use Rattle.angular.proofs.row.Statement.{statement}

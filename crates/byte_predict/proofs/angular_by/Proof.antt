@@ -6,7 +6,7 @@ use lib.ListN.{length}
 use Rattle.domain.specs.Facts.{size-of, size-small}
 use Rattle.h265.specs.Notation.{fromRows}
 use Rattle.h265.specs.Angular.{angular}
-use Rattle.angular.specs.Door.{shortNo}
+use Rattle.numbers.specs.Numbers.{angularShortNo}
 use Rattle.byte_predict.specs.Checks.{predicted, angular-serves, angular-alike}
 use borrow.Author.Needs.{needs}
 use Rattle.byte_predict.proofs.angular_by.Statement.{statement}
@@ -41,7 +41,7 @@ returns c =
     let a = c .before .before .before .before .before .before .before .before .before .before .before .before .before .before .before .before .before .before .before .before .before .before .before .before .before .args in
     let f = c .before .before .before .before .before .before .before .before .before .before .before .before .before .before .before .before .before .before .before .before .before .before .before .before .before .pre in
     let p = c .before .before .before .before .before .before .before .angular-2n .ensures in
-    predicted (λ (u v : List ℕ) (y x : ℕ). angular (a .bits) (a .edge) (a .n) (a .mode) (fromRows (a .corner) u v) x y) (a .n) (f .0 .size) (λ u v w z eu ev y x hy hx. angular-alike (a .n) (f .0 .size) u v w z eu ev y x hy hx (a .bits) (a .edge) (a .mode) (a .corner) (f .2)) (a .above .now) (a .left .now) (a .a .now) (a .l .now) (a .pred .now) (a .out .now) (f .3) (f .4) (f .5) (λ (x y : ℕ). shortNo (a .bits) (a .n) (a .mode) x y (length (a .pred .now))) (λ x y hx hy. angular-serves (a .n) x y _ (f .0 .size) hx hy (f .5) (a .bits) (a .mode) (f .1) (f .2)) (c .before .before .before .before .before .before .before .before .before .before .before .before .before .before .before .before .before .read .ensures) (c .before .before .before .before .before .before .before .before .before .before .before .before .before .read2 .ensures) (p .0) (p .1) (c .before .before .store .ensures)
+    predicted (λ (u v : List ℕ) (y x : ℕ). angular (a .bits) (a .edge) (a .n) (a .mode) (fromRows (a .corner) u v) x y) (a .n) (f .0 .size) (λ u v w z eu ev y x hy hx. angular-alike (a .n) (f .0 .size) u v w z eu ev y x hy hx (a .bits) (a .edge) (a .mode) (a .corner) (f .2)) (a .above .now) (a .left .now) (a .a .now) (a .l .now) (a .pred .now) (a .out .now) (f .3) (f .4) (f .5) (λ (x y : ℕ). angularShortNo (a .bits) (a .n) (a .mode) x y (length (a .pred .now))) (λ x y hx hy. angular-serves (a .n) x y _ (f .0 .size) hx hy (f .5) (a .bits) (a .mode) (f .1) (f .2)) (c .before .before .before .before .before .before .before .before .before .before .before .before .before .before .before .before .before .read .ensures) (c .before .before .before .before .before .before .before .before .before .before .before .before .before .read2 .ensures) (p .0) (p .1) (c .before .before .store .ensures)
 
 pub angular-by-spec : {M : Type 1} → statement M
 angular-by-spec =

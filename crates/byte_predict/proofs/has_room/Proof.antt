@@ -1,6 +1,6 @@
 -- A block has at most 1024 samples. Assumes nothing.
 use native.Mathlib.Omega.{arith}
-use Rattle.flat.specs.Flat.{square}
+use Rattle.numbers.specs.Numbers.{square}
 use borrow.Author.Needs.{needs}
 use Rattle.byte_predict.proofs.has_room.Statement.{statement}
 use Rattle.byte_predict.proofs.has_room.Tie as tie

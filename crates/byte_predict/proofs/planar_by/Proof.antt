@@ -6,7 +6,7 @@ use lib.ListN.{length}
 use Rattle.domain.specs.Facts.{size-of, size-small}
 use Rattle.h265.specs.Notation.{fromRows}
 use Rattle.h265.specs.Planar.{planar}
-use Rattle.flat.specs.Flat.{shortNo}
+use Rattle.numbers.specs.Numbers.{flatShortNo}
 use Rattle.byte_predict.specs.Checks.{predicted, flat-serves, planar-alike}
 use borrow.Author.Needs.{needs}
 use Rattle.byte_predict.proofs.planar_by.Statement.{statement}
@@ -41,7 +41,7 @@ returns c =
     let a = c .before .before .before .before .before .before .before .before .before .before .before .before .before .before .before .before .before .before .before .before .before .before .before .before .before .args in
     let f = c .before .before .before .before .before .before .before .before .before .before .before .before .before .before .before .before .before .before .before .before .before .before .before .before .before .pre in
     let p = c .before .before .before .before .before .before .before .planar-2n .ensures in
-    predicted (λ (u v : List ℕ) (y x : ℕ). planar (a .n) (fromRows 0 u v) x y) (a .n) (f .0 .size) (planar-alike (a .n) (f .0 .size)) (a .above .now) (a .left .now) (a .a .now) (a .l .now) (a .pred .now) (a .out .now) (f .1) (f .2) (f .3) (λ (x y : ℕ). shortNo (a .n) x y (length (a .pred .now))) (λ x y hx hy. flat-serves (a .n) x y _ (f .0 .size) hx hy (f .3)) (c .before .before .before .before .before .before .before .before .before .before .before .before .before .before .before .before .before .read .ensures) (c .before .before .before .before .before .before .before .before .before .before .before .before .before .read2 .ensures) (p .0) (p .1) (c .before .before .store .ensures)
+    predicted (λ (u v : List ℕ) (y x : ℕ). planar (a .n) (fromRows 0 u v) x y) (a .n) (f .0 .size) (planar-alike (a .n) (f .0 .size)) (a .above .now) (a .left .now) (a .a .now) (a .l .now) (a .pred .now) (a .out .now) (f .1) (f .2) (f .3) (λ (x y : ℕ). flatShortNo (a .n) x y (length (a .pred .now))) (λ x y hx hy. flat-serves (a .n) x y _ (f .0 .size) hx hy (f .3)) (c .before .before .before .before .before .before .before .before .before .before .before .before .before .before .before .before .before .read .ensures) (c .before .before .before .before .before .before .before .before .before .before .before .before .before .read2 .ensures) (p .0) (p .1) (c .before .before .store .ensures)
 
 pub planar-by-spec : {M : Type 1} → statement M
 planar-by-spec =

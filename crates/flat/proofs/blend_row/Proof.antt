@@ -5,7 +5,7 @@ use lib.ListN.{length, getD}
 use borrow.Author.Needs.{needs}
 use Rattle.laws.specs.Fill.{fill}
 use Rattle.laws.specs.FillLaws.{fill-none, fill-more, fill-done}
-use Rattle.flat.specs.Flat.{blended}
+use Rattle.taps.specs.Taps.{blended}
 use Rattle.flat.proofs.blend_row.Statement.{statement}
 use Rattle.flat.proofs.blend_row.Tie as tie
 

@@ -6,7 +6,7 @@ use lib.ListN.{length, getD}
 use borrow.Author.Needs.{needs}
 use Rattle.laws.specs.Weigh.{row-room}
 use Rattle.flat.specs.Stores.{heads, heads-none, heads-more, heads-done}
-use Rattle.flat.specs.Flat.{blended}
+use Rattle.taps.specs.Taps.{blended}
 use Rattle.flat.proofs.edge_column.Statement.{statement}
 use Rattle.flat.proofs.edge_column.Tie as tie
 

@@ -3,7 +3,7 @@ use Prim.Native.Nat.{ℕ}
 use mathlib.Core.Path.{_∙_}
 use lib.ListN.{getD, replicate}
 use borrow.Author.Needs.{needs}
-use Rattle.flat.specs.Flat.{blended}
+use Rattle.taps.specs.Taps.{blended}
 use Rattle.flat.specs.Stores.{by-way}
 use Rattle.flat.proofs.edge_row.Statement.{statement}
 use Rattle.flat.proofs.edge_row.Tie as tie

@@ -2,8 +2,8 @@
 use mathlib.Core.Path.{_∙_}
 use native.Mathlib.Omega.{arith}
 use lib.ListN.{length}
-use Rattle.angular.specs.Door.{Lent}
-use Rattle.predict.specs.Modes.{planar-made, dc-made, angular-made}
+use Rattle.numbers.specs.Numbers.{Lent}
+use Rattle.modes.specs.Modes.{planar-made, dc-made, angular-made}
 use Rattle.predict.specs.Door.{fit, did, flat-serves, angular-serves}
 use borrow.Author.Needs.{needs}
 use Rattle.predict.proofs.by_mode.Statement.{statement}

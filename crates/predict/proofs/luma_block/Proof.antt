@@ -6,8 +6,8 @@ use lib.ListN.{length}
 use Rattle.laws.specs.Fill.{block}
 use Rattle.rows.specs.declared.Rows.{Rows}
 use Rattle.rows.specs.Neighbours.{neighboursOf}
-use Rattle.angular.specs.Door.{Lent}
-use Rattle.predict.specs.Modes.{byMode}
+use Rattle.numbers.specs.Numbers.{Lent}
+use Rattle.modes.specs.Modes.{byMode}
 use Rattle.predict.specs.Door.{Block, fit, side, highest}
 use Rattle.predict.specs.Contents.{luma-block}
 use borrow.Author.Needs.{needs}

@@ -2,7 +2,7 @@
 use mathlib.Core.Path.{refl, sym, _∙_}
 use lib.ListN.{length}
 use Rattle.h265.specs.Notation.{fromRows}
-use Rattle.angular.specs.Door.{Lent}
+use Rattle.numbers.specs.Numbers.{Lent}
 use Rattle.predict.specs.Door.{fit, side}
 use Rattle.predict.specs.Contents.{chroma-block}
 use Rattle.laws.specs.Choose.{worked, unserved}

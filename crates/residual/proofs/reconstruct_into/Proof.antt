@@ -4,6 +4,7 @@ use native.Mathlib.Omega.{arith}
 use borrow.Author.Needs.{needs}
 use lib.ListN.{length}
 use Rattle.laws.specs.Choose.{worked, unserved}
+use Rattle.taps.specs.Laws.{largest-is}
 use Rattle.residual.specs.Residual.{reconstructed}
 use Rattle.residual.specs.Laws.{size-fits, runs-fit, sound}
 use Rattle.residual.proofs.reconstruct_into.Statement.{statement}
@@ -23,10 +24,7 @@ runs-of-requires c κs =
     size-fits _ _ _ _ (z .buffers)
 
 largest-of-requires : tie.Need-largest-of-requires
-largest-of-requires c κs =
-    let s = c .before .before .before .before .before .args in
-    let z = sound (s .bits) (s .n) (length (s .pred .now)) (s .residual .now) (length (s .out .now)) (sym (c .before .before .reconstruct-no .ensures) ∙ c .before .if1 .left) in
-    z .depth
+largest-of-requires c κs = search needs
 
 rebuild-requires : tie.Need-rebuild-requires
 rebuild-requires c κs =
@@ -42,7 +40,9 @@ returns-2 : tie.Need-returns-2
 unfolding reconstructed
 returns-2 c =
     let z = sym (c .before .before .before .before .before .before .before .reconstruct-no .ensures) ∙ c .before .before .before .before .before .before .if1 .left in
-    (sym z, (rw (c .before .before .before .before .before .runs-of .ensures .0, c .before .before .before .before .largest-of .ensures) at (c .before .before .rebuild .ensures)) ∙ worked _ _ _ z)
+    let a = c .before .before .before .before .before .before .before .before .before .before .args in
+    let d = sound (a .bits) (a .n) (length (a .pred .now)) (a .residual .now) (length (a .out .now)) z .depth in
+    (sym z, (rw (c .before .before .before .before .before .runs-of .ensures .0, c .before .before .before .before .largest-of .ensures ∙ largest-is (a .bits) d) at (c .before .before .rebuild .ensures)) ∙ worked _ _ _ z)
 
 pub reconstruct-into-spec : {M : Type 1} → statement M
 reconstruct-into-spec =

@@ -43,12 +43,11 @@ use Rattle.laws.specs.Fill.{block}
 use Rattle.laws.specs.Choose.{served}
 use Rattle.h265.specs.Notation.{fromRows}
 use Rattle.h265.specs.Angular.{angular}
-use Rattle.angular.specs.Door.{angularNo}
+use Rattle.numbers.specs.Numbers.{angularNo, Lent as Lengths}
 use Rattle.scratch.specs.declared.AngularScratch.{AngularScratch}
 use Rattle.scratch.proofs.AngularScratch as T
 use Rattle.scratch.proofs.Tables.{Long, made, Loan, tableAt, Tokens, Lent, Kept, Holds, lend, regain}
 use Rattle.scratch.proofs.Answers.{Said, Ends, ends}
-use Rattle.angular.specs.Door.{Lent as Lengths}
 use Rattle.angular.proofs.predict_angular_slices as slices
 use Rattle.angular.proofs.predict_angular_slices.Symbol as slices-def
 use Rattle.angular.proofs.predict_angular_slices.Symbol.{name as #callee}

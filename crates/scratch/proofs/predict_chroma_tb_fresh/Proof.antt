@@ -44,7 +44,7 @@ use Rattle.laws.specs.Choose.{served}
 use Rattle.h265.specs.Notation.{fromRows}
 use Rattle.h265.specs.Setting.{first}
 use Rattle.h265.specs.Prediction.{predSamples}
-use Rattle.predict.specs.Door.{predictNo}
+use Rattle.numbers.specs.Numbers.{predictNo, Lent as Lengths}
 use Rattle.predict.specs.Contents.{chromaAt}
 use Rattle.scratch.specs.declared.AngularScratch.{AngularScratch}
 use Rattle.scratch.proofs.AngularScratch as T
@@ -52,7 +52,6 @@ use Rattle.scratch.proofs.AngularScratch.Laws as T′
 use Rattle.scratch.proofs.Tables.{made, Holds}
 use Rattle.scratch.proofs.Local.{LocalLoan, Token, Lender, lend-local, local-back}
 use Rattle.scratch.proofs.Answers.{Ends}
-use Rattle.angular.specs.Door.{Lent as Lengths}
 use Rattle.scratch.proofs.AngularScratch.new as new
 use Rattle.scratch.proofs.AngularScratch.new.Symbol as new-def
 use Rattle.scratch.proofs.AngularScratch.new.Symbol.{name as #new}

@@ -44,13 +44,12 @@ use Rattle.laws.specs.Choose.{served}
 use Rattle.h265.specs.Notation.{fromRows}
 use Rattle.h265.specs.Setting.{first}
 use Rattle.h265.specs.Prediction.{predSamples}
-use Rattle.predict.specs.Door.{predictNo}
+use Rattle.numbers.specs.Numbers.{predictNo, Lent as Lengths}
 use Rattle.predict.specs.Contents.{chromaAt}
 use Rattle.scratch.specs.declared.AngularScratch.{AngularScratch}
 use Rattle.scratch.proofs.AngularScratch as T
 use Rattle.scratch.proofs.Tables.{Long, made, Loan, tableAt, Tokens, Lent, Kept, Holds, lend, regain}
 use Rattle.scratch.proofs.Answers.{Said, Ends, ends}
-use Rattle.angular.specs.Door.{Lent as Lengths}
 use Rattle.predict.proofs.predict_chroma_tb_slices as slices
 use Rattle.predict.proofs.predict_chroma_tb_slices.Symbol as slices-def
 use Rattle.predict.proofs.predict_chroma_tb_slices.Symbol.{name as #callee}

@@ -47,14 +47,13 @@ use Rattle.rows.specs.Neighbours.{neighboursOf}
 use Rattle.rows.specs.declared.Rows.{Rows}
 use Rattle.rows.proofs.Rows as R
 use Rattle.rows.proofs.Rows.Laws as R′
-use Rattle.predict.specs.Door.{predictNo}
+use Rattle.numbers.specs.Numbers.{predictNo, Lent as Lengths}
 use Rattle.scratch.specs.declared.AngularScratch.{AngularScratch}
 use Rattle.scratch.proofs.AngularScratch as T
 use Rattle.scratch.proofs.AngularScratch.Laws as T′
 use Rattle.scratch.proofs.Tables.{made, Holds}
 use Rattle.scratch.proofs.Local.{LocalLoan, Token, Lender, lend-local, local-back}
 use Rattle.scratch.proofs.Answers.{Ends}
-use Rattle.angular.specs.Door.{Lent as Lengths}
 use Rattle.scratch.proofs.AngularScratch.new as new
 use Rattle.scratch.proofs.AngularScratch.new.Symbol as new-def
 use Rattle.scratch.proofs.AngularScratch.new.Symbol.{name as #new}

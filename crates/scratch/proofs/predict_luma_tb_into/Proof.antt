@@ -48,12 +48,11 @@ use Rattle.rows.specs.Neighbours.{neighboursOf}
 use Rattle.rows.specs.declared.Rows.{Rows}
 use Rattle.rows.proofs.Rows as R
 use Rattle.rows.proofs.Rows.Laws as R′
-use Rattle.predict.specs.Door.{predictNo}
+use Rattle.numbers.specs.Numbers.{predictNo, Lent as Lengths}
 use Rattle.scratch.specs.declared.AngularScratch.{AngularScratch}
 use Rattle.scratch.proofs.AngularScratch as T
 use Rattle.scratch.proofs.Tables.{Long, made, Loan, tableAt, Tokens, Lent, Kept, Holds, lend, regain}
 use Rattle.scratch.proofs.Answers.{Said, Ends, ends}
-use Rattle.angular.specs.Door.{Lent as Lengths}
 use Rattle.predict.proofs.predict_luma_tb_slices as slices
 use Rattle.predict.proofs.predict_luma_tb_slices.Symbol as slices-def
 use Rattle.predict.proofs.predict_luma_tb_slices.Symbol.{name as #callee}

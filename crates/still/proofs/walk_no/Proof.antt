@@ -5,8 +5,9 @@ use Prim.Native.Nat.{ℕ}
 use lib.Dec.{leb}
 use lib.ListN.{length}
 use Rattle.laws.specs.Choose.{both-same}
+use Rattle.taps.specs.Laws.{largest-is}
 use Rattle.still.specs.Checks.{largestOf, every, openingNo, walkFits}
-use Rattle.still.specs.Laws.{opening-depth, opening-stops, opening-goes, largest-is}
+use Rattle.still.specs.Laws.{opening-depth, opening-stops, opening-goes}
 use borrow.Author.Needs.{needs}
 use Rattle.still.proofs.walk_no.Statement.{statement}
 use Rattle.still.proofs.walk_no.Tie as tie

@@ -1,0 +1,4 @@
+-- Flat, Angular: what the samples of a predictor depend on and lie between. Modes: the clause that a mode takes, and the same for every mode.
+pub mod Flat
+pub mod Angular
+pub mod Modes

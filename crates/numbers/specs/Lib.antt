@@ -1,0 +1,2 @@
+-- Numbers: the number of a call to each kind of predictor.
+pub mod Numbers
