@@ -9,7 +9,7 @@ use Rattle.plan.specs.declared.Verdict.{Verdict}
 use Rattle.plan.specs.Plan.{Plan, place}
 use Rattle.still.specs.declared.Still.{Still}
 use Rattle.walk.specs.declared.Progress.{Progress}
-use Rattle.block.specs.Block.{World}
+use Rattle.coded.specs.Block.{World}
 use Rattle.still.specs.Checks.{Tables}
 use Rattle.walk.specs.Door.{steppedBy, walkVerdict, walkAfter, replayVerdict, replayAfter}
 

@@ -9,7 +9,7 @@ use Rattle.laws.specs.Chain.{sum}
 use Rattle.plan.specs.Plan.{planOf}
 use Rattle.plan.specs.Check.{aheadBy, ahead, blockNo, verdictFrom}
 use Rattle.h265.specs.Notation.{halvings}
-use Rattle.block.specs.Block.{World}
+use Rattle.coded.specs.Block.{World}
 use Rattle.still.specs.Checks.{every}
 use Rattle.walk.specs.Door.{verdictOf, walkVerdict}
 use Rattle.promises.specs.Calls.{Job, Served, count, fresh, calls, walkNo, walkCall, replayCall}

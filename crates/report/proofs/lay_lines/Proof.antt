@@ -5,7 +5,7 @@ use mathlib.Core.Path.{_≡_, ap}
 use native.Mathlib.Omega.{arith}
 use lib.ListN.{length}
 use Rattle.plan.specs.Plan.{planOf, place}
-use Rattle.block.specs.Places.{place-none, place-more}
+use Rattle.rebuild.specs.Places.{place-none, place-more}
 use Rattle.report.specs.Told.{lines}
 use Rattle.report.specs.Laws.{Laid, said, lines-none, square, among, next-line}
 use Rattle.report.proofs.lay_lines.Statement.{statement}

@@ -9,8 +9,8 @@ use native.Mathlib.Omega.{arith}
 use Rattle.laws.specs.Chain.{units}
 use Rattle.plan.specs.declared.Block.{Block}
 use Rattle.plan.specs.Plan.{planOf, place}
-use Rattle.block.specs.Block.{World, walked, walkUnit}
-use Rattle.block.specs.Places.{place-none, place-more}
+use Rattle.coded.specs.Block.{World, walked, walkUnit}
+use Rattle.rebuild.specs.Places.{place-none, place-more}
 use Rattle.walk.specs.Laws.{lies, ready}
 use Rattle.walk.specs.Listed.{turn-none, turn-more, turn-done}
 use borrow.Author.Needs.{needs}
