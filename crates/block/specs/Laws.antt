@@ -1,18 +1,17 @@
--- What joins the functions that work on a block. Rests on the bridge and on the laws of paint and of the domain.
-use mathlib.Core.Path.{_≡_, refl, sym, ap, ap₂, _∙_}
+-- What joins the functions that check and predict a block. Rests on the bridge and on the laws of the domain.
+use mathlib.Core.Path.{_≡_, refl, sym, ap, _∙_}
 use mathlib.Core.Bool.{Bool, true, false, cond, _&&_, false≢true}
 use mathlib.Core.List.{List, [], _∷_}
-use Prim.Native.Nat.{ℕ, suc, _+_, _-_, _*_, _^_, _≤_, _<_}
-use native.Mathlib.Nat.{mul-le-mul-right, mul-le-mul}
+use Prim.Native.Nat.{ℕ, suc, _+_, _-_, _*_, _≤_, _<_}
+use native.Mathlib.Nat.{mul-le-mul}
 use native.Mathlib.Omega.{arith}
 use lib.Dec.{leb, ltb}
-use lib.ListN.{length, getD}
-use lib.IntN.{ℤ, pos, negsuc, subℕ, _+ℤ_, _-ℤ_}
+use lib.ListN.{length}
+use lib.IntN.{ℤ, pos, negsuc, subℕ, _+ℤ_}
 use lib.Signed.{mag, ltZ}
-use borrow.Author.Tests.{leb-true, leb-false, le-leb, lt-leb, eqb-true, eq-eqb, ltb-true, ltb-false}
+use borrow.Author.Tests.{leb-true, leb-false, le-leb, lt-leb, eqb-true, ltb-true, ltb-false}
 use Rattle.laws.specs.Fill.{block}
-use Rattle.laws.specs.FillLaws.{rows-at, rows-same}
-use Rattle.laws.specs.Paint.{paint, paint-in, paint-same, length-paint}
+use Rattle.laws.specs.FillLaws.{rows-same}
 use Rattle.laws.specs.Choose.{_unless_, firstFail, served, passed, both-true, both-same, worked}
 use Rattle.h265.specs.Notation.{clipTo}
 use Rattle.h265.specs.Setting.{lumaAt, first}
@@ -29,15 +28,13 @@ use Rattle.numbers.specs.Numbers.{predictNo}
 use Rattle.tiling.specs.declared.Block.{Block}
 use Rattle.tiling.specs.Tiling.{pictureOf, Placed}
 use Rattle.tiling.specs.Check.{placedOk}
-use Rattle.tiling.specs.Tests.{picture-good, good-picture, placed-of, of-placed}
+use Rattle.tiling.specs.Tests.{picture-good, placed-of}
 use Rattle.still.specs.declared.Still.{Still}
-use Rattle.taps.specs.Taps.{largestAt}
-use Rattle.taps.specs.Laws.{largest-is}
-use Rattle.still.specs.Checks.{largestOf, Tables, whole, roomy}
-use Rattle.block.specs.Block.{predictedAt, rebuilt, stored, World, walked}
+use Rattle.still.specs.Checks.{Tables, whole, roomy}
+use Rattle.block.specs.Block.{predictedAt}
 use Rattle.block.specs.Door.{earlyNo, numberOf, fits}
 use Rattle.block.specs.Bridge.{geoOf, bridge}
-use Rattle.block.specs.Ready.{RowIn, RowsIn, Ready, Lies, Predicted}
+use Rattle.block.specs.Ready.{Ready}
 
 -- a sum that fits, and is clipped as the sum with r is: t is r, but no more than 65535
 pub record Brought (r t : ℤ) : Type 0 where
@@ -67,16 +64,6 @@ left-over at n len h = go (leb n (len - at)) refl
     go true e = sym (le-leb (at + n) len (omega (arith, leb-true n (len - at) e)))
     go false e = sym (lt-leb (at + n) len (omega (arith, leb-false n (len - at) e)))
 
--- a sample and a residual as read are those that the definition names
-pub restored-at : (largest p q : ℕ) (y z : ℤ) {v : ℕ} → v ≡ clipTo largest (pos p +ℤ y) → p ≡ q → y ≡ z → v ≡ clipTo largest (pos q +ℤ z)
-restored-at largest p q y z h a b = h ∙ ap₂ (λ (u : ℕ) (x : ℤ). clipTo largest (pos u +ℤ x)) a b
-
--- row r of a block
-pub row-in : (plane pred residuals n base width at r : ℕ) → RowsIn plane pred residuals n base width at → r < n → RowIn plane pred residuals n (base + r * width) (r * n) (at + r * n)
-row-in plane pred residuals n base width at r h l =
-    let m : (r + 1) * n ≤ n * n = mul-le-mul-right n (omega arith) in
-    record { size = h .size; plane-in = h .plane-in r l; pred-in = omega (arith, h .pred-in); resid-in = omega (arith, h .resid-in) }
-
 -- the numbers 1 to 5 stop a call, or number 6 is the last
 stops : (a b c d e f : Bool) → (firstFail ((1 unless a) ∷ (2 unless b) ∷ (3 unless c) ∷ (4 unless d) ∷ (5 unless e) ∷ []) ≡ 0 → ⊥)
     → firstFail ((1 unless a) ∷ (2 unless b) ∷ (3 unless c) ∷ (4 unless d) ∷ (5 unless e) ∷ []) ≡ firstFail ((1 unless a) ∷ (2 unless b) ∷ (3 unless c) ∷ (4 unless d) ∷ (5 unless e) ∷ (6 unless f) ∷ [])
@@ -97,14 +84,14 @@ module _ (s : Still) (b : Block) (fit : Bool) where
   early-stops h = stops (depthOk (s .bits)) (sizeOk (b .side)) (modeOk (b .mode)) (pictureOk (pictureOf (s .frame))) fit (placedOk (s .frame) b) h
 
   -- what holds where they do not stop it
-  record Passed : Type 0 where
+  pub record Passed : Type 0 where
     pub depth : depthOk (s .bits) ≡ true
     pub size : sizeOk (b .side) ≡ true
     pub mode : modeOk (b .mode) ≡ true
     pub picture : pictureOk (pictureOf (s .frame)) ≡ true
     pub fits : fit ≡ true
 
-  early-passed : earlyNo s b fit ≡ 0 → Passed
+  pub early-passed : earlyNo s b fit ≡ 0 → Passed
   early-passed e =
       let u = passed (depthOk (s .bits)) _ 1 (omega arith) e in
       let v = passed (sizeOk (b .side)) _ 2 (omega arith) (u .1) in
@@ -131,7 +118,7 @@ module _ (s : Still) (b : Block) (fit : Bool) where
     is-placed : numberOf s b fit ≡ 0 → Placed (s .frame) b
     is-placed z = placed-of (s .frame) b (size-of (b .side) (h .size)) (passed (placedOk (s .frame) b) 0 6 (omega arith) (sym last-number ∙ z) .0)
 
-    is-ready : (plane : ℕ) (t : Tables) → whole s plane ≡ true → roomy t ≡ true → numberOf s b fit ≡ 0 → Ready s b plane t
+    pub is-ready : (plane : ℕ) (t : Tables) → whole s plane ≡ true → roomy t ≡ true → numberOf s b fit ≡ 0 → Ready s b plane t
     is-ready plane t w r z =
         record {
           depth = depth-of (s .bits) (h .depth);
@@ -151,45 +138,11 @@ parts s b t plane at len e =
 
 -- a block's side
 module _ (b : Block) (h : Size (b .side)) where
-  side : (4 ≤ b .side) × (b .side ≤ 32)
+  pub side : (4 ≤ b .side) × (b .side ≤ 32)
   side = size-small (b .side) h
 
   pub square : b .side * b .side ≤ 1024
   square = mul-le-mul (side .1) (side .1)
-
--- a block that is ready is served
-module _ (s : Still) (b : Block) (plane : ℕ) (t : Tables) (h : Ready s b plane t) where
-  serves : (fit : Bool) → fit ≡ true → numberOf s b fit ≡ 0
-  serves fit e =
-      rw (
-        at-depth (λ (k : ℕ). depthOk k ≡ true) refl refl refl (s .bits) (h .depth),
-        at-size (λ (k : ℕ). sizeOk k ≡ true) refl refl refl refl (b .side) (h .placed .size),
-        le-leb (b .mode) 34 (h .mode),
-        good-picture (s .frame) (h .picture),
-        e,
-        of-placed (s .frame) b (h .placed),
-      )
-
-  there : (at len : ℕ) → Lies b len at → fits s b t plane at len ≡ true
-  there at len l = rw (eq-eqb plane _ (h .plane-len), le-leb (at + b .side * b .side) len (l .resid-in), h .tables)
-
-  -- by the replay's door, and by the walk's beside a source
-  pub rebuild-serves : (at len k : ℕ) → Lies b len at → k ≡ numberOf s b (fits s b t plane at len) → k ≡ 0
-  rebuild-serves at len k l e = e ∙ serves _ (there at len l)
-
-  pub walk-serves : (at len source k : ℕ) → source ≡ plane → Lies b len at → k ≡ numberOf s b (fits s b t plane at len && whole s source) → k ≡ 0
-  walk-serves at len source k q l e = e ∙ serves _ (both-same (there at len l) (eq-eqb source _ (q ∙ h .plane-len)))
-
-  -- its rows
-  last-row : (r : ℕ) → r < b .side → b .row * s .frame .width + b .col + r * s .frame .width + b .side ≤ plane
-  last-row r l =
-      let m : (b .row + r + 1) * s .frame .width ≤ s .frame .height * s .frame .width = mul-le-mul-right (s .frame .width) (omega (arith, h .placed .row-in)) in
-      omega (arith, h .placed .col-in, h .plane-len)
-
-  pub rows-in : (pred residuals at base : ℕ) → 1024 ≤ pred → at + b .side * b .side ≤ residuals → base ≡ b .row * s .frame .width + b .col
-      → RowsIn plane pred residuals (b .side) base (s .frame .width) at
-  rows-in pred residuals at base long l q =
-      rw q (record { size = side b (h .placed .size) .1; plane-in = last-row; pred-in = omega (arith, square b (h .placed .size), long); resid-in = l })
 
 -- a block that is ready is predicted
 module _ (s : Still) (b : Block) (plane : List ℕ) (t : Tables) (h : Ready s b (length plane) t) where
@@ -225,11 +178,6 @@ module _ (s : Still) (b : Block) (plane : List ℕ) (t : Tables) (h : Ready s b 
       ∙ sym (bridge s b (h .picture) (h .placed) (h .depth) plane (h .plane-len) (h .mode) y x l m))
       (omega (arith, side b (h .placed .size))))
 
--- a buffer that a served call predicted into holds the prediction
-pub holds-it : (s : Still) (b : Block) (plane d out : List ℕ) (k : ℕ) → b .side * b .side ≤ length d → k ≡ 0 → out ≡ served k (block (predictedAt s b plane) (b .side) d) d → Predicted s b plane out
-holds-it s b plane d out k room z o r c l m =
-    ap (λ (u : List ℕ). getD u (r * b .side + c) 0) (o ∙ sym (worked k _ _ z)) ∙ rows-at _ (b .side) (b .side) d r c 0 l m room
-
 -- a call of the prediction, whose checks 1 to 5 gave r
 module _ (s : Still) (b : Block) (t : Tables) (plane d : List ℕ) (r : ℕ) (e : r ≡ earlyNo s b (fits s b t (length plane) 0 (length d))) (z : r ≡ 0) where
   abbrev fit : Bool
@@ -258,95 +206,3 @@ module _ (s : Still) (b : Block) (t : Tables) (plane d : List ℕ) (r : ℕ) (e 
         let h = is-ready s b fit ok (length plane) t (all .0) (all .1 .1) n in
         let q = p ∙ predicts s b plane t h (length d) (all .1 .0) in
         (q, (q ∙ sym n, predicted-is s b plane t h k g d out (all .1 .0) f y o))
-
--- a call that predicts into 1024 entries and goes on: its checks 1 to 5 gave r, and the prediction k
-module _ (s : Still) (b : Block) (t : Tables) (plane at len : ℕ) (fit : Bool) (r : ℕ) (e : r ≡ earlyNo s b fit) (z : r ≡ 0) (more : fit ≡ true → fits s b t plane at len ≡ true)
-    (k : ℕ) (f : k ≡ numberOf s b (fits s b t plane 0 1024))
-  where
-    passes : Passed s b fit
-    passes = early-passed s b fit (sym e ∙ z)
-
-    lent : (whole s plane ≡ true) × ((at + b .side * b .side ≤ len) × (roomy t ≡ true))
-    lent = parts s b t plane at len (more (passes .fits))
-
-    pub room : b .side * b .side ≤ 1024
-    room = square b (size-of (b .side) (passes .size))
-
-    pub number-same : k ≡ numberOf s b fit
-    number-same =
-        let q : fits s b t plane 0 1024 ≡ true = rw (lent .0, le-leb (0 + b .side * b .side) 1024 (omega (arith, room)), lent .1 .1) in
-        f ∙ ap (numberOf s b) (q ∙ sym (passes .fits))
-
-    pub bits-are : largestAt (s .bits) ≡ 2 ^ s .bits - 1
-    bits-are = largest-is (s .bits) (depth-of (s .bits) (passes .depth))
-
-    pub lies-there : at + b .side * b .side ≤ len
-    lies-there = lent .1 .0
-
-    pub rows-there : k ≡ 0 → (pred base : ℕ) → 1024 ≤ pred → base ≡ b .row * s .frame .width + b .col → RowsIn plane pred len (b .side) base (s .frame .width) at
-    rows-there y pred base long q = rows-in s b plane t (is-ready s b fit passes plane t (lent .0) (lent .1 .1) (sym number-same ∙ y)) pred len at base long (lent .1 .0) q
-
--- a source beside a work plane
-pub source-same : (s : Still) (b : Block) (t : Tables) (work at len source r : ℕ) → r ≡ earlyNo s b (fits s b t work at len && whole s source) → r ≡ 0 → source ≡ work
-source-same s b t work at len source r e z =
-    let q = both-true (fits s b t work at len) (whole s source) (early-passed s b (fits s b t work at len && whole s source) (sym e ∙ z) .fits) in
-    eqb-true source _ (q .1) ∙ sym (eqb-true work _ (parts s b t work at len (q .0) .0))
-
--- the rows of a block, stored from its first sample on
-pub rebuilt-is : (s : Still) (b : Block) (at largest base : ℕ) (pred plane out : List ℕ) (v : List ℤ) → largest ≡ 2 ^ s .bits - 1
-    → base ≡ b .row * s .frame .width + b .col
-    → Predicted s b plane pred
-    → out ≡ paint base (s .frame .width) (b .side) (λ (r c : ℕ). clipTo largest (pos (getD pred (r * b .side + c) 0) +ℤ getD v (at + r * b .side + c) (pos 0))) (b .side) plane
-    → out ≡ rebuilt s b at v plane
-unfolding rebuilt
-rebuilt-is s b at largest base pred plane out v e q p o =
-    o
-    ∙ ap (λ (u : ℕ). paint u (s .frame .width) (b .side) (λ (r c : ℕ). clipTo largest (pos (getD pred (r * b .side + c) 0) +ℤ getD v (at + r * b .side + c) (pos 0))) (b .side) plane) q
-    ∙ paint-same _ _ _ _ _ (b .side) plane
-    (λ r c l m.
-    let z = getD v (at + r * b .side + c) (pos 0) in
-    restored-at (largestOf s) _ _ z z (ap (λ (k : ℕ). clipTo k (pos (getD pred (r * b .side + c) 0) +ℤ z)) e) (p r c l m) refl)
-
-pub rebuilt-length : (s : Still) (b : Block) (at : ℕ) (v : List ℤ) (plane : List ℕ) → length (rebuilt s b at v plane) ≡ length plane
-unfolding rebuilt
-rebuilt-length s b at v plane = length-paint _ _ _ _ (b .side) plane
-
-pub stored-length : (s : Still) (source : List ℕ) (b : Block) (at : ℕ) (work : List ℕ) (v : List ℤ) → length (stored s source b at work v) ≡ length v
-unfolding stored
-stored-length s source b at work v = length-paint _ _ _ _ (b .side) v
-
--- walk: the source less the prediction, and the sample that it gives back
-abbrev pub lessAt : List ℕ → List ℕ → ℕ → ℕ → ℤ
-lessAt source pred i j = pos (getD source i 0) -ℤ pos (getD pred j 0)
-
-abbrev pub backAt : ℕ → List ℕ → List ℕ → ℕ → ℕ → ℕ
-backAt largest source pred i j = clipTo largest (pos (getD pred j 0) +ℤ lessAt source pred i j)
-
--- a block of the walk
-module _ (s : Still) (b : Block) (at largest base : ℕ) (source work work′ pred : List ℕ) (v v′ : List ℤ)
-    (most : largest ≡ 2 ^ s .bits - 1) (first : base ≡ b .row * s .frame .width + b .col) (holds : Predicted s b work pred) (room : at + b .side * b .side ≤ length v)
-    (is-resid : v′ ≡ paint at (b .side) (b .side) (λ (r c : ℕ). lessAt source pred (base + r * s .frame .width + c) (r * b .side + c)) (b .side) v)
-    (is-work : work′ ≡ paint base (s .frame .width) (b .side) (λ (r c : ℕ). backAt largest source pred (base + r * s .frame .width + c) (r * b .side + c)) (b .side) work)
-  where
-    stored-is : v′ ≡ stored s source b at work v
-    unfolding stored
-    stored-is = is-resid ∙ paint-same _ _ _ _ _ (b .side) v (λ r c l m. ap₂ (λ (i p : ℕ). pos (getD source i 0) -ℤ pos p) (omega (arith, first)) (holds r c l m))
-
-    read-back : (r c : ℕ) → r < b .side → c < b .side → getD v′ (at + r * b .side + c) (pos 0) ≡ lessAt source pred (base + r * s .frame .width + c) (r * b .side + c)
-    read-back r c l m =
-        let k : (r + 1) * b .side ≤ b .side * b .side = mul-le-mul-right (b .side) (omega arith) in
-        ap (λ (x : List ℤ). getD x (at + r * b .side + c) (pos 0)) is-resid ∙ paint-in at (b .side) (b .side) _ (b .side) v r c (pos 0) (omega arith) l m (omega (arith, room, k))
-
-    back-is : work′ ≡ rebuilt s b at v′ work
-    unfolding rebuilt
-    back-is =
-        is-work
-        ∙ ap (λ (u : ℕ). paint u (s .frame .width) (b .side) (λ (r c : ℕ). backAt largest source pred (base + r * s .frame .width + c) (r * b .side + c)) (b .side) work) first
-        ∙ paint-same _ _ _ _ _ (b .side) work
-        (λ r c l m.
-        let z = lessAt source pred (base + r * s .frame .width + c) (r * b .side + c) in
-        restored-at (largestOf s) _ _ z (getD v′ (at + r * b .side + c) (pos 0)) (ap (λ (k : ℕ). clipTo k (pos (getD pred (r * b .side + c) 0) +ℤ z)) most) (holds r c l m) (sym (read-back r c l m)))
-
-    pub walked-is : _≡_ {A = World} (record { work = work′; residuals = v′ }) (walked s source b at (record { work = work; residuals = v }))
-    unfolding walked
-    walked-is = ap₂ (λ (x : List ℕ) (y : List ℤ). record { work = x; residuals = y }) (back-is ∙ ap (λ (y : List ℤ). rebuilt s b at y work) stored-is) stored-is

@@ -15,7 +15,7 @@ use Rattle.tiling.specs.Tiling.{pictureOf}
 use Rattle.plan.specs.Records.{recordsOf, wholeRecords}
 use Rattle.still.specs.declared.Still.{Still}
 use Rattle.still.specs.Checks.{every, residualOk}
-use Rattle.block.specs.Block.{replayUnit}
+use Rattle.rebuild.specs.Block.{replayUnit}
 use Rattle.walk.specs.declared.Progress.{Progress}
 use Rattle.walk.specs.declared.Stepped.{Stepped}
 use Rattle.walk.specs.Door.{doing, verdictOf, steppedBy}

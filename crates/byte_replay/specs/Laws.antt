@@ -28,10 +28,12 @@ use Rattle.refs.specs.Door.{lumaDoor}
 use Rattle.numbers.specs.Numbers.{predictNo}
 use Rattle.still.specs.declared.Still.{Still}
 use Rattle.still.specs.Checks.{every, Tables, residualOk, callNo, replayFits, settle}
-use Rattle.block.specs.Block.{replayUnit}
+use Rattle.rebuild.specs.Block.{replayUnit}
 use Rattle.block.specs.Bridge.{geoOf, geo-fine}
-use Rattle.block.specs.Ready.{Ready, Predicted}
-use Rattle.block.specs.Laws.{predicts, predicted-is, holds-it}
+use Rattle.block.specs.Ready.{Ready}
+use Rattle.rebuild.specs.Ready.{Predicted}
+use Rattle.block.specs.Laws.{predicts, predicted-is}
+use Rattle.rebuild.specs.Laws.{holds-it}
 use Rattle.walk.specs.declared.Progress.{Progress}
 use Rattle.walk.specs.declared.Stepped.{Stepped}
 use Rattle.walk.specs.Door.{doing, verdictOf, replayVerdict}

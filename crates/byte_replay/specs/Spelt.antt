@@ -21,8 +21,9 @@ use Rattle.tiling.specs.Tiling.{place}
 use Rattle.plan.specs.Records.{recordsOf}
 use Rattle.still.specs.declared.Still.{Still}
 use Rattle.still.specs.Checks.{largestOf}
-use Rattle.block.specs.Block.{predictedAt, rebuilt, replayUnit}
-use Rattle.block.specs.Laws.{rebuilt-length}
+use Rattle.block.specs.Block.{predictedAt}
+use Rattle.rebuild.specs.Block.{rebuilt, replayUnit}
+use Rattle.rebuild.specs.Laws.{rebuilt-length}
 use Rattle.walk.specs.declared.Progress.{Progress}
 use Rattle.walk.specs.Door.{doing, replayVerdict, replayAfter}
 use Rattle.byte_replay.specs.Door.{Lent, bytesFit, byteVerdict, planeAfter}

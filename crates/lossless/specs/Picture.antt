@@ -31,10 +31,13 @@ use Rattle.tiling.specs.Cover.{apart, earlier, area}
 use Rattle.plan.specs.Verdict.{Accepted}
 use Rattle.still.specs.declared.Still.{Still}
 use Rattle.still.specs.Checks.{largestOf}
-use Rattle.block.specs.Block.{sampleAt, predictedAt, rebuilt, stored, World, walked, replayUnit, walkUnit}
+use Rattle.block.specs.Block.{sampleAt, predictedAt}
+use Rattle.rebuild.specs.Block.{rebuilt, replayUnit}
+use Rattle.coded.specs.Block.{stored, World, walked, walkUnit}
 use Rattle.block.specs.Bridge.{geoOf, bridge}
-use Rattle.block.specs.Places.{place-up}
-use Rattle.block.specs.Laws.{rebuilt-length, stored-length}
+use Rattle.rebuild.specs.Places.{place-up}
+use Rattle.rebuild.specs.Laws.{rebuilt-length}
+use Rattle.coded.specs.Laws.{stored-length}
 use Rattle.lossless.specs.Replay.{Replays, Sourced, Walks}
 
 -- a sample's place in the picture

@@ -22,9 +22,11 @@ use Rattle.still.specs.declared.Still.{Still}
 use Rattle.walk.specs.declared.Progress.{Progress}
 use Rattle.walk.specs.declared.Stepped.{Stepped}
 use Rattle.still.specs.Checks.{largestOf, every, whole, roomy, residualOk}
-use Rattle.block.specs.Block.{World, walked, replayUnit, walkUnit}
+use Rattle.rebuild.specs.Block.{replayUnit}
+use Rattle.coded.specs.Block.{World, walked, walkUnit}
 use Rattle.walk.specs.Door.{verdictOf, replayVerdict, replayAfter, walkVerdict, walkAfter}
-use Rattle.block.specs.Laws.{rebuilt-length, stored-length}
+use Rattle.rebuild.specs.Laws.{rebuilt-length}
+use Rattle.coded.specs.Laws.{stored-length}
 use Rattle.lossless.specs.Picture.{Whole}
 use Rattle.lossless.specs.Replay.{units-kept}
 use Rattle.promises.specs.Calls.{Job, Held, blocks, count, walkNo, walkCall, replayNo, replayCall}

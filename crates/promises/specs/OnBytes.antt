@@ -13,7 +13,7 @@ use Rattle.bytes.specs.Laws.{AreBytes, length-samples}
 use Rattle.plan.specs.declared.Verdict.{Verdict}
 use Rattle.plan.specs.Records.{recordsOf}
 use Rattle.still.specs.declared.Still.{Still}
-use Rattle.block.specs.Block.{World}
+use Rattle.coded.specs.Block.{World}
 use Rattle.walk.specs.Door.{steppedBy}
 use Rattle.byte_replay.specs.Door.{Lent, bytesFit, byteStep, planeAfter}
 use Rattle.byte_replay.specs.Laws.{own, fitting}

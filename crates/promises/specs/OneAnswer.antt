@@ -16,7 +16,7 @@ use denote.Ref.{now}
 use denote.Triple.Clauses.{Ended, AtExit, Clauses}
 use denote.Triple.Entry.{Args, Res}
 use Rattle.laws.specs.Choose.{served}
-use Rattle.block.specs.Block.{World}
+use Rattle.coded.specs.Block.{World}
 use Rattle.byte_replay.specs.Door.{After}
 use Rattle.byte_predict.specs.Entries.{Written, wrote}
 use Rattle.bytes.proofs.sample.Reads as bytes-sample
@@ -105,9 +105,11 @@ use Rattle.still.proofs.doing_of.Reads as still-doing-of
 use Rattle.block.proofs.restored.Reads as block-restored
 use Rattle.block.proofs.geometry.Reads as block-geometry
 use Rattle.block.proofs.base_of.Reads as block-base-of
+use Rattle.block.proofs.early_no.Reads as block-early-no
+use Rattle.block.proofs.fit_for.Reads as block-fit-for
 use Rattle.block.proofs.predict_block.Reads as block-predict-block
-use Rattle.block.proofs.rebuild_block.Reads as block-rebuild-block
-use Rattle.block.proofs.walk_block.Reads as block-walk-block
+use Rattle.rebuild.proofs.rebuild_block.Reads as rebuild-rebuild-block
+use Rattle.coded.proofs.walk_block.Reads as coded-walk-block
 use Rattle.probes.proofs.salvrunde_probe_depth.Reads as probes-salvrunde-probe-depth
 use Rattle.probes.proofs.salvrunde_probe_format.Reads as probes-salvrunde-probe-format
 use Rattle.probes.proofs.salvrunde_probe_on_luma.Reads as probes-salvrunde-probe-on-luma
@@ -455,14 +457,22 @@ block-geometry-once a x y s t p q = p ∙ sym q
 block-base-of-once : Once (block-base-of.Post tt)
 block-base-of-once a x y s t p q = p ∙ sym q
 
+block-early-no-once : Once (block-early-no.Post tt)
+block-early-no-once a x y s t p q = p ∙ sym q
+
+block-fit-for-once : Once (block-fit-for.Post tt)
+block-fit-for-once a x y s t p q = p ∙ sym q
+
 block-predict-block-once : (κs : Lfts 5) → OnceLeft (λ s. now (s .1 .1 .1 .0)) (block-predict-block.Post κs)
 block-predict-block-once κs a x y s t p q = by-number _ _ (p .0) (q .0) (p .1 .0) (q .1 .0)
 
-block-rebuild-block-once : (κs : Lfts 5) → OnceLeft (λ s. now (s .1 .1 .1 .1 .0)) (block-rebuild-block.Post κs)
-block-rebuild-block-once κs a x y s t p q = by-number _ _ (p .0) (q .0) (p .1 .0) (q .1 .0)
+-- rebuild
+rebuild-rebuild-block-once : (κs : Lfts 5) → OnceLeft (λ s. now (s .1 .1 .1 .1 .0)) (rebuild-rebuild-block.Post κs)
+rebuild-rebuild-block-once κs a x y s t p q = by-number _ _ (p .0) (q .0) (p .1 .0) (q .1 .0)
 
-block-walk-block-once : (κs : Lfts 6) → OnceLeft {L = World} (λ s. record { work = now (s .1 .1 .1 .1 .0); residuals = now (s .1 .1 .1 .1 .1 .0) }) (block-walk-block.Post κs)
-block-walk-block-once κs a x y s t p q = by-number _ _ (p .0) (q .0) (p .1 .0) (q .1 .0)
+-- coded
+coded-walk-block-once : (κs : Lfts 6) → OnceLeft {L = World} (λ s. record { work = now (s .1 .1 .1 .1 .0); residuals = now (s .1 .1 .1 .1 .1 .0) }) (coded-walk-block.Post κs)
+coded-walk-block-once κs a x y s t p q = by-number _ _ (p .0) (q .0) (p .1 .0) (q .1 .0)
 
 -- probes
 probes-salvrunde-probe-depth-once : Once (probes-salvrunde-probe-depth.Post tt)

@@ -1,8 +1,8 @@
 -- Document 01, 'The numbers a call gives back', of the doors on one block of a still: each number is given exactly when its row holds and none before it. Rests on Exact.
 --
 --   block::predict_block      predict-block
---   block::rebuild_block      rebuild-block
---   block::walk_block         walk-block
+--   rebuild::rebuild_block    rebuild-block
+--   coded::walk_block         walk-block
 use mathlib.Core.Bool.{Bool, _&&_}
 use mathlib.Core.List.{List, [], _∷_}
 use mathlib.Core.Path.{refl}

@@ -18,9 +18,9 @@ use Rattle.tiling.specs.declared.Block.{Block}
 use Rattle.tiling.specs.Tiling.{place}
 use Rattle.plan.specs.Plan.{Plan}
 use Rattle.walk.specs.declared.Stepped.{Stepped}
-use Rattle.block.specs.Block.{World}
+use Rattle.coded.specs.Block.{World}
 use Rattle.walk.specs.Door.{steppedBy, walkVerdict, walkAfter}
-use Rattle.block.specs.Places.{place-in}
+use Rattle.rebuild.specs.Places.{place-in}
 use Rattle.report.specs.Text.{spell, laid}
 use Rattle.report.specs.Told.{Job, tables, fresh, agree, absolutes, line, lines}
 

@@ -22,7 +22,7 @@ use Rattle.tiling.specs.Cover.{area as plan-area}
 use Rattle.still.specs.declared.Still.{Still}
 use Rattle.walk.specs.declared.Progress.{Progress}
 use Rattle.walk.specs.declared.Stepped.{Stepped}
-use Rattle.block.specs.Block.{World}
+use Rattle.coded.specs.Block.{World}
 use Rattle.walk.specs.Door.{steppedBy, walkVerdict, walkAfter, replayAfter}
 use Rattle.walk.specs.Ready.{Sound}
 use Rattle.walk.specs.Laws.{walk-sound}

@@ -25,9 +25,10 @@ use Rattle.plan.specs.Check.{blocksVerdict, planVerdict}
 use Rattle.plan.specs.Verdict.{Accepted, verdict-good}
 use Rattle.still.specs.declared.Still.{Still}
 use Rattle.still.specs.Checks.{every, whole, Tables, roomy, replayNo, walkFits, walkNo}
-use Rattle.block.specs.Block.{World}
-use Rattle.block.specs.Ready.{Ready, Lies}
-use Rattle.block.specs.Places.{place-in, count-up}
+use Rattle.coded.specs.Block.{World}
+use Rattle.block.specs.Ready.{Ready}
+use Rattle.rebuild.specs.Ready.{Lies}
+use Rattle.rebuild.specs.Places.{place-in, count-up}
 use Rattle.walk.specs.declared.Progress.{Progress}
 use Rattle.walk.specs.Door.{doing, verdictOf, steppedBy, replayVerdict, walkVerdict}
 use Rattle.walk.specs.Ready.{Sound}

@@ -20,7 +20,8 @@ use Rattle.plan.specs.Verdict.{verdict-good}
 use Rattle.still.specs.declared.Still.{Still}
 use Rattle.still.specs.Checks.{largestOf, every, Tables, residualOk, replayFits, replayNo, walkFits, walkNo, settle}
 use Rattle.still.specs.Laws.{good-call}
-use Rattle.block.specs.Block.{World, replayUnit, walkUnit}
+use Rattle.rebuild.specs.Block.{replayUnit}
+use Rattle.coded.specs.Block.{World, walkUnit}
 use Rattle.walk.specs.declared.Progress.{Progress}
 use Rattle.walk.specs.declared.Stepped.{Stepped}
 use Rattle.walk.specs.declared.Call.{Call}

@@ -8,8 +8,10 @@ ghost use lib.ListN.{length};
 ghost use Rattle.laws.specs.Chain.{units};
 ghost use Rattle.plan.specs.Plan.{planOf, listed};
 ghost use Rattle.still.specs.Checks.{replayNo, walkNo, settle};
-ghost use Rattle.block.specs.Block.{rebuilt, walked, replayUnit, walkUnit};
-ghost use Rattle.block.specs.Ready.{Ready, Lies};
+ghost use Rattle.rebuild.specs.Block.{rebuilt, replayUnit};
+ghost use Rattle.coded.specs.Block.{walked, walkUnit};
+ghost use Rattle.block.specs.Ready.{Ready};
+ghost use Rattle.rebuild.specs.Ready.{Lies};
 ghost use Rattle.walk.specs.Door.{steppedBy, replayVerdict, replayAfter, walkVerdict, walkAfter};
 ghost use Rattle.walk.specs.Ready.{ReplayReady, WalkReady};
 ghost use Rattle.walk.specs.Listed.{scratchTables, bare, callOf};
@@ -133,7 +135,7 @@ fn replay_turn(
     if k < (from as usize) {
         return next;
     }
-    block::rebuild_block(
+    rebuild::rebuild_block(
         s,
         b,
         at,
@@ -168,7 +170,7 @@ fn walk_turn(
     if k < (from as usize) {
         return next;
     }
-    block::walk_block(
+    coded::walk_block(
         s,
         b,
         at,

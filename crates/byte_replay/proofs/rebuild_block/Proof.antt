@@ -4,7 +4,7 @@ use Prim.Native.Nat.{_≤_}
 use lib.ListN.{length}
 use Rattle.bytes.specs.Bytes.{samplesOf, residualsOf}
 use Rattle.taps.specs.Laws.{largest-is}
-use Rattle.block.specs.Laws.{rows-in, rebuilt-is}
+use Rattle.rebuild.specs.Laws.{rows-in, rebuilt-is}
 use borrow.Author.Needs.{needs}
 use Rattle.byte_replay.proofs.rebuild_block.Statement.{statement}
 use Rattle.byte_replay.proofs.rebuild_block.Tie as tie

@@ -12,8 +12,8 @@ use Rattle.bytes.specs.Laws.{samples-alike}
 use Rattle.tiling.specs.declared.Block.{Block}
 use Rattle.tiling.specs.Tiling.{place}
 use Rattle.plan.specs.Records.{recordsOf}
-use Rattle.block.specs.Block.{rebuilt, replayUnit}
-use Rattle.block.specs.Places.{place-none, place-more}
+use Rattle.rebuild.specs.Block.{rebuilt, replayUnit}
+use Rattle.rebuild.specs.Places.{place-none, place-more}
 use Rattle.walk.specs.Laws.{lies, ready}
 use Rattle.walk.specs.Listed.{turn-none, turn-more, turn-done}
 use borrow.Author.Needs.{needs}

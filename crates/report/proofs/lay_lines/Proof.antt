@@ -4,9 +4,9 @@ use Prim.Native.Nat.{_-_, _*_, _≤_}
 use mathlib.Core.Path.{_≡_, ap}
 use native.Mathlib.Omega.{arith}
 use lib.ListN.{length}
-use Rattle.tiling.specs.Tiling.{place}
 use Rattle.plan.specs.Plan.{planOf}
-use Rattle.block.specs.Places.{place-none, place-more}
+use Rattle.tiling.specs.Tiling.{place}
+use Rattle.rebuild.specs.Places.{place-none, place-more}
 use Rattle.report.specs.Told.{lines}
 use Rattle.report.specs.Laws.{Laid, said, lines-none, square, among, next-line}
 use Rattle.report.proofs.lay_lines.Statement.{statement}

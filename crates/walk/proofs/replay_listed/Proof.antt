@@ -58,9 +58,10 @@ use Rattle.scratch.specs.declared.AngularScratch.{AngularScratch}
 use Rattle.scratch.proofs.AngularScratch as G
 use Rattle.scratch.proofs.Tables.{Long, made, Loan, tableAt, Tokens, Lent, Kept, Holds, lend, regain}
 use Rattle.still.specs.declared.Still.{Still}
-use Rattle.block.specs.Block.{rebuilt, replayUnit}
-use Rattle.block.specs.Ready.{Ready, Lies}
-use Rattle.block.specs.Places.{place-none, place-more}
+use Rattle.rebuild.specs.Block.{rebuilt, replayUnit}
+use Rattle.block.specs.Ready.{Ready}
+use Rattle.rebuild.specs.Ready.{Lies}
+use Rattle.rebuild.specs.Places.{place-none, place-more}
 use Rattle.walk.specs.Ready.{Sound, ReplayReady}
 use Rattle.walk.specs.Laws.{lies, ready}
 use Rattle.walk.specs.Listed.{scratchTables, turn-none, turn-more}

@@ -8,10 +8,10 @@ use lib.ListN.{length}
 use native.Mathlib.Omega.{arith}
 use Rattle.laws.specs.Chain.{units}
 use Rattle.tiling.specs.declared.Block.{Block}
-use Rattle.tiling.specs.Tiling.{place}
 use Rattle.plan.specs.Plan.{planOf}
-use Rattle.block.specs.Block.{World, walked, walkUnit}
-use Rattle.block.specs.Places.{place-none, place-more}
+use Rattle.tiling.specs.Tiling.{place}
+use Rattle.coded.specs.Block.{World, walked, walkUnit}
+use Rattle.rebuild.specs.Places.{place-none, place-more}
 use Rattle.walk.specs.Laws.{lies, ready}
 use Rattle.walk.specs.Listed.{turn-none, turn-more, turn-done}
 use borrow.Author.Needs.{needs}

@@ -60,7 +60,7 @@ use Rattle.walk.specs.declared.Progress.{Progress}
 use Rattle.still.specs.declared.Still.{Still}
 use Rattle.walk.specs.declared.Stepped.{Stepped}
 use Rattle.walk.specs.declared.Call.{Call}
-use Rattle.block.specs.Block.{replayUnit}
+use Rattle.rebuild.specs.Block.{replayUnit}
 use Rattle.walk.specs.Door.{steppedBy, replayVerdict, replayAfter}
 use Rattle.still.specs.Checks.{replayNo, settle}
 use Rattle.walk.specs.Ready.{ReplayReady}

@@ -1,13 +1,14 @@
--- `block::rebuild_block` meets its contract: the prediction, then the rows. Rests on both.
+-- `rebuild::rebuild_block` meets its contract: the prediction, then the rows. Rests on both.
 use mathlib.Core.Path.{refl, sym, ap, _∙_}
 use Prim.Native.Nat.{_≤_}
 use lib.ListN.{length}
 use Rattle.laws.specs.Choose.{unserved}
 use Rattle.block.specs.Door.{earlyNo, fits}
-use Rattle.block.specs.Laws.{early-stops, room, number-same, bits-are, rows-there, holds-it, rebuilt-is}
+use Rattle.block.specs.Laws.{early-stops}
+use Rattle.rebuild.specs.Laws.{room, number-same, bits-are, rows-there, holds-it, rebuilt-is}
 use borrow.Author.Needs.{needs}
-use Rattle.block.proofs.rebuild_block.Statement.{statement}
-use Rattle.block.proofs.rebuild_block.Tie as tie
+use Rattle.rebuild.proofs.rebuild_block.Statement.{statement}
+use Rattle.rebuild.proofs.rebuild_block.Tie as tie
 
 fit-for-requires : tie.Need-fit-for-requires
 fit-for-requires c κs = search needs

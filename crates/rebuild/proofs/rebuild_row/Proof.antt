@@ -1,4 +1,4 @@
--- `block::rebuild_row` meets its contract. The loop's invariant: the samples passed are stored. Rests on `restored`.
+-- `rebuild::rebuild_row` meets its contract. The loop's invariant: the samples passed are stored. Rests on `restored`.
 use Prim.Native.Nat.{ℕ, _+_, _-_, _≤_}
 use mathlib.Core.Path.{_≡_, refl}
 use lib.ListN.{length, getD}
@@ -7,10 +7,10 @@ use Rattle.laws.specs.Fill.{run}
 use Rattle.laws.specs.FillLaws.{run-none, run-more, run-done}
 use Rattle.laws.specs.Signed.{held}
 use Rattle.h265.specs.Notation.{clipTo}
-use Rattle.block.specs.Laws.{restored-at}
+use Rattle.rebuild.specs.Laws.{restored-at}
 use borrow.Author.Needs.{needs}
-use Rattle.block.proofs.rebuild_row.Statement.{statement}
-use Rattle.block.proofs.rebuild_row.Tie as tie
+use Rattle.rebuild.proofs.rebuild_row.Statement.{statement}
+use Rattle.rebuild.proofs.rebuild_row.Tie as tie
 
 abbrev Inv-loop : tie.InvT-loop
 Inv-loop plane₀ pred residuals n base from at largest c₀ plane c =

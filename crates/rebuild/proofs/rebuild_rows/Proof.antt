@@ -1,4 +1,4 @@
--- `block::rebuild_rows` meets its contract. The loop's invariant: the rows passed are stored. Rests on `rebuild_row`.
+-- `rebuild::rebuild_rows` meets its contract. The loop's invariant: the rows passed are stored. Rests on `rebuild_row`.
 use Prim.Native.Nat.{ℕ, _+_, _*_, _-_, _≤_}
 use mathlib.Core.Path.{_≡_, _∙_}
 use lib.ListN.{length, getD}
@@ -6,11 +6,11 @@ use lib.IntN.{pos, _+ℤ_}
 use native.Mathlib.Omega.{arith}
 use Rattle.laws.specs.Paint.{paint, paint-none, paint-more, paint-done}
 use Rattle.h265.specs.Notation.{clipTo}
-use Rattle.block.specs.Ready.{RowIn}
-use Rattle.block.specs.Laws.{row-in}
+use Rattle.rebuild.specs.Ready.{RowIn}
+use Rattle.rebuild.specs.Laws.{row-in}
 use borrow.Author.Needs.{needs}
-use Rattle.block.proofs.rebuild_rows.Statement.{statement}
-use Rattle.block.proofs.rebuild_rows.Tie as tie
+use Rattle.rebuild.proofs.rebuild_rows.Statement.{statement}
+use Rattle.rebuild.proofs.rebuild_rows.Tie as tie
 
 abbrev Inv-loop : tie.InvT-loop
 Inv-loop plane₀ pred residuals n base width at largest r₀ plane r =

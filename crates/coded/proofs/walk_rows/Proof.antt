@@ -1,14 +1,15 @@
--- `block::walk_rows` meets its contract. The loop's invariant: the rows passed are stored. Rests on `walk_row`.
+-- `coded::walk_rows` meets its contract. The loop's invariant: the rows passed are stored. Rests on `walk_row`.
 use Prim.Native.Nat.{ℕ, _+_, _*_, _-_, _≤_}
 use mathlib.Core.Path.{_≡_, sym, _∙_}
 use lib.ListN.{length}
 use native.Mathlib.Omega.{arith}
 use Rattle.laws.specs.Paint.{paint, paint-none, paint-more, paint-done}
-use Rattle.block.specs.Ready.{RowIn}
-use Rattle.block.specs.Laws.{lessAt, backAt, row-in}
+use Rattle.rebuild.specs.Ready.{RowIn}
+use Rattle.rebuild.specs.Laws.{row-in}
+use Rattle.coded.specs.Laws.{lessAt, backAt}
 use borrow.Author.Needs.{needs}
-use Rattle.block.proofs.walk_rows.Statement.{statement}
-use Rattle.block.proofs.walk_rows.Tie as tie
+use Rattle.coded.proofs.walk_rows.Statement.{statement}
+use Rattle.coded.proofs.walk_rows.Tie as tie
 
 abbrev Inv-loop : tie.InvT-loop
 Inv-loop work₀ residuals₀ source pred n base width at largest r₀ work residuals r =

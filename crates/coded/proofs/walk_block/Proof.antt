@@ -1,15 +1,17 @@
--- `block::walk_block` meets its contract: the prediction from the work plane, then the rows. Rests on both.
+-- `coded::walk_block` meets its contract: the prediction from the work plane, then the rows. Rests on both.
 use mathlib.Core.Path.{refl, sym, ap, _∙_}
 use mathlib.Core.Bool.{_&&_}
 use Prim.Native.Nat.{_≤_}
 use lib.ListN.{length}
 use Rattle.laws.specs.Choose.{both-true, both-same, unserved}
 use Rattle.still.specs.Checks.{whole}
 use Rattle.block.specs.Door.{earlyNo, fits}
-use Rattle.block.specs.Laws.{early-stops, room, number-same, bits-are, lies-there, rows-there, source-same, holds-it, walked-is}
+use Rattle.block.specs.Laws.{early-stops}
+use Rattle.rebuild.specs.Laws.{room, number-same, bits-are, lies-there, rows-there, holds-it}
+use Rattle.coded.specs.Laws.{source-same, walked-is}
 use borrow.Author.Needs.{needs}
-use Rattle.block.proofs.walk_block.Statement.{statement}
-use Rattle.block.proofs.walk_block.Tie as tie
+use Rattle.coded.proofs.walk_block.Statement.{statement}
+use Rattle.coded.proofs.walk_block.Tie as tie
 
 fit-for-requires : tie.Need-fit-for-requires
 fit-for-requires c κs = search needs

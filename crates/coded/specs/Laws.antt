@@ -1,0 +1,73 @@
+-- What joins the functions that walk a block. Rests on the laws of the rebuilt block and of paint.
+use mathlib.Core.Path.{_≡_, sym, ap, ap₂, _∙_}
+use mathlib.Core.Bool.{_&&_}
+use mathlib.Core.List.{List}
+use Prim.Native.Nat.{ℕ, _+_, _-_, _*_, _^_, _≤_, _<_}
+use native.Mathlib.Nat.{mul-le-mul-right}
+use native.Mathlib.Omega.{arith}
+use lib.ListN.{length, getD}
+use lib.IntN.{ℤ, pos, _+ℤ_, _-ℤ_}
+use borrow.Author.Tests.{eqb-true, eq-eqb}
+use Rattle.laws.specs.Paint.{paint, paint-in, paint-same, length-paint}
+use Rattle.laws.specs.Choose.{both-true, both-same}
+use Rattle.h265.specs.Notation.{clipTo}
+use Rattle.tiling.specs.declared.Block.{Block}
+use Rattle.still.specs.declared.Still.{Still}
+use Rattle.still.specs.Checks.{largestOf, Tables, whole}
+use Rattle.block.specs.Door.{earlyNo, numberOf, fits}
+use Rattle.block.specs.Ready.{Ready}
+use Rattle.block.specs.Laws.{early-passed, parts}
+use Rattle.rebuild.specs.Block.{rebuilt}
+use Rattle.rebuild.specs.Ready.{Lies, Predicted}
+use Rattle.rebuild.specs.Laws.{restored-at, serves, there}
+use Rattle.coded.specs.Block.{stored, World, walked}
+
+-- a block that is ready is served, beside a source
+pub walk-serves : (s : Still) (b : Block) (plane : ℕ) (t : Tables) (h : Ready s b plane t) (at len source k : ℕ) → source ≡ plane → Lies b len at → k ≡ numberOf s b (fits s b t plane at len && whole s source) → k ≡ 0
+walk-serves s b plane t h at len source k q l e = e ∙ serves s b plane t h _ (both-same (there s b plane t h at len l) (eq-eqb source _ (q ∙ h .plane-len)))
+
+-- a source beside a work plane
+pub source-same : (s : Still) (b : Block) (t : Tables) (work at len source r : ℕ) → r ≡ earlyNo s b (fits s b t work at len && whole s source) → r ≡ 0 → source ≡ work
+source-same s b t work at len source r e z =
+    let q = both-true (fits s b t work at len) (whole s source) (early-passed s b (fits s b t work at len && whole s source) (sym e ∙ z) .fits) in
+    eqb-true source _ (q .1) ∙ sym (eqb-true work _ (parts s b t work at len (q .0) .0))
+
+pub stored-length : (s : Still) (source : List ℕ) (b : Block) (at : ℕ) (work : List ℕ) (v : List ℤ) → length (stored s source b at work v) ≡ length v
+unfolding stored
+stored-length s source b at work v = length-paint _ _ _ _ (b .side) v
+
+-- walk: the source less the prediction, and the sample that it gives back
+abbrev pub lessAt : List ℕ → List ℕ → ℕ → ℕ → ℤ
+lessAt source pred i j = pos (getD source i 0) -ℤ pos (getD pred j 0)
+
+abbrev pub backAt : ℕ → List ℕ → List ℕ → ℕ → ℕ → ℕ
+backAt largest source pred i j = clipTo largest (pos (getD pred j 0) +ℤ lessAt source pred i j)
+
+-- a block of the walk
+module _ (s : Still) (b : Block) (at largest base : ℕ) (source work work′ pred : List ℕ) (v v′ : List ℤ)
+    (most : largest ≡ 2 ^ s .bits - 1) (first : base ≡ b .row * s .frame .width + b .col) (holds : Predicted s b work pred) (room : at + b .side * b .side ≤ length v)
+    (is-resid : v′ ≡ paint at (b .side) (b .side) (λ (r c : ℕ). lessAt source pred (base + r * s .frame .width + c) (r * b .side + c)) (b .side) v)
+    (is-work : work′ ≡ paint base (s .frame .width) (b .side) (λ (r c : ℕ). backAt largest source pred (base + r * s .frame .width + c) (r * b .side + c)) (b .side) work)
+  where
+    stored-is : v′ ≡ stored s source b at work v
+    unfolding stored
+    stored-is = is-resid ∙ paint-same _ _ _ _ _ (b .side) v (λ r c l m. ap₂ (λ (i p : ℕ). pos (getD source i 0) -ℤ pos p) (omega (arith, first)) (holds r c l m))
+
+    read-back : (r c : ℕ) → r < b .side → c < b .side → getD v′ (at + r * b .side + c) (pos 0) ≡ lessAt source pred (base + r * s .frame .width + c) (r * b .side + c)
+    read-back r c l m =
+        let k : (r + 1) * b .side ≤ b .side * b .side = mul-le-mul-right (b .side) (omega arith) in
+        ap (λ (x : List ℤ). getD x (at + r * b .side + c) (pos 0)) is-resid ∙ paint-in at (b .side) (b .side) _ (b .side) v r c (pos 0) (omega arith) l m (omega (arith, room, k))
+
+    back-is : work′ ≡ rebuilt s b at v′ work
+    unfolding rebuilt
+    back-is =
+        is-work
+        ∙ ap (λ (u : ℕ). paint u (s .frame .width) (b .side) (λ (r c : ℕ). backAt largest source pred (base + r * s .frame .width + c) (r * b .side + c)) (b .side) work) first
+        ∙ paint-same _ _ _ _ _ (b .side) work
+        (λ r c l m.
+        let z = lessAt source pred (base + r * s .frame .width + c) (r * b .side + c) in
+        restored-at (largestOf s) _ _ z (getD v′ (at + r * b .side + c) (pos 0)) (ap (λ (k : ℕ). clipTo k (pos (getD pred (r * b .side + c) 0) +ℤ z)) most) (holds r c l m) (sym (read-back r c l m)))
+
+    pub walked-is : _≡_ {A = World} (record { work = work′; residuals = v′ }) (walked s source b at (record { work = work; residuals = v }))
+    unfolding walked
+    walked-is = ap₂ (λ (x : List ℕ) (y : List ℤ). record { work = x; residuals = y }) (back-is ∙ ap (λ (y : List ℤ). rebuilt s b at y work) stored-is) stored-is
