@@ -1,4 +1,3 @@
--- Entries: what a prediction on bytes gives back and writes. Words: samples in pairs. Checks: its numbers, and the block that was stored.
+-- Entries: what angular prediction and a chroma block on bytes give back and write. Checks: which block a mode asks for.
 pub mod Entries
-pub mod Words
 pub mod Checks

@@ -11,7 +11,7 @@ use Rattle.rows.specs.declared.Rows.{Rows}
 use Rattle.refs.specs.declared.LumaRefGeometry.{LumaRefGeometry}
 use Rattle.refs.specs.declared.ChromaRefGeometry.{ChromaRefGeometry}
 use Rattle.refs.specs.Door.{lumaLength, lumaNumber, lumaRows, chromaLength, chromaNumber, chromaRows}
-use Rattle.byte_predict.specs.Entries.{Written, entry}
+use Rattle.byte_entry.specs.Entries.{Written, entry}
 
 -- byte j of a list of samples, two bytes each
 abbrev pub sampleByte : List ℕ → ℕ → ℕ

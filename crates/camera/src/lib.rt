@@ -6,7 +6,9 @@ ghost use lib.ListN.{length, set};
 ghost use Rattle.laws.specs.Fill.{run};
 ghost use Rattle.bytes.specs.Bytes.{byte1};
 ghost use Rattle.byte_replay.specs.Door.{replayed};
-ghost use Rattle.byte_predict.specs.Entries.{wrote, planarEntry, dcEntry, angularEntry, chromaBlockEntry};
+ghost use Rattle.byte_entry.specs.Entries.{wrote};
+ghost use Rattle.byte_flat.specs.Entries.{planarEntry, dcEntry};
+ghost use Rattle.byte_predict.specs.Entries.{angularEntry, chromaBlockEntry};
 ghost use Rattle.camera.specs.Entries.{sampleByte, rowsAt, lumaEntry, chromaEntry};
 ghost use Rattle.camera.specs.Checks.{roomNo};
 use fmt::ChromaCol;
@@ -149,7 +151,7 @@ pub extern "C" fn salvrunde_chroma_refs(
 pub extern "C" fn salvrunde_planar(n: u32, above: &[u8], left: &[u8], out: &mut [u8]) -> u32
     ensures { λ r. ⌜ wrote r (now (out .exit)) ≡ planarEntry n (now (above .entry)) (now (left .entry)) (now (out .entry)) ⌝ }
 {
-    byte_predict::planar(n, above, left, out)
+    byte_flat::planar(n, above, left, out)
 }
 
 // The DC block; an edge flag that is not 0 asks for filtered edges. Numbers 2, 5.
@@ -157,7 +159,7 @@ pub extern "C" fn salvrunde_planar(n: u32, above: &[u8], left: &[u8], out: &mut 
 pub extern "C" fn salvrunde_dc(n: u32, edge: u32, above: &[u8], left: &[u8], out: &mut [u8]) -> u32
     ensures { λ r. ⌜ wrote r (now (out .exit)) ≡ dcEntry n edge (now (above .entry)) (now (left .entry)) (now (out .entry)) ⌝ }
 {
-    byte_predict::dc(n, edge, above, left, out)
+    byte_flat::dc(n, edge, above, left, out)
 }
 
 // The block of an angular mode, 2 to 34. Numbers 1, 2, 3, 5.

@@ -3,8 +3,13 @@ use Prim.Native.Nat.{ℕ, _+_, _-_, _*_, _/_, _^_, _≤_, _<_}
 use mathlib.Core.Path.{_≡_, refl, ap, subst}
 use native.Mathlib.Numerals.{add-one}
 use native.Mathlib.Omega.{arith}
+use mathlib.Core.Bool.{cond, _&&_}
+use mathlib.Core.List.{List}
+use lib.Dec.{leb}
+use lib.ListN.{length}
+use Rattle.domain.specs.Domain.{sizeOk}
 use Rattle.domain.specs.Facts.{Size, at-size}
-use Rattle.h265.specs.Notation.{Neighbours, log2, halvings}
+use Rattle.h265.specs.Notation.{Neighbours, fromRows, log2, halvings}
 use Rattle.h265.specs.Planar.{planar}
 use Rattle.h265.specs.Dc.{sum, dcVal}
 use Rattle.flat.specs.Flat.{planarMix}
@@ -41,3 +46,7 @@ total-done nb {i} {k} {s} p q t = subst (λ (m : ℕ). Total nb m s) (let e : i 
 pub dc-mean : (n : ℕ) → Size n → (nb : Neighbours) (s : ℕ) → s ≡ sum (nb .above) n + sum (nb .left) n → (s + n) / (2 * n) ≡ dcVal n nb
 unfolding dcVal
 dc-mean n s nb all e = rw (e, halves n s)
+
+-- the DC value of two lists, where n is a side and each has n entries
+unfoldable pub valueOf : ℕ → List ℕ → List ℕ → ℕ
+valueOf n above left = cond (sizeOk n) (cond (leb n (length above) && leb n (length left)) (dcVal n (fromRows 0 above left)) 0) 0

@@ -18,7 +18,7 @@ use denote.Triple.Entry.{Args, Res}
 use Rattle.laws.specs.Choose.{served}
 use Rattle.coded.specs.Block.{World}
 use Rattle.byte_replay.specs.Door.{After}
-use Rattle.byte_predict.specs.Entries.{Written, wrote}
+use Rattle.byte_entry.specs.Entries.{Written, wrote}
 use Rattle.bytes.proofs.sample.Reads as bytes-sample
 use Rattle.bytes.proofs.whole_in.Reads as bytes-whole-in
 use Rattle.bytes.proofs.residual.Reads as bytes-residual
@@ -126,7 +126,9 @@ use Rattle.walk_probes.proofs.salvrunde_probe_check_plan.Reads as walk-probes-s
 use Rattle.flat.proofs.predict_planar_into.Reads as flat-predict-planar-into
 use Rattle.flat.proofs.predict_dc_into.Reads as flat-predict-dc-into
 use Rattle.flat.proofs.planar_2n.Reads as flat-planar-2n
-use Rattle.flat.proofs.dc_2n.Reads as flat-dc-2n
+use Rattle.flat.proofs.dc_value.Reads as flat-dc-value
+use Rattle.flat.proofs.corner.Reads as flat-corner
+use Rattle.flat.proofs.edge_line.Reads as flat-edge-line
 use Rattle.angular.proofs.predict_angular_slices.Reads as angular-predict-angular-slices
 use Rattle.angular.proofs.angular_2n.Reads as angular-angular-2n
 use Rattle.predict.proofs.predict_chroma_tb_slices.Reads as predict-predict-chroma-tb-slices
@@ -154,8 +156,14 @@ use Rattle.walk_probes.proofs.salvrunde_probe_walk.Reads as walk-probes-salvrun
 use Rattle.walk_probes.proofs.salvrunde_probe_replay.Reads as walk-probes-salvrunde-probe-replay
 use Rattle.walk_probes.proofs.salvrunde_probe_walk_records as walk-probes-salvrunde-probe-walk-records
 use Rattle.walk_probes.proofs.salvrunde_probe_replay_records as walk-probes-salvrunde-probe-replay-records
-use Rattle.byte_predict.proofs.planar.Reads as byte-predict-planar
-use Rattle.byte_predict.proofs.dc.Reads as byte-predict-dc
+use Rattle.pairs.proofs.read.Reads as pairs-read
+use Rattle.pairs.proofs.store.Reads as pairs-store
+use Rattle.pairs.proofs.flood.Reads as pairs-flood
+use Rattle.pairs.proofs.column.Reads as pairs-column
+use Rattle.byte_entry.proofs.flat_no.Reads as byte-entry-flat-no
+use Rattle.byte_entry.proofs.mode_no.Reads as byte-entry-mode-no
+use Rattle.byte_flat.proofs.planar.Reads as byte-flat-planar
+use Rattle.byte_flat.proofs.dc.Reads as byte-flat-dc
 use Rattle.byte_predict.proofs.angular.Reads as byte-predict-angular
 use Rattle.byte_predict.proofs.chroma.Reads as byte-predict-chroma
 use Rattle.camera.proofs.salvrunde_luma_refs.Reads as camera-salvrunde-luma-refs
@@ -524,8 +532,14 @@ flat-predict-dc-into-once κs a x y s t p q = by-number _ _ (p .0) (q .0) (p .1)
 flat-planar-2n-once : (κs : Lfts 3) → OnceLeft (λ s. now (s .1 .1 .1 .0)) (flat-planar-2n.Post κs)
 flat-planar-2n-once κs a x y s t p q = by-number _ _ (p .0) (q .0) (p .1) (q .1)
 
-flat-dc-2n-once : (κs : Lfts 3) → OnceLeft (λ s. now (s .1 .1 .1 .1 .0)) (flat-dc-2n.Post κs)
-flat-dc-2n-once κs a x y s t p q = by-number _ _ (p .0) (q .0) (p .1) (q .1)
+flat-dc-value-once : (κs : Lfts 2) → Once (flat-dc-value.Post κs)
+flat-dc-value-once κs a x y s t p q = p ∙ sym q
+
+flat-corner-once : Once (flat-corner.Post tt)
+flat-corner-once a x y s t p q = p ∙ sym q
+
+flat-edge-line-once : (κs : Lfts 2) → OnceLeft (λ s. now (s .1 .1 .1 .0)) (flat-edge-line.Post κs)
+flat-edge-line-once κs a x y s t p q = (refl, p ∙ sym q)
 
 -- angular
 angular-predict-angular-slices-once : (κs : Lfts 6) → OnceLeft (λ s. now (s .1 .1 .1 .1 .1 .1 .1 .0)) (angular-predict-angular-slices.Post κs)
@@ -606,16 +620,37 @@ by-after p q = (ap (λ (v : After). v .number) (p ∙ sym q), ap (λ (v : After)
 byte-replay-replay-once : (κs : Lfts 4) → OnceLeft {L = List ℕ × List ℕ} (λ s. (now (s .1 .1 .1 .1 .0), now (s .1 .1 .1 .1 .1 .0))) (byte-replay-replay.Post κs)
 byte-replay-replay-once κs a x y s t p q = by-after p q
 
--- byte_predict
+-- pairs
+pairs-read-once : (κs : Lfts 2) → OnceLeft (λ s. now (s .1 .1 .0)) (pairs-read.Post κs)
+pairs-read-once κs a x y s t p q = (refl, p ∙ sym q)
+
+pairs-store-once : (κs : Lfts 2) → OnceLeft (λ s. now (s .1 .1 .0)) (pairs-store.Post κs)
+pairs-store-once κs a x y s t p q = (refl, p ∙ sym q)
+
+pairs-flood-once : (κs : Lfts 1) → OnceLeft (λ s. now (s .1 .1 .0)) (pairs-flood.Post κs)
+pairs-flood-once κs a x y s t p q = (refl, p ∙ sym q)
+
+pairs-column-once : (κs : Lfts 2) → OnceLeft (λ s. now (s .1 .1 .0)) (pairs-column.Post κs)
+pairs-column-once κs a x y s t p q = (refl, p ∙ sym q)
+
+-- byte_entry
+byte-entry-flat-no-once : Once (byte-entry-flat-no.Post tt)
+byte-entry-flat-no-once a x y s t p q = p ∙ sym q
+
+byte-entry-mode-no-once : Once (byte-entry-mode-no.Post tt)
+byte-entry-mode-no-once a x y s t p q = p ∙ sym q
+
+-- byte_flat
 by-written : {x y : ℕ} {l m : List ℕ} {w : Written} → wrote x l ≡ w → wrote y m ≡ w → (x ≡ y) × (l ≡ m)
 by-written p q = (ap (λ (v : Written). v .number) (p ∙ sym q), ap (λ (v : Written). v .bytes) (p ∙ sym q))
 
-byte-predict-planar-once : (κs : Lfts 3) → OnceLeft (λ s. now (s .1 .1 .1 .0)) (byte-predict-planar.Post κs)
-byte-predict-planar-once κs a x y s t p q = by-written p q
+byte-flat-planar-once : (κs : Lfts 3) → OnceLeft (λ s. now (s .1 .1 .1 .0)) (byte-flat-planar.Post κs)
+byte-flat-planar-once κs a x y s t p q = by-written p q
 
-byte-predict-dc-once : (κs : Lfts 3) → OnceLeft (λ s. now (s .1 .1 .1 .1 .0)) (byte-predict-dc.Post κs)
-byte-predict-dc-once κs a x y s t p q = by-written p q
+byte-flat-dc-once : (κs : Lfts 3) → OnceLeft (λ s. now (s .1 .1 .1 .1 .0)) (byte-flat-dc.Post κs)
+byte-flat-dc-once κs a x y s t p q = by-written p q
 
+-- byte_predict
 byte-predict-angular-once : (κs : Lfts 3) → OnceLeft (λ s. now (s .1 .1 .1 .1 .1 .1 .1 .0)) (byte-predict-angular.Post κs)
 byte-predict-angular-once κs a x y s t p q = by-written p q
 

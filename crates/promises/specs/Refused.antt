@@ -37,7 +37,7 @@ use Rattle.coded.specs.Block.{World}
 use Rattle.still.specs.Checks.{Tables}
 use Rattle.walk.specs.Door.{steppedBy, replayVerdict, replayAfter, walkVerdict, walkAfter}
 use Rattle.byte_replay.specs.Door.{Lent, byteVerdict, planeAfter, answered, resultAfter}
-use Rattle.byte_predict.specs.Entries.{entry}
+use Rattle.byte_entry.specs.Entries.{entry}
 use Rattle.promises.specs.Exact.{number-in}
 
 -- what a call with a number gives, or leaves behind

@@ -20,7 +20,9 @@ use Rattle.plan.specs.Records.{recordsOf}
 use Rattle.still.specs.declared.Still.{Still}
 use Rattle.walk.specs.declared.Progress.{Progress}
 use Rattle.byte_replay.specs.Door.{Lent, byteVerdict, byteStep}
-use Rattle.byte_predict.specs.Entries.{entry, room, flatEntryNo, planarEntry, dcEntry, modeEntryNo, angularEntry, chromaBlockEntry}
+use Rattle.byte_entry.specs.Entries.{entry, room, flatEntryNo, modeEntryNo}
+use Rattle.byte_flat.specs.Entries.{planarEntry, dcEntry}
+use Rattle.byte_predict.specs.Entries.{angularEntry, chromaBlockEntry}
 use Rattle.camera.specs.Entries.{lumaEntry, chromaEntry}
 use Rattle.promises.specs.Exact.{_when_, _or_, Exact, ExactFirst, Tells, exact-none, exact-row, first-row, all-of, at-most, same}
 use Rattle.promises.specs.Table.{BadPicture, depth, size, picture, lumaTable, luma-number, chromaTable, chroma-number, angularTable, predictTable}

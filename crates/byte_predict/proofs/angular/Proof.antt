@@ -4,7 +4,7 @@ use native.Mathlib.Omega.{arith}
 use lib.Dec.{leb}
 use Rattle.laws.specs.Choose.{both-true}
 use Rattle.byte_predict.specs.Entries.{angularMode, angularEntry}
-use Rattle.byte_predict.specs.Checks.{mode-fit, done, refused, narrow}
+use Rattle.byte_entry.specs.Checks.{mode-fit, done, refused, narrow}
 use borrow.Author.Needs.{needs}
 use Rattle.byte_predict.proofs.angular.Statement.{statement}
 use Rattle.byte_predict.proofs.angular.Tie as tie

@@ -2,7 +2,7 @@
 use mathlib.Core.Path.{_≡_}
 use Rattle.domain.specs.Facts.{size-of}
 use Rattle.flat.specs.Flat.{last-size}
-use Rattle.byte_predict.specs.Checks.{as-found}
+use Rattle.byte_entry.specs.Checks.{as-found}
 use borrow.Author.Needs.{needs}
 use Rattle.byte_predict.proofs.angular_block.Statement.{statement}
 use Rattle.byte_predict.proofs.angular_block.Tie as tie

@@ -3,7 +3,7 @@ use mathlib.Core.Path.{sym, _∙_}
 use native.Mathlib.Omega.{arith}
 use Rattle.domain.specs.Domain.{modeOk}
 use Rattle.byte_predict.specs.Entries.{chromaBlockEntry}
-use Rattle.byte_predict.specs.Checks.{mode-fit, done, refused, narrow}
+use Rattle.byte_entry.specs.Checks.{mode-fit, done, refused, narrow}
 use borrow.Author.Needs.{needs}
 use Rattle.byte_predict.proofs.chroma.Statement.{statement}
 use Rattle.byte_predict.proofs.chroma.Tie as tie

@@ -1,16 +1,16 @@
 -- Each kind of mode. Assumes nothing.
 use mathlib.Core.Path.{_∙_}
 use native.Mathlib.Omega.{arith}
-use Rattle.byte_predict.specs.Checks.{chroma-planar, chroma-dc, chroma-angular, upper}
+use Rattle.byte_predict.specs.Checks.{planar-there, dc-there, chroma-planar, chroma-dc, chroma-angular, upper}
 use borrow.Author.Needs.{needs}
 use Rattle.byte_predict.proofs.chroma_block.Statement.{statement}
 use Rattle.byte_predict.proofs.chroma_block.Tie as tie
 
-planar-block-requires : tie.Need-planar-block-requires
-planar-block-requires c κs = search needs
+planar-requires : tie.Need-planar-requires
+planar-requires c κs = search needs
 
-dc-plain-requires : tie.Need-dc-plain-requires
-dc-plain-requires c κs = search needs
+dc-requires : tie.Need-dc-requires
+dc-requires c κs = search needs
 
 angular-block-requires : tie.Need-angular-block-requires
 angular-block-requires c κs = let p = c .before .before .before .before .before .pre in let m = c .before .match .rest in (p .0, p .1, upper _ (m .0 .1) (m .1) (p .2))
@@ -19,13 +19,13 @@ same-length : tie.Need-same-length
 same-length c = search needs
 
 returns : tie.Need-returns
-returns c = let a = c .before .before .before .before .before .before .before .before .args in c .before .before .planar-block .ensures ∙ chroma-planar (a .bits) (a .n) (a .mode) (a .corner) (a .above .now) (a .left .now) (a .out .now) (c .before .before .before .before .match .keys1)
+returns c = let a = c .before .before .before .before .before .before .before .before .args in planar-there (a .n) (a .above .now) (a .left .now) (a .out .now) (c .before .before .before .before .before .before .before .before .pre .0) (c .before .before .planar .ensures) ∙ chroma-planar (a .bits) (a .n) (a .mode) (a .corner) (a .above .now) (a .left .now) (a .out .now) (c .before .before .before .before .match .keys1)
 
 same-length-2 : tie.Need-same-length-2
 same-length-2 c = search needs
 
 returns-2 : tie.Need-returns-2
-returns-2 c = let a = c .before .before .before .before .before .before .before .before .args in c .before .before .dc-plain .ensures ∙ chroma-dc (a .bits) (a .n) (a .mode) (a .corner) (a .above .now) (a .left .now) (a .out .now) (c .before .before .before .before .match .keys2)
+returns-2 c = let a = c .before .before .before .before .before .before .before .before .args in dc-there (a .n) (a .above .now) (a .left .now) (a .out .now) (c .before .before .before .before .before .before .before .before .pre .0) (c .before .before .dc .ensures) ∙ chroma-dc (a .bits) (a .n) (a .mode) (a .corner) (a .above .now) (a .left .now) (a .out .now) (c .before .before .before .before .match .keys2)
 
 same-length-3 : tie.Need-same-length-3
 same-length-3 c = search needs
@@ -37,8 +37,8 @@ pub chroma-block-spec : {M : Type 1} → statement M
 chroma-block-spec =
     tie.close
     (tie.spec
-    planar-block-requires
-    dc-plain-requires
+    planar-requires
+    dc-requires
     angular-block-requires
     same-length
     returns

@@ -5,7 +5,7 @@ use native.Mathlib.Omega.{arith}
 use lib.ListN.{length, getD}
 use Rattle.rows.specs.declared.Rows.{Rows}
 use Rattle.camera.specs.Entries.{rowsAt, chromaEntry}
-use Rattle.byte_predict.specs.Checks.{done, refused}
+use Rattle.byte_entry.specs.Checks.{done, refused}
 use Rattle.camera.specs.Checks.{chroma-entry-no, chroma-entry-rows}
 use borrow.Author.Needs.{needs}
 use Rattle.camera.proofs.salvrunde_chroma_refs.Statement.{statement}

@@ -1,0 +1,3 @@
+-- Entries: what an entry on bytes gives back and writes. Checks: its numbers, and what one that is not refused rests on.
+pub mod Entries
+pub mod Checks

@@ -1,0 +1,4 @@
+-- Entries: what planar and DC prediction on bytes give back and write. Blocks: a block that was predicted and stored. Dc: the DC block as its stores.
+pub mod Entries
+pub mod Blocks
+pub mod Dc

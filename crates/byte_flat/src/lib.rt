@@ -1,0 +1,130 @@
+// Planar and DC prediction from bytes to bytes, samples of two bytes, the lower first. The side is a constant of each arm, so that the lengths
+// of all loops are, too. Rests on the contracts of crates taps, flat and pairs, and on the number of crate byte_entry.
+ghost use mathlib.Core.Path.{_≡_};
+ghost use mathlib.Core.Bool.{true};
+ghost use Prim.Native.Nat.{ℕ, _*_, _≤_};
+ghost use lib.Dec.{ltb};
+ghost use lib.ListN.{length};
+ghost use Rattle.domain.specs.Facts.{Size};
+ghost use Rattle.h265.specs.Notation.{fromRows};
+ghost use Rattle.h265.specs.Dc.{dcVal, dc};
+ghost use Rattle.byte_entry.specs.Entries.{wrote, blockIn};
+ghost use Rattle.byte_entry.specs.Checks.{Fit};
+ghost use Rattle.byte_flat.specs.Entries.{planarIn, planarEntry, dcIn, dcEntry};
+
+// Reads both rows, predicts into a buffer of samples, and stores the block. Where n is a constant, the buffers are as long as n asks.
+fn planar_by(
+    above: &[u8],
+    left: &[u8],
+    n: usize,
+    a: &mut [u16],
+    l: &mut [u16],
+    pred: &mut [u16],
+    out: &mut [u8],
+)
+    requires { ⌜ Fit n (length (now above)) (length (now left)) (length (now out)) × (2 * n ≤ length (now a)) × (2 * n ≤ length (now l)) × (n * n ≤ length (now pred)) ⌝ }
+    ensures { λ _. ⌜ now (out .exit) ≡ blockIn (planarIn n (now (above .entry)) (now (left .entry))) n (now (out .entry)) ⌝ }
+{
+    pairs::read(above, n, &mut *a);
+    pairs::read(left, n, &mut *l);
+    flat::planar_2n(&*a, &*l, n, &mut *pred);
+    pairs::store(&*pred, n * n / 2, &mut *out);
+}
+
+fn planar_block(n: usize, above: &[u8], left: &[u8], out: &mut [u8])
+    requires { ⌜ Fit n (length (now above)) (length (now left)) (length (now out)) ⌝ }
+    ensures { λ _. ⌜ now (out .exit) ≡ blockIn (planarIn n (now (above .entry)) (now (left .entry))) n (now (out .entry)) ⌝ }
+{
+    match n {
+        4 => {
+            let mut a = [0u16; 8];
+            let mut l = [0u16; 8];
+            let mut pred = [0u16; 16];
+            planar_by(above, left, 4, &mut a, &mut l, &mut pred, &mut *out);
+        }
+        8 => {
+            let mut a = [0u16; 16];
+            let mut l = [0u16; 16];
+            let mut pred = [0u16; 64];
+            planar_by(above, left, 8, &mut a, &mut l, &mut pred, &mut *out);
+        }
+        16 => {
+            let mut a = [0u16; 32];
+            let mut l = [0u16; 32];
+            let mut pred = [0u16; 256];
+            planar_by(above, left, 16, &mut a, &mut l, &mut pred, &mut *out);
+        }
+        _ => {
+            let mut a = [0u16; 64];
+            let mut l = [0u16; 64];
+            let mut pred = [0u16; 1024];
+            planar_by(above, left, 32, &mut a, &mut l, &mut pred, &mut *out);
+        }
+    }
+}
+
+// The planar block of side n, in rows, in the first 2 · n · n bytes of `out`; each row has at least 130 bytes. Numbers 2, 5.
+pub fn planar(n: u32, above: &[u8], left: &[u8], out: &mut [u8]) -> u32
+    ensures { λ r. ⌜ wrote r (now (out .exit)) ≡ planarEntry n (now (above .entry)) (now (left .entry)) (now (out .entry)) ⌝ }
+{
+    let no = byte_entry::flat_no(n as usize, above.len(), left.len(), out.len());
+    if no == 0 {
+        planar_block(n as usize, above, left, &mut *out);
+    }
+    no
+}
+
+// The value everywhere, then the first row, then the first column with the corner.
+fn dc_edged(a: &[u16], l: &[u16], v: u16, n: usize, out: &mut [u8])
+    requires { ⌜ Size n × (ltb n 32 ≡ true) × (v ≡ dcVal n (fromRows 0 (now a) (now l))) × (n ≤ length (now a)) × (n ≤ length (now l)) × (2 * (n * n) ≤ length (now out)) ⌝ }
+    ensures { λ _. ⌜ now (out .exit) ≡ blockIn (λ (y x : ℕ). dc true n (fromRows 0 (now (a .entry)) (now (l .entry))) x y) n (now (out .entry)) ⌝ }
+{
+    pairs::flood(v, n * n / 2, &mut *out);
+    let mut row = [0u16; 32];
+    flat::edge_line(a, v, n, &mut row);
+    pairs::store(&row, n / 2, &mut *out);
+    let mut column = [0u16; 32];
+    flat::edge_line(l, v, n, &mut column);
+    column[0] = taps::corner(l[0], a[0], v);
+    pairs::column(&column, n, &mut *out);
+}
+
+// DC reads n samples of each row. Its value goes to the bytes straight away.
+fn dc_by(above: &[u8], left: &[u8], n: usize, edge: bool, out: &mut [u8])
+    requires { ⌜ Fit n (length (now above)) (length (now left)) (length (now out)) ⌝ }
+    ensures { λ _. ⌜ now (out .exit) ≡ blockIn (dcIn edge n (now (above .entry)) (now (left .entry))) n (now (out .entry)) ⌝ }
+{
+    let mut a = [0u16; 32];
+    let mut l = [0u16; 32];
+    pairs::read(above, n / 2, &mut a);
+    pairs::read(left, n / 2, &mut l);
+    let v = flat::dc_value(&a, &l, n);
+    if edge & (n < 32) {
+        dc_edged(&a, &l, v, n, &mut *out);
+        return;
+    }
+    pairs::flood(v, n * n / 2, &mut *out);
+}
+
+fn dc_block(n: usize, edge: bool, above: &[u8], left: &[u8], out: &mut [u8])
+    requires { ⌜ Fit n (length (now above)) (length (now left)) (length (now out)) ⌝ }
+    ensures { λ _. ⌜ now (out .exit) ≡ blockIn (dcIn edge n (now (above .entry)) (now (left .entry))) n (now (out .entry)) ⌝ }
+{
+    match n {
+        4 => dc_by(above, left, 4, edge, &mut *out),
+        8 => dc_by(above, left, 8, edge, &mut *out),
+        16 => dc_by(above, left, 16, edge, &mut *out),
+        _ => dc_by(above, left, 32, edge, &mut *out),
+    }
+}
+
+// The DC block; an edge flag that is not 0 asks for filtered edges. Numbers 2, 5.
+pub fn dc(n: u32, edge: u32, above: &[u8], left: &[u8], out: &mut [u8]) -> u32
+    ensures { λ r. ⌜ wrote r (now (out .exit)) ≡ dcEntry n edge (now (above .entry)) (now (left .entry)) (now (out .entry)) ⌝ }
+{
+    let no = byte_entry::flat_no(n as usize, above.len(), left.len(), out.len());
+    if no == 0 {
+        dc_block(n as usize, edge != 0, above, left, &mut *out);
+    }
+    no
+}

@@ -1,0 +1,47 @@
+-- Bytes that stand for a list of samples, and what stores into them make of it; and the works that are done, where their lists are long enough. Assumes nothing.
+use Prim.Native.Nat.{ℕ, zero, suc, _+_, _*_, _/_, _%_, _^_, _≤_, _<_}
+use mathlib.Core.Path.{_≡_, refl, sym, ap, _∙_}
+use mathlib.Core.Bool.{Bool, true, _&&_}
+use mathlib.Core.List.{List}
+use native.Mathlib.Numerals.{add-one}
+use native.Mathlib.Omega.{arith}
+use lib.Dec.{leb}
+use lib.ListN.{length, getD, set}
+use borrow.Author.Tests.{le-leb}
+use Rattle.laws.specs.Fill.{fill}
+use Rattle.laws.specs.Bytes.{byteOf, byte-at}
+use Rattle.bytes.specs.Bytes.{byte1, samplesOf}
+use Rattle.pairs.specs.Into.{within, readInto, storeInto, floodInto, columnInto, put, apartIn}
+
+-- the column, as a loop makes it
+pub apart-none : (h : ℕ → ℕ) (n : ℕ) (d : List ℕ) → d ≡ apartIn h n 0 d
+unfolding apartIn
+apart-none h n d = refl
+
+pub apart-more : (h : ℕ → ℕ) (n : ℕ) (d : List ℕ) {i : ℕ} {e : List ℕ} {v : ℕ} → e ≡ apartIn h n i d → v ≡ h i → put (i * n) v e ≡ apartIn h n (i + 1) d
+unfolding apartIn
+apart-more h n d {i} {e} {v} p q = ap (λ (l : List ℕ). put (i * n) v l) p ∙ ap (λ (w : ℕ). put (i * n) w (apartIn h n i d)) q ∙ ap (λ (m : ℕ). apartIn h n m d) (let w : suc i ≡ i + 1 = omega arith in w)
+
+pub apart-done : (h : ℕ → ℕ) (n : ℕ) (d : List ℕ) {i k : ℕ} {e : List ℕ} → i ≤ k → k ≤ i → e ≡ apartIn h n i d → e ≡ apartIn h n k d
+apart-done h n d {i} {k} p q r = r ∙ ap (λ (m : ℕ). apartIn h n m d) (omega arith)
+
+-- where all is long enough
+enough : (m count : ℕ) (long : Bool) (work kept : List ℕ) → count ≤ m → long ≡ true → within m count long work kept ≡ work
+enough m count long work kept h e = rw (le-leb count m h, e)
+
+pub read-done : (count : ℕ) (row d : List ℕ) → count ≤ 32 → 4 * count ≤ length row → 2 * count ≤ length d → readInto count row d ≡ fill (λ i. getD (samplesOf row) i 0) (2 * count) d
+unfolding readInto
+read-done count row d h p q = enough 32 count (leb (4 * count) (length row) && leb (2 * count) (length d)) _ _ h (rw (le-leb (4 * count) (length row) p, le-leb (2 * count) (length d) q))
+
+pub store-done : (count : ℕ) (samples d : List ℕ) → count ≤ 512 → 2 * count ≤ length samples → 4 * count ≤ length d
+    → storeInto count samples d ≡ fill (byteOf 2 (λ i. getD samples i 0)) (4 * count) d
+unfolding storeInto
+store-done count samples d h p q = enough 512 count (leb (2 * count) (length samples) && leb (4 * count) (length d)) _ _ h (rw (le-leb (2 * count) (length samples) p, le-leb (4 * count) (length d) q))
+
+pub flood-done : (v count : ℕ) (d : List ℕ) → count ≤ 512 → 4 * count ≤ length d → floodInto v count d ≡ fill (byteOf 2 (λ i. v)) (4 * count) d
+unfolding floodInto
+flood-done v count d h p = enough 512 count _ _ _ h (le-leb (4 * count) (length d) p)
+
+pub column-done : (n : ℕ) (samples d : List ℕ) → n ≤ 32 → n ≤ length samples → 2 * (n * n) ≤ length d → columnInto n samples d ≡ apartIn (λ i. getD samples i 0) n n d
+unfolding columnInto
+column-done n samples d h p q = enough 32 n (leb n (length samples) && leb (2 * (n * n)) (length d)) _ _ h (rw (le-leb n (length samples) p, le-leb (2 * (n * n)) (length d) q))
