@@ -28,7 +28,8 @@ use Rattle.flat.specs.Edge.{lineInto}
 use Rattle.pairs.specs.Into.{readInto, storeInto, floodInto, columnInto, put, apartIn}
 use Rattle.pairs.specs.Laws.{read-done, store-done, flood-done, column-done}
 use Rattle.byte_entry.specs.Entries.{rowOf, blockIn}
-use Rattle.byte_entry.specs.Checks.{halves, square}
+use Rattle.numbers.specs.Numbers.{square}
+use Rattle.byte_entry.specs.Checks.{halves}
 use Rattle.byte_flat.specs.Entries.{dcIn}
 use Rattle.byte_flat.specs.Blocks.{block-same, row-at}
 

@@ -2,7 +2,7 @@
 use native.Mathlib.Omega.{arith}
 use lib.ListN.{replicate}
 use Rattle.domain.specs.Facts.{size-small}
-use Rattle.byte_entry.specs.Checks.{square}
+use Rattle.numbers.specs.Numbers.{square}
 use Rattle.byte_flat.specs.Dc.{edged}
 use borrow.Author.Needs.{needs}
 use Rattle.byte_flat.proofs.dc_edged.Statement.{statement}
