@@ -19,7 +19,8 @@ use Rattle.plan.specs.Plan.{pictureOf}
 use Rattle.plan.specs.Records.{recordsOf}
 use Rattle.still.specs.declared.Still.{Still}
 use Rattle.walk.specs.declared.Progress.{Progress}
-use Rattle.byte_replay.specs.Door.{Lent, byteVerdict, byteStep}
+use Rattle.byte_answer.specs.Door.{Lent, byteVerdict}
+use Rattle.byte_replay.specs.Door.{byteStep}
 use Rattle.byte_predict.specs.Entries.{entry, room, flatEntryNo, planarEntry, dcEntry, modeEntryNo, angularEntry, chromaBlockEntry}
 use Rattle.camera.specs.Entries.{lumaEntry, chromaEntry}
 use Rattle.promises.specs.Exact.{_when_, _or_, Exact, ExactFirst, Tells, exact-none, exact-row, first-row, all-of, at-most, same}
