@@ -1,234 +1,24 @@
 // The replay of a luma still on lent bytes: plane, residuals and plan as the C firmware has them (document 01, 'use from C').
-// It works in place and copies no plane. Rests on the contracts of the byte gather, of the prediction, of a still's checks and of the plan check alone.
+// It works in place and copies no plane. Rests on the contracts of one block's replay on bytes, of a call's verdict and of its answer alone.
 ghost use mathlib.Core.Path.{_≡_};
-ghost use mathlib.Core.Bool.{cond, _&&_};
-ghost use Prim.Native.Nat.{ℕ, _+_, _-_, _*_, _/_, _%_, _≤_, _<_};
+ghost use mathlib.Core.Bool.{cond};
+ghost use Prim.Native.Nat.{_+_, _-_, _*_, _/_, _%_, _≤_};
 ghost use lib.Dec.{leb};
-ghost use lib.ListN.{length, getD, set};
-ghost use lib.IntN.{pos, _+ℤ_};
-ghost use Rattle.laws.specs.Fill.{run};
-ghost use Rattle.laws.specs.Paint.{paint};
+ghost use lib.ListN.{length};
 ghost use Rattle.laws.specs.Chain.{units};
-ghost use Rattle.h265.specs.Notation.{clipTo};
 ghost use Rattle.bytes.specs.Bytes.{samplesOf, residualsOf};
 ghost use Rattle.plan.specs.Records.{recordsOf};
-ghost use Rattle.still.specs.Checks.{every, residualOk};
-ghost use Rattle.rebuild.specs.Block.{rebuilt, replayUnit};
 ghost use Rattle.block.specs.Ready.{Ready};
-ghost use Rattle.rebuild.specs.Ready.{RowIn, RowsIn, Lies, Predicted};
+ghost use Rattle.rebuild.specs.Block.{rebuilt, replayUnit};
+ghost use Rattle.rebuild.specs.Ready.{Lies};
 ghost use Rattle.walk.specs.Door.{doing};
 ghost use Rattle.walk.specs.Ready.{Sound};
-ghost use Rattle.byte_replay.specs.Door.{wholeBy, byteVerdict, answered, replayed};
-ghost use Rattle.byte_replay.specs.Laws.{own, wordAt, byteNo};
-use plan::Verdict;
+ghost use Rattle.byte_replay.specs.Door.{replayed};
+ghost use Rattle.byte_replay.specs.Laws.{own};
 use still::Still;
 use tiling::Block;
+use tiling::Block;
 use walk::Progress;
-
-// Residual i.
-fn residual_at(b: &[u8], i: usize) -> i32
-    requires { ⌜ i < length (residualsOf (now b)) ⌝ }
-    ensures { λ r. ⌜ r ≡ getD (residualsOf (now (b .entry))) i (pos 0) ⌝ }
-{
-    let at = 4 * i;
-    bytes::residual(b[at], b[at + 1], b[at + 2], b[at + 3])
-}
-
-// Stores sample i.
-fn put_sample(b: &mut [u8], i: usize, v: u16)
-    requires { ⌜ (i < length (samplesOf (now b))) × (length (now b) % 2 ≡ 0) ⌝ }
-    ensures { λ _. ⌜ samplesOf (now (b .exit)) ≡ set (samplesOf (now (b .entry))) i v ⌝ }
-{
-    let at = 2 * i;
-    b[at] = bytes::byte_0(v as u32);
-    b[at + 1] = bytes::byte_1(v as u32);
-}
-
-// A row of n samples from base on, its predictions from `from` on, its residuals from `at` on.
-fn rebuild_row(
-    plane: &mut [u8],
-    pred: &[u16],
-    residuals: &[u8],
-    n: usize,
-    base: usize,
-    from: usize,
-    at: usize,
-    largest: u16,
-)
-    requires { ⌜ RowIn (length (samplesOf (now plane))) (length (now pred)) (length (residualsOf (now residuals))) n base from at × (length (now plane) % 2 ≡ 0) ⌝ }
-    ensures { λ _. ⌜ samplesOf (now (plane .exit)) ≡ run (λ (c : ℕ). clipTo largest (pos (getD (now (pred .entry)) (from + c) 0) +ℤ getD (residualsOf (now (residuals .entry))) (at + c) (pos 0))) base n (samplesOf (now (plane .entry))) ⌝ }
-{
-    let mut c = 0;
-    while c < n {
-        let r = residual_at(residuals, at + c);
-        put_sample(plane, base + c, block::restored(pred[from + c], r, largest));
-        c += 1;
-    }
-}
-
-// All rows of a block.
-fn rebuild_rows(
-    plane: &mut [u8],
-    pred: &[u16],
-    residuals: &[u8],
-    n: usize,
-    base: usize,
-    width: usize,
-    at: usize,
-    largest: u16,
-)
-    requires { ⌜ RowsIn (length (samplesOf (now plane))) (length (now pred)) (length (residualsOf (now residuals))) n base width at × (length (now plane) % 2 ≡ 0) ⌝ }
-    ensures { λ _. ⌜ samplesOf (now (plane .exit)) ≡ paint base width n (λ (r c : ℕ). clipTo largest (pos (getD (now (pred .entry)) (r * n + c) 0) +ℤ getD (residualsOf (now (residuals .entry))) (at + r * n + c) (pos 0))) n (samplesOf (now (plane .entry))) ⌝ }
-{
-    let mut r = 0;
-    while r < n {
-        rebuild_row(
-            plane,
-            pred,
-            residuals,
-            n,
-            base + r * width,
-            r * n,
-            at + r * n,
-            largest,
-        );
-        r += 1;
-    }
-}
-
-// Number 8: whether every residual is in range.
-fn residuals_ok(residuals: &[u8]) -> bool
-    ensures { λ b. ⌜ b ≡ every residualOk (residualsOf (now (residuals .entry))) ⌝ }
-{
-    let count = residuals.len() / 4;
-    let mut ok = true;
-    let mut i = 0;
-    while i < count {
-        ok = ok & still::residual_ok(residual_at(residuals, i));
-        i += 1;
-    }
-    ok
-}
-
-// Number 5: whether there are two bytes for each sample and four for each residual.
-fn are_whole(s: Still, plane: usize, residuals: usize) -> bool
-    ensures { λ r. ⌜ r ≡ (wholeBy s 2 plane && wholeBy s 4 residuals) ⌝ }
-{
-    let area = (s.frame.height as usize) * (s.frame.width as usize);
-    let samples = (plane % 2 == 0) & (plane / 2 == area);
-    samples & ((residuals % 4 == 0) & (residuals / 4 == area))
-}
-
-// The number of the checks before the plan's: 1, 4, 5, 8.
-fn early_no(s: Still, plan: &[u8], residuals: &[u8], plane: usize, result: usize) -> u32
-    ensures { λ r. ⌜ r ≡ byteNo s (record { plan = now (plan .entry); residuals = now (residuals .entry); plane = plane; result = result }) ⌝ }
-{
-    let planes = are_whole(s, plane, residuals.len());
-    let no = still::opening_no(s, planes & (plan.len() % 6 == 0) & (result >= 8));
-    if no != 0 {
-        return no;
-    }
-    if residuals_ok(residuals) { 0 } else { 8 }
-}
-
-// The number of the checks before the plan's, then the plan's, then 11.
-fn verdict(
-    p: Progress,
-    s: Still,
-    plan: &[u8],
-    residuals: &[u8],
-    plane: usize,
-    result: usize,
-) -> Verdict
-    ensures { λ v. ⌜ v ≡ byteVerdict s p (record { plan = now (plan .entry); residuals = now (residuals .entry); plane = plane; result = result }) ⌝ }
-{
-    let early = early_no(s, plan, residuals, plane, result);
-    let found = plan::check_plan_bytes(s.frame, plan);
-    still::settled(p.done, plan.len() / 6, found, early)
-}
-
-// Stores a number of four bytes.
-fn put_word(b: &mut [u8], at: usize, v: u32)
-    requires { ⌜ at + 3 < length (now b) ⌝ }
-    ensures { λ _. ⌜ now (b .exit) ≡ wordAt (now (b .entry)) at v ⌝ }
-{
-    b[at] = bytes::byte_0(v);
-    b[at + 1] = bytes::byte_1(v);
-    b[at + 2] = bytes::byte_2(v);
-    b[at + 3] = bytes::byte_3(v);
-}
-
-// Writes the block number and the progress record into a result buffer that has room for them.
-fn answer(result: &mut [u8], block: u32, next: Progress)
-    ensures { λ _. ⌜ now (result .exit) ≡ answered block (next .done) (now (result .entry)) ⌝ }
-{
-    if result.len() >= 8 {
-        put_word(result, 0, block);
-        put_word(result, 4, next.done);
-    }
-}
-
-// A block's prediction from a plane, in rows.
-fn predict_block(
-    s: Still,
-    b: Block,
-    plane: &[u8],
-    pred: &mut [u16],
-    refs: &mut [u16],
-    indices: &mut [u32],
-    fractions: &mut [u32],
-)
-    requires { ⌜ Ready s b (length (samplesOf (now plane))) (record { refs = length (now refs); indices = length (now indices); fractions = length (now fractions) }) × ((length (now plane) % 2 ≡ 0) × (1024 ≤ length (now pred))) ⌝ }
-    ensures { λ _. ⌜ Predicted s b (samplesOf (now (plane .entry))) (now (pred .exit)) ⌝ }
-{
-    let g = refs::get_reference_samples_bytes(plane, block::geometry(s, b));
-    predict::predict_luma_tb_slices(
-        b.mode as u8,
-        g.rows,
-        b.side as usize,
-        s.bits,
-        &mut *pred,
-        &mut *refs,
-        &mut *indices,
-        &mut *fractions,
-    );
-}
-
-// A block of the replay.
-fn rebuild_block(
-    s: Still,
-    b: Block,
-    at: usize,
-    residuals: &[u8],
-    plane: &mut [u8],
-    refs: &mut [u16],
-    indices: &mut [u32],
-    fractions: &mut [u32],
-)
-    requires { ⌜ Ready s b (length (samplesOf (now plane))) (record { refs = length (now refs); indices = length (now indices); fractions = length (now fractions) }) × (Lies b (length (residualsOf (now residuals))) at × (length (now plane) % 2 ≡ 0)) ⌝ }
-    ensures { λ _. ⌜ samplesOf (now (plane .exit)) ≡ rebuilt s b at (residualsOf (now (residuals .entry))) (samplesOf (now (plane .entry))) ⌝ }
-{
-    let mut pred = [0u16; 1024];
-    predict_block(
-        s,
-        b,
-        plane,
-        &mut pred,
-        &mut *refs,
-        &mut *indices,
-        &mut *fractions,
-    );
-    rebuild_rows(
-        &mut *plane,
-        &pred,
-        residuals,
-        b.side as usize,
-        block::base_of(s, b),
-        s.frame.width as usize,
-        at,
-        taps::largest_of(s.bits),
-    );
-}
 
 // Block k, whose residuals begin at `at`: rebuilt unless it was done before. Gives the next block's place.
 fn replay_turn(
@@ -243,7 +33,7 @@ fn replay_turn(
     indices: &mut [u32],
     fractions: &mut [u32],
 ) -> usize
-    requires { ⌜ Ready s b (length (samplesOf (now plane))) (record { refs = length (now refs); indices = length (now indices); fractions = length (now fractions) }) × (Lies b (length (residualsOf (now residuals))) at × (length (now plane) % 2 ≡ 0)) ⌝ }
+    requires { ⌜ Ready s b (length (samplesOf (now plane))) (record { refs = length (now refs); indices = length (now indices); fractions = length (now fractions) }) × (Lies b (length (residualsOf (now residuals))) at × ((length (now plane) % 2 ≡ 0) × (length (now residuals) % 4 ≡ 0))) ⌝ }
     ensures { λ r. ⌜ (r ≡ at + b .side * b .side) × (samplesOf (now (plane .exit)) ≡ cond (leb from k) (rebuilt s b at (residualsOf (now (residuals .entry))) (samplesOf (now (plane .entry)))) (samplesOf (now (plane .entry)))) ⌝ }
 {
     let n = b.side as usize;
@@ -251,7 +41,7 @@ fn replay_turn(
     if k < (from as usize) {
         return next;
     }
-    rebuild_block(
+    byte_rebuild::rebuild_block(
         s,
         b,
         at,
@@ -276,7 +66,7 @@ fn replay_blocks(
     from: u32,
     upto: usize,
 )
-    requires { ⌜ Sound s (recordsOf (now plan)) (length (samplesOf (now plane))) (length (residualsOf (now residuals))) (record { refs = length (now refs); indices = length (now indices); fractions = length (now fractions) }) × ((upto ≤ length (now plan) / 6) × (length (now plane) % 2 ≡ 0)) ⌝ }
+    requires { ⌜ Sound s (recordsOf (now plan)) (length (samplesOf (now plane))) (length (residualsOf (now residuals))) (record { refs = length (now refs); indices = length (now indices); fractions = length (now fractions) }) × ((upto ≤ length (now plan) / 6) × ((length (now plane) % 2 ≡ 0) × (length (now residuals) % 4 ≡ 0))) ⌝ }
     ensures { λ _. ⌜ samplesOf (now (plane .exit)) ≡ units (replayUnit s (recordsOf (now (plan .entry)) .block) (residualsOf (now (residuals .entry)))) from (upto - from) (samplesOf (now (plane .entry))) ⌝ }
 {
     let mut at: usize = 0;
@@ -308,7 +98,7 @@ fn serve(
     plane: &mut [u8],
     grant: u32,
 ) -> Progress
-    requires { ⌜ Sound s (recordsOf (now plan)) (length (samplesOf (now plane))) (length (residualsOf (now residuals))) own × ((p .done ≤ length (now plan) / 6) × (length (now plane) % 2 ≡ 0)) ⌝ }
+    requires { ⌜ Sound s (recordsOf (now plan)) (length (samplesOf (now plane))) (length (residualsOf (now residuals))) own × ((p .done ≤ length (now plan) / 6) × ((length (now plane) % 2 ≡ 0) × (length (now residuals) % 4 ≡ 0))) ⌝ }
     ensures { λ r. ⌜ (r ≡ record { done = p .done + doing (recordsOf (now (plan .entry))) p grant }) × (samplesOf (now (plane .exit)) ≡ units (replayUnit s (recordsOf (now (plan .entry)) .block) (residualsOf (now (residuals .entry)))) (p .done) (doing (recordsOf (now (plan .entry))) p grant) (samplesOf (now (plane .entry)))) ⌝ }
 {
     let mut refs = [0u16; 193];
@@ -342,12 +132,12 @@ pub fn replay(
 ) -> u32
     ensures { λ r. ⌜ record { number = r; plane = now (plane .exit); result = now (result .exit) } ≡ replayed still progress (now (plan .entry)) (now (residuals .entry)) grant (now (plane .entry)) (now (result .entry)) ⌝ }
 {
-    let v = verdict(progress, still, plan, residuals, plane.len(), result.len());
+    let v = byte_answer::verdict(progress, still, plan, residuals, plane.len(), result.len());
     if v.no != 0 {
-        answer(result, v.block, progress);
+        byte_answer::answer(result, v.block, progress);
         return v.no;
     }
     let next = serve(progress, still, plan, residuals, &mut *plane, grant);
-    answer(result, 0, next);
+    byte_answer::answer(result, 0, next);
     0
 }

@@ -15,8 +15,10 @@ use Rattle.plan.specs.Records.{recordsOf}
 use Rattle.still.specs.declared.Still.{Still}
 use Rattle.coded.specs.Block.{World}
 use Rattle.walk.specs.Door.{steppedBy}
-use Rattle.byte_replay.specs.Door.{Lent, bytesFit, byteStep, planeAfter}
-use Rattle.byte_replay.specs.Laws.{own, fitting}
+use Rattle.byte_answer.specs.Door.{Lent, bytesFit}
+use Rattle.byte_answer.specs.Laws.{fitting}
+use Rattle.byte_replay.specs.Door.{byteStep, planeAfter}
+use Rattle.byte_replay.specs.Laws.{own}
 use Rattle.byte_replay.specs.Spelt.{spelt-verdict, left}
 use Rattle.promises.specs.Calls.{Job, Held, Served, count, fresh, calls, walkNo, walkCall, replayCall}
 use Rattle.promises.specs.Proof3.{demand-3}

@@ -173,6 +173,10 @@ use Rattle.camera.proofs.salvrunde_dc.Reads as camera-salvrunde-dc
 use Rattle.camera.proofs.salvrunde_angular.Reads as camera-salvrunde-angular
 use Rattle.camera.proofs.salvrunde_chroma_block.Reads as camera-salvrunde-chroma-block
 use Rattle.camera.proofs.salvrunde_replay.Reads as camera-salvrunde-replay
+use Rattle.byte_rebuild.proofs.residuals_ok.Reads as byte-rebuild-residuals-ok
+use Rattle.byte_rebuild.proofs.rebuild_block.Reads as byte-rebuild-rebuild-block
+use Rattle.byte_answer.proofs.verdict.Reads as byte-answer-verdict
+use Rattle.byte_answer.proofs.answer.Reads as byte-answer-answer
 use Rattle.byte_replay.proofs.replay.Reads as byte-replay-replay
 use Rattle.report.proofs.report.Reads as report-report
 use Rattle.walk.proofs.Progress.replay_numbers.Reads as walk-replay-numbers
@@ -611,6 +615,20 @@ walk-probes-salvrunde-probe-walk-once κs a x y s t p q = (p .0 ∙ sym (q .0), 
 
 walk-probes-salvrunde-probe-replay-once : (κs : Lfts 6) → OnceLeft (λ s. now (s .1 .1 .1 .1 .1 .1 .1 .0)) (walk-probes-salvrunde-probe-replay.Post κs)
 walk-probes-salvrunde-probe-replay-once κs a x y s t p q = (p .0 ∙ sym (q .0), p .1 .0 ∙ sym (q .1 .0))
+
+-- byte_rebuild
+byte-rebuild-residuals-ok-once : (κs : Lfts 1) → Once (byte-rebuild-residuals-ok.Post κs)
+byte-rebuild-residuals-ok-once κs a x y s t p q = p ∙ sym q
+
+byte-rebuild-rebuild-block-once : (κs : Lfts 5) → OnceLeft (λ s. now (s .1 .1 .1 .1 .0)) (byte-rebuild-rebuild-block.Post κs)
+byte-rebuild-rebuild-block-once κs a x y s t p q = by-number _ _ (p .0) (q .0) (p .1 .0) (q .1 .0)
+
+-- byte_answer
+byte-answer-verdict-once : (κs : Lfts 2) → Once (byte-answer-verdict.Post κs)
+byte-answer-verdict-once κs a x y s t p q = p ∙ sym q
+
+byte-answer-answer-once : (κs : Lfts 1) → OnceLeft (λ s. now (s .0)) (byte-answer-answer.Post κs)
+byte-answer-answer-once κs a x y s t p q = (refl, p ∙ sym q)
 
 -- byte_replay
 by-after : {x y : ℕ} {d e f g : List ℕ} {a : After} → _≡_ {A = After} (record { number = x; plane = d; result = f }) a → _≡_ {A = After} (record { number = y; plane = e; result = g }) a

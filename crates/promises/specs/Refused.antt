@@ -36,7 +36,8 @@ use Rattle.walk.specs.declared.Stepped.{Stepped}
 use Rattle.coded.specs.Block.{World}
 use Rattle.still.specs.Checks.{Tables}
 use Rattle.walk.specs.Door.{steppedBy, replayVerdict, replayAfter, walkVerdict, walkAfter}
-use Rattle.byte_replay.specs.Door.{Lent, byteVerdict, planeAfter, answered, resultAfter}
+use Rattle.byte_answer.specs.Door.{Lent, byteVerdict, answered}
+use Rattle.byte_replay.specs.Door.{planeAfter, resultAfter}
 use Rattle.byte_entry.specs.Entries.{entry}
 use Rattle.promises.specs.Exact.{number-in}
 

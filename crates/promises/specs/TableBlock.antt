@@ -1,12 +1,13 @@
 -- Document 01, 'The numbers a call gives back', of the doors on one block of a still: each number is given exactly when its row holds and none before it. Rests on Exact.
 --
---   block::predict_block      predict-block
---   rebuild::rebuild_block    rebuild-block
---   coded::walk_block         walk-block
+--   block::predict_block           predict-block
+--   rebuild::rebuild_block         rebuild-block
+--   coded::walk_block              walk-block
+--   byte_rebuild::rebuild_block    rebuild-bytes
 use mathlib.Core.Bool.{Bool, _&&_}
 use mathlib.Core.List.{List, [], _∷_}
-use mathlib.Core.Path.{refl}
-use Prim.Native.Nat.{ℕ, _+_, _*_, _<_}
+use mathlib.Core.Path.{_≡_, refl}
+use Prim.Native.Nat.{ℕ, _+_, _*_, _/_, _%_, _<_}
 use Rattle.domain.specs.Facts.{Depth, Size}
 use Rattle.tiling.specs.declared.Block.{Block}
 use Rattle.tiling.specs.Tiling.{pictureOf}
@@ -14,6 +15,7 @@ use Rattle.tiling.specs.Check.{placedOk}
 use Rattle.still.specs.declared.Still.{Still}
 use Rattle.still.specs.Checks.{Tables, whole}
 use Rattle.block.specs.Door.{numberOf, fits}
+use Rattle.byte_rebuild.specs.Door.{byteFits}
 use Rattle.promises.specs.Exact.{Row, _when_, _or_, Exact, Tells, exact-none, exact-row, all-of, at-most, same}
 use Rattle.promises.specs.Table.{BadPicture, depth, size, picture, placed}
 use Rattle.promises.specs.TableWalk.{BadBlock, BadPlane, BadTables}
@@ -55,3 +57,8 @@ module _ (s : Still) (b : Block) where
   pub walk-block : (t : Tables) (at source work residuals : ℕ)
       → Exact (numberOf s b (fits s b t work at residuals && whole s source)) (blockTable (Short t work at residuals or BadPlane s source))
   walk-block t at source work residuals = number (all-of (short-tells t work at residuals) (plane-tells source))
+
+  -- on bytes: two for each sample, four for each residual, and none left over
+  pub rebuild-bytes : (t : Tables) (at plane residuals : ℕ)
+      → Exact (numberOf s b (byteFits s b t plane at residuals)) (blockTable (Short t (plane / 2) at (residuals / 4) or (¬ (plane % 2 ≡ 0) or ¬ (residuals % 4 ≡ 0))))
+  rebuild-bytes t at plane residuals = number (all-of (short-tells t (plane / 2) at (residuals / 4)) (all-of (same (plane % 2) 0) (same (residuals % 4) 0)))

@@ -19,7 +19,8 @@ use Rattle.tiling.specs.Tiling.{pictureOf}
 use Rattle.plan.specs.Records.{recordsOf}
 use Rattle.still.specs.declared.Still.{Still}
 use Rattle.walk.specs.declared.Progress.{Progress}
-use Rattle.byte_replay.specs.Door.{Lent, byteVerdict, byteStep}
+use Rattle.byte_answer.specs.Door.{Lent, byteVerdict}
+use Rattle.byte_replay.specs.Door.{byteStep}
 use Rattle.byte_entry.specs.Entries.{entry, room, flatEntryNo, modeEntryNo}
 use Rattle.byte_flat.specs.Entries.{planarEntry, dcEntry}
 use Rattle.byte_predict.specs.Entries.{angularEntry, chromaBlockEntry}

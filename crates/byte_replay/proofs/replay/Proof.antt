@@ -3,7 +3,7 @@ use mathlib.Core.Path.{_≡_, sym, ap, _∙_}
 use Prim.Native.Nat.{ℕ, _%_}
 use lib.ListN.{length}
 use Rattle.plan.specs.declared.Verdict.{Verdict}
-use Rattle.byte_replay.specs.Door.{Lent}
+use Rattle.byte_answer.specs.Door.{Lent}
 use Rattle.byte_replay.specs.Laws.{serves, plane-kept, result-refused, plane-done, result-served, all-three}
 use borrow.Author.Needs.{needs}
 use Rattle.byte_replay.proofs.replay.Statement.{statement}
@@ -52,7 +52,7 @@ returns-2 c =
     let s = c .before .before .before .before .before .before .serve in
     let e = s .last .1 .1 .1 .1 .0 in
     let len : length e ≡ length (a .plane .now) = search needs in
-    let even = ap (λ (k : ℕ). k % 2) len ∙ serves (a .still) (a .progress) (a .plan .now) (a .residuals .now) (a .plane .now) (length (a .result .now)) z .1 .1 in
+    let even = ap (λ (k : ℕ). k % 2) len ∙ serves (a .still) (a .progress) (a .plan .now) (a .residuals .now) (a .plane .now) (length (a .result .now)) z .1 .1 .0 in
     all-three (a .still) (a .progress) (a .plan .now) (a .residuals .now) (a .grant) (a .plane .now) (a .result .now) (sym z)
     (plane-done (a .still) (a .progress) l (a .grant) z (a .plane .now) e even (λ i. c .before .before .before .before .slice-known4 .given i .fits) (s .ensures .1))
     (c .before .before .answer2 .ensures ∙ result-served (a .still) (a .progress) l (a .grant) z (s .result) (a .result .now) (s .ensures .0))

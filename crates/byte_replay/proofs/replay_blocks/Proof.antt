@@ -47,7 +47,7 @@ replay-turn-requires c κs =
     let b = c .before .before .before .before .record-at .ensures in
     let k = in-plan (c .before .before .before .before .before) in
     let e = i .1 .1 .1 .1 .1 .0 in
-    (ready _ _ _ _ _ (p .0) (l .k) (l .at) _ k e b _ _ _ _ (samples-alike (l .plane) (a .plane .now) (i .1 .0)) (i .1 .1 .0) (i .1 .1 .1 .0) (i .1 .1 .1 .1 .0), (lies _ _ _ _ _ (p .0) (l .k) (l .at) _ k e b, ap (λ (m : ℕ). m % 2) (i .1 .0) ∙ p .1 .1))
+    (ready _ _ _ _ _ (p .0) (l .k) (l .at) _ k e b _ _ _ _ (samples-alike (l .plane) (a .plane .now) (i .1 .0)) (i .1 .1 .0) (i .1 .1 .1 .0) (i .1 .1 .1 .1 .0), (lies _ _ _ _ _ (p .0) (l .k) (l .at) _ k e b, (ap (λ (m : ℕ). m % 2) (i .1 .0) ∙ p .1 .1 .0, p .1 .1 .1)))
 
 add-k : tie.Need-add-k Inv-loop μ-loop
 add-k c = search needs

@@ -1,10 +1,12 @@
 -- `byte_replay::replay_turn` meets its contract: a turn of the loop over the records.
 use mathlib.Core.Path.{refl, _∙_}
 use lib.Dec.{leb}
+use lib.ListN.{length}
 use native.Mathlib.Omega.{arith}
 use borrow.Author.Tests.{le-leb, lt-leb}
 use Rattle.laws.specs.Choose.{if-yes, if-no}
 use Rattle.bytes.specs.Laws.{length-residuals}
+use Rattle.byte_rebuild.specs.Spelt.{spells}
 use borrow.Author.Needs.{needs}
 use Rattle.byte_replay.proofs.replay_turn.Statement.{statement}
 use Rattle.byte_replay.proofs.replay_turn.Tie as tie
@@ -37,7 +39,12 @@ same-length-4 : tie.Need-same-length-4
 same-length-4 c = search needs
 
 returns-2 : tie.Need-returns-2
-returns-2 c = let a = c .before .before .before .before .before .before .before .before .before .before .before .before .before .before .before .before .before .before .before .before .args in (search needs, c .before .before .before .before .before .before .before .before .rebuild-block .ensures ∙ if-yes (leb (a .from) (a .k)) _ _ _ (le-leb (a .from) (a .k) (c .before .before .before .before .before .before .before .before .before .before .before .before .before .if1 .left)) refl)
+returns-2 c =
+    let a = c .before .before .before .before .before .before .before .before .before .before .before .before .before .before .before .before .before .before .before .before .args in
+    let h = c .before .before .before .before .before .before .before .before .before .before .before .before .before .before .before .before .before .before .before .before .pre in
+    let e = c .before .before .before .before .before .before .before .before .rebuild-block .ensures in
+    let q = spells (a .s) (a .b) (a .plane .now) (record { refs = length (a .refs .now); indices = length (a .indices .now); fractions = length (a .fractions .now) }) (h .0) (a .at) (a .residuals .now) (h .1 .0) (h .1 .1 .0) (h .1 .1 .1) (λ i. c .before .before .before .before .before .before .before .before .before .before .before .before .before .before .before .before .before .before .slice-known .given i .fits) _ _ (e .0) (e .1 .0) in
+    (search needs, q ∙ if-yes (leb (a .from) (a .k)) _ _ _ (le-leb (a .from) (a .k) (c .before .before .before .before .before .before .before .before .before .before .before .before .before .if1 .left)) refl)
 
 pub replay-turn-spec : {M : Type 1} → statement M
 replay-turn-spec =
