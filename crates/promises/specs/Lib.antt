@@ -14,8 +14,6 @@ pub mod Accept
 -- Range: a prediction is in range. Spots: samples and residuals by their block.
 pub mod Range
 pub mod Spots
--- OneAnswer: at most one answer meets the contract of each public function.
-pub mod OneAnswer
 -- Exact: rows of document 01's table, and what it means that a number is given exactly when its row says.
 pub mod Exact
 -- Table: document 01's table of numbers at each door. TableWalk: the same for the plan check, walk and replay. TableBlock: for the doors on one block.

@@ -1,0 +1,2 @@
+// At most one answer meets the contract of each public function. Laws alone; a library has at least one function.
+fn nothing() {}
