@@ -26,10 +26,8 @@ use Rattle.flat.specs.Text.{valueOf}
 use Rattle.flat.specs.Stores.{heads, fill-put, run-rows, heads-rows}
 use Rattle.flat.specs.Edge.{lineInto}
 use Rattle.pairs.specs.Into.{readInto, storeInto, floodInto, columnInto, put, apartIn}
-use Rattle.pairs.specs.Laws.{read-done, store-done, flood-done, column-done}
+use Rattle.pairs.specs.Laws.{byte-low, byte-high, sample-more, read-done, store-done, flood-done, column-done}
 use Rattle.byte_entry.specs.Entries.{rowOf, blockIn}
-use Rattle.numbers.specs.Numbers.{square}
-use Rattle.byte_entry.specs.Checks.{halves}
 use Rattle.byte_flat.specs.Entries.{dcIn}
 use Rattle.byte_flat.specs.Blocks.{block-same, row-at}
 
@@ -57,19 +55,16 @@ half : (n : ℕ) → Size n → 2 * (n / 2) ≡ n
 half n s = at-size (λ (m : ℕ). 2 * (m / 2) ≡ m) refl refl refl refl n s
 
 -- the first n samples of a row, as they are read
-pub first-read : (n : ℕ) (b d : List ℕ) → Size n → 130 ≤ length b → 32 ≤ length d → {a : List ℕ} → a ≡ readInto (n / 2) b d → (i : ℕ) → i < n → getD a i 0 ≡ getD (rowOf b) i 0
+pub first-read : (n : ℕ) (b d : List ℕ) → Size n → 130 ≤ length b → n ≤ length d → {a : List ℕ} → a ≡ readInto (n / 2) b d → (i : ℕ) → i < n → getD a i 0 ≡ getD (rowOf b) i 0
 first-read n b d s long room e i h =
     let m = size-small n s in
     let w = half n s in
     ap (λ (k : List ℕ). getD k i 0) (e ∙ read-done (n / 2) b d (omega arith) (omega arith) (omega arith)) ∙ row-at b d (2 * (n / 2)) i (omega arith) (omega arith) (omega arith)
 
 -- the value everywhere
-pub flooded : (n v : ℕ) (d : List ℕ) → Size n → 2 * (n * n) ≤ length d → floodInto v (n * n / 2) d ≡ blockIn (λ (y x : ℕ). v) n d
+pub flooded : (n v : ℕ) (d : List ℕ) → n * n ≤ 1024 → 2 * (n * n) ≤ length d → floodInto v (n * n) d ≡ blockIn (λ (y x : ℕ). v) n d
 unfolding blockIn
-flooded n v d s room =
-    let t = halves n s in
-    let q = square n s in
-    flood-done v (n * n / 2) d (omega arith) (omega arith) ∙ ap (λ (k : ℕ). fill (byteOf 2 (λ (i : ℕ). v)) k d) (let e : 4 * (n * n / 2) ≡ 2 * (n * n) = omega arith in e)
+flooded n v d few room = flood-done v (n * n) d few room
 
 pub plain : (edge : Bool) (n v : ℕ) (nb : Neighbours) (d : List ℕ) → 0 < n → v ≡ dcVal n nb → (edge && ltb n 32) ≡ false → blockIn (λ (y x : ℕ). v) n d ≡ blockIn (λ (y x : ℕ). dc edge n nb x y) n d
 unfolding dc
@@ -82,12 +77,6 @@ whether false x y z p q = q refl
 -- the bytes of a list of k samples
 abbrev bytesIn : List ℕ → ℕ → List ℕ → List ℕ
 bytesIn s k d = fill (byteOf 2 (λ (i : ℕ). getD s i 0)) (2 * k) d
-
-byte-low : (f : ℕ → ℕ) (i : ℕ) → f i % 256 ≡ byteOf 2 f (2 * i)
-byte-low f i = ap (λ (x : ℕ). x % 256) (sym (div-one (f i))) ∙ byte-at 2 f i 0 (omega arith) ∙ ap (byteOf 2 f) (let e : i * 2 + 0 ≡ 2 * i = omega arith in e)
-
-byte-high : (f : ℕ → ℕ) (i : ℕ) → byte1 (f i) ≡ byteOf 2 f (2 * i + 1)
-byte-high f i = byte-at 2 f i 1 (omega arith) ∙ ap (byteOf 2 f) (let e : i * 2 + 1 ≡ 2 * i + 1 = omega arith in e)
 
 -- one sample anew
 put-list : (s : List ℕ) (k : ℕ) (d : List ℕ) (i v : ℕ) → i < k → k ≤ length s → put i v (bytesIn s k d) ≡ bytesIn (set s i v) k d
@@ -125,8 +114,8 @@ unfolding run
 row-list r s k d zero h l = sym (fill-none _ _)
 row-list r s k d (suc m) h l =
     let long = length-run r 0 m s in
-    ap (λ (j : ℕ). fill (byteOf 2 r) j (bytesIn s k d)) (let e : 2 * suc m ≡ 2 * m + 1 + 1 = omega arith in e)
-    ∙ sym (fill-more (byteOf 2 r) (bytesIn s k d) (fill-more (byteOf 2 r) (bytesIn s k d) refl (byte-low r m)) (byte-high r m))
+    ap (λ (j : ℕ). fill (byteOf 2 r) (2 * j) (bytesIn s k d)) (let e : suc m ≡ m + 1 = omega arith in e)
+    ∙ sym (sample-more r (bytesIn s k d) m refl refl)
     ∙ ap (put m (r m)) (row-list r s k d m (omega arith) l)
     ∙ put-list (run r 0 m s) k d m (r m) (omega arith) (omega arith)
     ∙ ap (λ (j : ℕ). bytesIn (set (run r 0 m s) j (r m)) k d) (let e : m ≡ 0 + m = omega arith in e)
@@ -181,13 +170,13 @@ line-done : (n v : ℕ) (line d : List ℕ) → n ≤ length line → n ≤ leng
 unfolding lineInto
 line-done n v line d p q = rw (le-leb n (length line) p, le-leb n (length d) q)
 
-length-block : (g : ℕ → ℕ → ℕ) (n : ℕ) (d : List ℕ) → length (blockIn g n d) ≡ length d
-unfolding blockIn
-length-block g n d = length-fill (byteOf 2 (λ i. g (i / n) (i % n))) (2 * (n * n)) d
+-- what the edge makes of bytes b that hold the value everywhere: the block with its edge
+abbrev pub EdgeOver : ℕ → ℕ → List ℕ → List ℕ → List ℕ → List ℕ → Type 0
+EdgeOver v n a l b e = (d : List ℕ) → b ≡ blockIn (λ (y x : ℕ). v) n d → e ≡ blockIn (λ (y x : ℕ). dc true n (fromRows 0 a l) x y) n d
 
 -- the block with its edge: what is flooded, the row and the column that are stored into it
 module _ (n v : ℕ) (a l d r₀ c₀ : List ℕ) (s : Size n) (edge : ltb n 32 ≡ true) (e : v ≡ dcVal n (fromRows 0 a l)) (ha : n ≤ length a) (hl : n ≤ length l)
-    (room : 2 * (n * n) ≤ length d) (hr : 32 ≤ length r₀) (hc : 32 ≤ length c₀) where
+    (hr : 32 ≤ length r₀) (hc : 32 ≤ length c₀) where
   abbrev turned : ℕ
   turned = cornered (getD l 0 0) (getD a 0 0) v
 
@@ -213,13 +202,11 @@ module _ (n v : ℕ) (a l d r₀ c₀ : List ℕ) (s : Size n) (edge : ltb n 32 
   unfolding dc
   sample-is y x p q ep eq = rw (edge, ← e) (ap₂ (λ (i j : ℕ). cond (eqb x 0) i (cond (eqb y 0) j v)) ep eq)
 
-  pub edged : {r c b₁ b₂ b₃ : List ℕ} {k : ℕ} → b₁ ≡ floodInto v (n * n / 2) d → r ≡ lineInto n v a r₀ → b₂ ≡ storeInto (n / 2) r b₁ → c ≡ lineInto n v l c₀ → k ≡ turned
+  pub edged : {r c b₁ b₂ b₃ : List ℕ} {k : ℕ} → b₁ ≡ blockIn (λ (y x : ℕ). v) n d → 2 * (n * n) ≤ length b₁ → r ≡ lineInto n v a r₀ → b₂ ≡ storeInto (n / 2) r b₁ → c ≡ lineInto n v l c₀ → k ≡ turned
       → b₃ ≡ columnInto n (set c 0 k) b₂ → b₃ ≡ blockIn (λ (y x : ℕ). dc true n (fromRows 0 a l) x y) n d
-  edged {r} {c} {b₁} {b₂} {b₃} e₁ er e₂ ec ek e₃ =
+  edged {r} {c} {b₁} {b₂} {b₃} f₁ room er e₂ ec ek e₃ =
       let m = size-small n s in
       let w = half n s in
-      let f₁ : b₁ ≡ blockIn (λ (y x : ℕ). v) n d = e₁ ∙ flooded n v d s room in
-      let l₁ : length b₁ ≡ length d = ap length f₁ ∙ length-block (λ (y x : ℕ). v) n d in
       let lr : length r ≡ length r₀ = ap length (er ∙ line-done n v a r₀ ha (omega arith)) ∙ length-fill (λ (i : ℕ). blended (getD a i 0) v) n r₀ in
       let lc : length c ≡ length c₀ = ap length (ec ∙ line-done n v l c₀ hl (omega arith)) ∙ length-fill (λ (i : ℕ). blended (getD l i 0) v) n c₀ in
       let ls : length (set c 0 turned) ≡ length c = length-set c 0 turned in
@@ -234,7 +221,7 @@ module _ (n v : ℕ) (a l d r₀ c₀ : List ℕ) (s : Size n) (edge : ltb n 32 
       ∙ block-same _ _ n d (omega arith) (λ y x hy hx. sample-is y x _ _ (column-is ec y hy) (row-is er x hx))
 
 -- from the neighbours that were read to those that are there
-pub as-read : (edge : Bool) (n : ℕ) (above left d a₀ l₀ : List ℕ) → Size n → 130 ≤ length above → 130 ≤ length left → 32 ≤ length a₀ → 32 ≤ length l₀ → {a l : List ℕ}
+pub as-read : (edge : Bool) (n : ℕ) (above left d a₀ l₀ : List ℕ) → Size n → 130 ≤ length above → 130 ≤ length left → n ≤ length a₀ → n ≤ length l₀ → {a l : List ℕ}
     → a ≡ readInto (n / 2) above a₀ → l ≡ readInto (n / 2) left l₀ → blockIn (λ (y x : ℕ). dc edge n (fromRows 0 a l) x y) n d ≡ blockIn (dcIn edge n above left) n d
 as-read edge n above left d a₀ l₀ s ha hl ra rl {a} {l} ea el =
     let m = size-small n s in

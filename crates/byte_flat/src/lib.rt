@@ -2,15 +2,17 @@
 // of all loops are, too. Rests on the contracts of crates taps, flat and pairs, and on the number of crate byte_entry.
 ghost use mathlib.Core.Path.{_≡_};
 ghost use mathlib.Core.Bool.{true};
-ghost use Prim.Native.Nat.{ℕ, _*_, _≤_};
+ghost use Prim.Native.Nat.{ℕ, _*_, _/_, _≤_};
 ghost use lib.Dec.{ltb};
 ghost use lib.ListN.{length};
 ghost use Rattle.domain.specs.Facts.{Size};
 ghost use Rattle.h265.specs.Notation.{fromRows};
-ghost use Rattle.h265.specs.Dc.{dcVal, dc};
+ghost use Rattle.h265.specs.Dc.{dcVal};
+ghost use Rattle.pairs.specs.Into.{readInto};
 ghost use Rattle.byte_entry.specs.Entries.{wrote, blockIn};
 ghost use Rattle.byte_entry.specs.Checks.{Fit};
 ghost use Rattle.byte_flat.specs.Entries.{planarIn, planarEntry, dcIn, dcEntry};
+ghost use Rattle.byte_flat.specs.Dc.{EdgeOver};
 
 // Reads both rows, predicts into a buffer of samples, and stores the block. Where n is a constant, the buffers are as long as n asks.
 fn planar_by(
@@ -74,12 +76,23 @@ pub fn planar(n: u32, above: &[u8], left: &[u8], out: &mut [u8]) -> u32
     no
 }
 
-// The value everywhere, then the first row, then the first column with the corner.
-fn dc_edged(a: &[u16], l: &[u16], v: u16, n: usize, out: &mut [u8])
-    requires { ⌜ Size n × (ltb n 32 ≡ true) × (v ≡ dcVal n (fromRows 0 (now a) (now l))) × (n ≤ length (now a)) × (n ≤ length (now l)) × (2 * (n * n) ≤ length (now out)) ⌝ }
-    ensures { λ _. ⌜ now (out .exit) ≡ blockIn (λ (y x : ℕ). dc true n (fromRows 0 (now (a .entry)) (now (l .entry))) x y) n (now (out .entry)) ⌝ }
+// Reads n samples of each row, all that DC asks for, and stores its value everywhere.
+fn dc_flat(above: &[u8], left: &[u8], n: usize, a: &mut [u16], l: &mut [u16], out: &mut [u8]) -> u16
+    requires { ⌜ Fit n (length (now above)) (length (now left)) (length (now out)) × (n ≤ length (now a)) × (n ≤ length (now l)) ⌝ }
+    ensures { λ v. ⌜ (now (a .exit) ≡ readInto (n / 2) (now (above .entry)) (now (a .entry))) × (now (l .exit) ≡ readInto (n / 2) (now (left .entry)) (now (l .entry))) × (v ≡ dcVal n (fromRows 0 (now (a .exit)) (now (l .exit)))) × (now (out .exit) ≡ blockIn (λ (y x : ℕ). v) n (now (out .entry))) ⌝ }
 {
-    pairs::flood(v, n * n / 2, &mut *out);
+    pairs::read(above, n / 2, &mut *a);
+    pairs::read(left, n / 2, &mut *l);
+    let v = flat::dc_value(&*a, &*l, n);
+    pairs::flood(v, n * n, &mut *out);
+    v
+}
+
+// The edge over the value: the first row, then the first column with the corner.
+fn dc_edge(a: &[u16], l: &[u16], v: u16, n: usize, out: &mut [u8])
+    requires { ⌜ Size n × (ltb n 32 ≡ true) × (v ≡ dcVal n (fromRows 0 (now a) (now l))) × (n ≤ length (now a)) × (n ≤ length (now l)) × (2 * (n * n) ≤ length (now out)) ⌝ }
+    ensures { λ _. ⌜ EdgeOver v n (now (a .entry)) (now (l .entry)) (now (out .entry)) (now (out .exit)) ⌝ }
+{
     let mut row = [0u16; 32];
     flat::edge_line(a, v, n, &mut row);
     pairs::store(&row, n / 2, &mut *out);
@@ -89,32 +102,50 @@ fn dc_edged(a: &[u16], l: &[u16], v: u16, n: usize, out: &mut [u8])
     pairs::column(&column, n, &mut *out);
 }
 
-// DC reads n samples of each row. Its value goes to the bytes straight away.
-fn dc_by(above: &[u8], left: &[u8], n: usize, edge: bool, out: &mut [u8])
-    requires { ⌜ Fit n (length (now above)) (length (now left)) (length (now out)) ⌝ }
+fn dc_by(
+    above: &[u8],
+    left: &[u8],
+    n: usize,
+    edge: bool,
+    a: &mut [u16],
+    l: &mut [u16],
+    out: &mut [u8],
+)
+    requires { ⌜ Fit n (length (now above)) (length (now left)) (length (now out)) × (n ≤ length (now a)) × (n ≤ length (now l)) ⌝ }
     ensures { λ _. ⌜ now (out .exit) ≡ blockIn (dcIn edge n (now (above .entry)) (now (left .entry))) n (now (out .entry)) ⌝ }
 {
-    let mut a = [0u16; 32];
-    let mut l = [0u16; 32];
-    pairs::read(above, n / 2, &mut a);
-    pairs::read(left, n / 2, &mut l);
-    let v = flat::dc_value(&a, &l, n);
+    let v = dc_flat(above, left, n, &mut *a, &mut *l, &mut *out);
     if edge & (n < 32) {
-        dc_edged(&a, &l, v, n, &mut *out);
-        return;
+        dc_edge(&*a, &*l, v, n, &mut *out);
     }
-    pairs::flood(v, n * n / 2, &mut *out);
 }
 
+// The arrays of each arm keep the compiler from making one call of the four.
 fn dc_block(n: usize, edge: bool, above: &[u8], left: &[u8], out: &mut [u8])
     requires { ⌜ Fit n (length (now above)) (length (now left)) (length (now out)) ⌝ }
     ensures { λ _. ⌜ now (out .exit) ≡ blockIn (dcIn edge n (now (above .entry)) (now (left .entry))) n (now (out .entry)) ⌝ }
 {
     match n {
-        4 => dc_by(above, left, 4, edge, &mut *out),
-        8 => dc_by(above, left, 8, edge, &mut *out),
-        16 => dc_by(above, left, 16, edge, &mut *out),
-        _ => dc_by(above, left, 32, edge, &mut *out),
+        4 => {
+            let mut a = [0u16; 4];
+            let mut l = [0u16; 4];
+            dc_by(above, left, 4, edge, &mut a, &mut l, &mut *out);
+        }
+        8 => {
+            let mut a = [0u16; 8];
+            let mut l = [0u16; 8];
+            dc_by(above, left, 8, edge, &mut a, &mut l, &mut *out);
+        }
+        16 => {
+            let mut a = [0u16; 16];
+            let mut l = [0u16; 16];
+            dc_by(above, left, 16, edge, &mut a, &mut l, &mut *out);
+        }
+        _ => {
+            let mut a = [0u16; 32];
+            let mut l = [0u16; 32];
+            dc_by(above, left, 32, edge, &mut a, &mut l, &mut *out);
+        }
     }
 }
 

@@ -22,9 +22,9 @@ unfoldable pub storeInto : ℕ → List ℕ → List ℕ → List ℕ
 storeInto count samples d =
     within 512 count (leb (2 * count) (length samples) && leb (4 * count) (length d)) (fill (byteOf 2 (λ i. getD samples i 0)) (4 * count) d) d
 
--- the bytes of one sample, over and over
+-- the bytes of one sample, over and over; here the count is one of samples
 unfoldable pub floodInto : ℕ → ℕ → List ℕ → List ℕ
-floodInto v count d = within 512 count (leb (4 * count) (length d)) (fill (byteOf 2 (λ i. v)) (4 * count) d) d
+floodInto v count d = within 1024 count (leb (2 * count) (length d)) (fill (byteOf 2 (λ i. v)) (2 * count) d) d
 
 -- sample i of a buffer
 abbrev pub put : ℕ → ℕ → List ℕ → List ℕ

@@ -3,15 +3,29 @@ use Prim.Native.Nat.{ℕ, zero, suc, _+_, _*_, _/_, _%_, _^_, _≤_, _<_}
 use mathlib.Core.Path.{_≡_, refl, sym, ap, _∙_}
 use mathlib.Core.Bool.{Bool, true, _&&_}
 use mathlib.Core.List.{List}
-use native.Mathlib.Numerals.{add-one}
+use native.Mathlib.Nat.{div-one}
 use native.Mathlib.Omega.{arith}
 use lib.Dec.{leb}
 use lib.ListN.{length, getD, set}
 use borrow.Author.Tests.{le-leb}
 use Rattle.laws.specs.Fill.{fill}
+use Rattle.laws.specs.FillLaws.{fill-more}
 use Rattle.laws.specs.Bytes.{byteOf, byte-at}
 use Rattle.bytes.specs.Bytes.{byte1, samplesOf}
 use Rattle.pairs.specs.Into.{within, readInto, storeInto, floodInto, columnInto, put, apartIn}
+
+-- both bytes of a sample
+pub byte-low : (f : ℕ → ℕ) (i : ℕ) → f i % 256 ≡ byteOf 2 f (2 * i)
+byte-low f i = ap (λ (x : ℕ). x % 256) (sym (div-one (f i))) ∙ byte-at 2 f i 0 (omega arith) ∙ ap (byteOf 2 f) (let e : i * 2 + 0 ≡ 2 * i = omega arith in e)
+
+pub byte-high : (f : ℕ → ℕ) (i : ℕ) → byte1 (f i) ≡ byteOf 2 f (2 * i + 1)
+byte-high f i = byte-at 2 f i 1 (omega arith) ∙ ap (byteOf 2 f) (let e : i * 2 + 1 ≡ 2 * i + 1 = omega arith in e)
+
+-- one sample more
+pub sample-more : (f : ℕ → ℕ) (d : List ℕ) (i : ℕ) {e : List ℕ} {v : ℕ} → e ≡ fill (byteOf 2 f) (2 * i) d → v ≡ f i → put i v e ≡ fill (byteOf 2 f) (2 * (i + 1)) d
+sample-more f d i p q =
+    fill-more (byteOf 2 f) d (fill-more (byteOf 2 f) d p (ap (λ (x : ℕ). x % 256) q ∙ byte-low f i)) (ap byte1 q ∙ byte-high f i)
+    ∙ ap (λ (k : ℕ). fill (byteOf 2 f) k d) (let e : 2 * i + 1 + 1 ≡ 2 * (i + 1) = omega arith in e)
 
 -- the column, as a loop makes it
 pub apart-none : (h : ℕ → ℕ) (n : ℕ) (d : List ℕ) → d ≡ apartIn h n 0 d
@@ -38,9 +52,9 @@ pub store-done : (count : ℕ) (samples d : List ℕ) → count ≤ 512 → 2 * 
 unfolding storeInto
 store-done count samples d h p q = enough 512 count (leb (2 * count) (length samples) && leb (4 * count) (length d)) _ _ h (rw (le-leb (2 * count) (length samples) p, le-leb (4 * count) (length d) q))
 
-pub flood-done : (v count : ℕ) (d : List ℕ) → count ≤ 512 → 4 * count ≤ length d → floodInto v count d ≡ fill (byteOf 2 (λ i. v)) (4 * count) d
+pub flood-done : (v count : ℕ) (d : List ℕ) → count ≤ 1024 → 2 * count ≤ length d → floodInto v count d ≡ fill (byteOf 2 (λ i. v)) (2 * count) d
 unfolding floodInto
-flood-done v count d h p = enough 512 count _ _ _ h (le-leb (4 * count) (length d) p)
+flood-done v count d h p = enough 1024 count _ _ _ h (le-leb (2 * count) (length d) p)
 
 pub column-done : (n : ℕ) (samples d : List ℕ) → n ≤ 32 → n ≤ length samples → 2 * (n * n) ≤ length d → columnInto n samples d ≡ apartIn (λ i. getD samples i 0) n n d
 unfolding columnInto

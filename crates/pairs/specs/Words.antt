@@ -103,47 +103,6 @@ word-more f d i {e} {v} p q =
     next : (k : ℕ) {l : List ℕ} {x : ℕ} → l ≡ fill g (4 * i + k) d → x ≡ g (4 * i + k) → set l (4 * i + k) x ≡ fill g (4 * i + (k + 1)) d
     next k a b = fill-more g d a b ∙ ap (λ (m : ℕ). fill g m d) (let w : 4 * i + k + 1 ≡ 4 * i + (k + 1) = omega arith in w)
 
--- numbers that are samples in pairs have the samples' bytes
-module _ (f g : ℕ → ℕ) (count : ℕ) (pair : (i : ℕ) → i < count → g i ≡ f (2 * i) + 65536 * f (2 * i + 1)) (small : (i : ℕ) → i < 2 * count → f i < 65536) where
-  abbrev wordByte : ℕ → ℕ
-  wordByte = byteOf 4 g
-
-  abbrev sampleByte : ℕ → ℕ
-  sampleByte = byteOf 2 f
-
-  pub bytes-same : (d : List ℕ) → fill (byteOf 4 g) (4 * count) d ≡ fill (byteOf 2 f) (4 * count) d
-  bytes-same d = fill-same _ _ (4 * count) d (by-four (λ j. j < 4 * count → wordByte j ≡ sampleByte j) first second third fourth) where
-    word : (q k : ℕ) → k < 4 → wordByte (4 * q + k) ≡ g q / 256 ^ k % 256
-    word q k h = sym (byte-at 4 g q k h ∙ ap wordByte (let e : q * 4 + k ≡ 4 * q + k = omega arith in e))
-
-    half : (i k j : ℕ) → k < 2 → i * 2 + k ≡ j → f i / 256 ^ k % 256 ≡ sampleByte j
-    half i k j h e = byte-at 2 f i k h ∙ ap sampleByte e
-
-    first : (q : ℕ) → 4 * q < 4 * count → wordByte (4 * q) ≡ sampleByte (4 * q)
-    first q h =
-        let e = pair q (omega arith) in
-        ap wordByte (let r : 4 * q ≡ 4 * q + 0 = omega arith in r) ∙ word q 0 (omega arith)
-        ∙ (let r : g q / 1 % 256 ≡ f (2 * q) / 1 % 256 = omega arith in r) ∙ half (2 * q) 0 (4 * q) (omega arith) (omega arith)
-
-    second : (q : ℕ) → 4 * q + 1 < 4 * count → wordByte (4 * q + 1) ≡ sampleByte (4 * q + 1)
-    second q h =
-        let e = pair q (omega arith) in
-        word q 1 (omega arith) ∙ (let r : g q / 256 % 256 ≡ f (2 * q) / 256 % 256 = omega arith in r) ∙ half (2 * q) 1 (4 * q + 1) (omega arith) (omega arith)
-
-    third : (q : ℕ) → 4 * q + 2 < 4 * count → wordByte (4 * q + 2) ≡ sampleByte (4 * q + 2)
-    third q h =
-        let e = pair q (omega arith) in
-        let b = small (2 * q) (omega arith) in
-        word q 2 (omega arith) ∙ (let r : g q / 65536 % 256 ≡ f (2 * q + 1) / 1 % 256 = omega arith in r)
-        ∙ half (2 * q + 1) 0 (4 * q + 2) (omega arith) (omega arith)
-
-    fourth : (q : ℕ) → 4 * q + 3 < 4 * count → wordByte (4 * q + 3) ≡ sampleByte (4 * q + 3)
-    fourth q h =
-        let e = pair q (omega arith) in
-        let b = small (2 * q) (omega arith) in
-        word q 3 (omega arith) ∙ (let r : g q / 16777216 % 256 ≡ f (2 * q + 1) / 256 % 256 = omega arith in r)
-        ∙ half (2 * q + 1) 1 (4 * q + 3) (omega arith) (omega arith)
-
 -- pairs, taken apart, are the samples; and their bytes are the samples' bytes
 module _ (s : List ℕ) (count : ℕ) (w₀ : List ℕ) (room : count ≤ length w₀) {w : List ℕ} (p : Paired s count w₀ w) where
   pair-at : (i : ℕ) → i < count → getD w i 0 ≡ pairOf s i
@@ -164,9 +123,41 @@ module _ (s : List ℕ) (count : ℕ) (w₀ : List ℕ) (room : count ≤ length
         let t = p .small (omega arith) (2 * q + 1) in
         sym (high-half w q) ∙ (let r : getD w q 0 / 65536 % 65536 ≡ getD s (2 * q + 1) 0 = omega arith in r)
 
-  pub spread-is : (d : List ℕ) → fill (byteOf 4 (λ i. getD w i 0)) (4 * count) d ≡ fill (byteOf 2 (λ i. getD s i 0)) (4 * count) d
-  spread-is d = bytes-same (λ i. getD s i 0) (λ i. getD w i 0) count pair-at (λ i h. p .small (omega arith) i) d
+  abbrev wordByte : ℕ → ℕ
+  wordByte = byteOf 4 (λ i. getD w i 0)
 
--- a sample and itself
-pub flood-is : (v count : ℕ) (d : List ℕ) → v < 65536 → fill (byteOf 4 (λ i. 65537 * v)) (4 * count) d ≡ fill (byteOf 2 (λ i. v)) (4 * count) d
-flood-is v count d h = bytes-same (λ i. v) (λ i. 65537 * v) count (λ i l. omega arith) (λ i l. h) d
+  abbrev sampleByte : ℕ → ℕ
+  sampleByte = byteOf 2 (λ i. getD s i 0)
+
+  pub spread-is : (d : List ℕ) → fill (byteOf 4 (λ i. getD w i 0)) (4 * count) d ≡ fill (byteOf 2 (λ i. getD s i 0)) (4 * count) d
+  spread-is d = fill-same _ _ (4 * count) d (by-four (λ j. j < 4 * count → wordByte j ≡ sampleByte j) first second third fourth) where
+    word : (q k : ℕ) → k < 4 → wordByte (4 * q + k) ≡ getD w q 0 / 256 ^ k % 256
+    word q k h = sym (byte-at 4 (λ i. getD w i 0) q k h ∙ ap wordByte (let e : q * 4 + k ≡ 4 * q + k = omega arith in e))
+
+    half : (i k j : ℕ) → k < 2 → i * 2 + k ≡ j → getD s i 0 / 256 ^ k % 256 ≡ sampleByte j
+    half i k j h e = byte-at 2 (λ n. getD s n 0) i k h ∙ ap sampleByte e
+
+    first : (q : ℕ) → 4 * q < 4 * count → wordByte (4 * q) ≡ sampleByte (4 * q)
+    first q h =
+        let e = pair-at q (omega arith) in
+        ap wordByte (let r : 4 * q ≡ 4 * q + 0 = omega arith in r) ∙ word q 0 (omega arith)
+        ∙ (let r : getD w q 0 / 1 % 256 ≡ getD s (2 * q) 0 / 1 % 256 = omega arith in r) ∙ half (2 * q) 0 (4 * q) (omega arith) (omega arith)
+
+    second : (q : ℕ) → 4 * q + 1 < 4 * count → wordByte (4 * q + 1) ≡ sampleByte (4 * q + 1)
+    second q h =
+        let e = pair-at q (omega arith) in
+        word q 1 (omega arith) ∙ (let r : getD w q 0 / 256 % 256 ≡ getD s (2 * q) 0 / 256 % 256 = omega arith in r) ∙ half (2 * q) 1 (4 * q + 1) (omega arith) (omega arith)
+
+    third : (q : ℕ) → 4 * q + 2 < 4 * count → wordByte (4 * q + 2) ≡ sampleByte (4 * q + 2)
+    third q h =
+        let e = pair-at q (omega arith) in
+        let b = p .small (omega arith) (2 * q) in
+        word q 2 (omega arith) ∙ (let r : getD w q 0 / 65536 % 256 ≡ getD s (2 * q + 1) 0 / 1 % 256 = omega arith in r)
+        ∙ half (2 * q + 1) 0 (4 * q + 2) (omega arith) (omega arith)
+
+    fourth : (q : ℕ) → 4 * q + 3 < 4 * count → wordByte (4 * q + 3) ≡ sampleByte (4 * q + 3)
+    fourth q h =
+        let e = pair-at q (omega arith) in
+        let b = p .small (omega arith) (2 * q) in
+        word q 3 (omega arith) ∙ (let r : getD w q 0 / 16777216 % 256 ≡ getD s (2 * q + 1) 0 / 256 % 256 = omega arith in r)
+        ∙ half (2 * q + 1) 1 (4 * q + 3) (omega arith) (omega arith)

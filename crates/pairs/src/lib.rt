@@ -133,35 +133,6 @@ pub fn store(samples: &[u16], count: usize, out: &mut [u8])
     }
 }
 
-// A sample and itself.
-fn twice(v: u16) -> u32
-    ensures { λ r. ⌜ (r ≡ 65537 * v) × (v < 65536) ⌝ }
-{
-    65537 * (v as u32)
-}
-
-fn flood_all(v: u16, count: usize, out: &mut [u8])
-    requires { ⌜ 4 * count ≤ length (now out) ⌝ }
-    ensures { λ _. ⌜ now (out .exit) ≡ fill (byteOf 2 (λ (i : ℕ). v)) (4 * count) (now (out .entry)) ⌝ }
-{
-    let word = twice(v);
-    for i in 0..count {
-        put_word(&mut *out, i, word);
-    }
-}
-
-// One sample 2 · count times, at most 1024.
-pub fn flood(v: u16, count: usize, out: &mut [u8])
-    ensures { λ _. ⌜ now (out .exit) ≡ floodInto v count (now (out .entry)) ⌝ }
-{
-    if count > 512 {
-        return;
-    }
-    if out.len() >= 4 * count {
-        flood_all(v, count, &mut *out);
-    }
-}
-
 fn put_sample(out: &mut [u8], i: usize, v: u16)
     requires { ⌜ 2 * i + 1 < length (now out) ⌝ }
     ensures { λ _. ⌜ now (out .exit) ≡ put i v (now (out .entry)) ⌝ }
@@ -169,6 +140,28 @@ fn put_sample(out: &mut [u8], i: usize, v: u16)
     let k = 2 * i;
     out[k] = bytes::byte_0(v as u32);
     out[k + 1] = bytes::byte_1(v as u32);
+}
+
+// Sample by sample: of a number that stays the same the compiler does not join four bytes.
+fn flood_all(v: u16, count: usize, out: &mut [u8])
+    requires { ⌜ 2 * count ≤ length (now out) ⌝ }
+    ensures { λ _. ⌜ now (out .exit) ≡ fill (byteOf 2 (λ (i : ℕ). v)) (2 * count) (now (out .entry)) ⌝ }
+{
+    for i in 0..count {
+        put_sample(&mut *out, i, v);
+    }
+}
+
+// One sample `count` times, at most 1024.
+pub fn flood(v: u16, count: usize, out: &mut [u8])
+    ensures { λ _. ⌜ now (out .exit) ≡ floodInto v count (now (out .entry)) ⌝ }
+{
+    if count > 1024 {
+        return;
+    }
+    if out.len() >= 2 * count {
+        flood_all(v, count, &mut *out);
+    }
 }
 
 fn column_all(samples: &[u16], n: usize, out: &mut [u8])

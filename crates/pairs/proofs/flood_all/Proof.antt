@@ -1,4 +1,4 @@
--- One sample twice in each number: the loop keeps an equation with `fill`. Assumes nothing.
+-- One sample over and over: the loop keeps an equation with `fill`. Assumes nothing.
 use mathlib.Core.Path.{_≡_, refl, _∙_}
 use Prim.Native.Nat.{ℕ, _-_, _*_, _≤_}
 use native.Mathlib.Omega.{arith}
@@ -6,25 +6,22 @@ use lib.ListN.{length}
 use Rattle.laws.specs.Fill.{fill}
 use Rattle.laws.specs.FillLaws.{fill-none, fill-done}
 use Rattle.laws.specs.Bytes.{byteOf}
-use Rattle.pairs.specs.Words.{word-more, flood-is}
+use Rattle.pairs.specs.Laws.{sample-more}
 use borrow.Author.Needs.{needs}
 use Rattle.pairs.proofs.flood_all.Statement.{statement}
 use Rattle.pairs.proofs.flood_all.Tie as tie
 
 abbrev Inv-loop : tie.InvT-loop
-Inv-loop v count out₀ word i₀ out i = (i ≤ count) × ((length out ≡ length out₀) × (out ≡ fill (byteOf 4 (λ (j : ℕ). 65537 * v)) (4 * i) out₀))
+Inv-loop v count out₀ i₀ out i = (i ≤ count) × ((length out ≡ length out₀) × (out ≡ fill (byteOf 2 (λ (j : ℕ). v)) (2 * i) out₀))
 
 abbrev μ-loop : tie.MeasureT-loop
-μ-loop v count out₀ word i₀ out i = count - i
-
-twice-requires : tie.Need-twice-requires Inv-loop μ-loop
-twice-requires c κs = search needs
+μ-loop v count out₀ i₀ out i = count - i
 
 loop-holds : tie.Need-loop-holds Inv-loop μ-loop
 loop-holds c = (search needs, (search needs, fill-none _ _))
 
-put-word-requires : tie.Need-put-word-requires Inv-loop μ-loop
-put-word-requires c κs = search needs
+put-sample-requires : tie.Need-put-sample-requires Inv-loop μ-loop
+put-sample-requires c κs = search needs
 
 add-i : tie.Need-add-i Inv-loop μ-loop
 add-i c = search needs
@@ -34,16 +31,14 @@ loop-less c = search needs
 
 loop-again : tie.Need-loop-again Inv-loop μ-loop
 loop-again c =
-    let w = c .before .before .before .before .before .before in
-    (search needs, (search needs, c .before .before .put-word .ensures ∙ word-more (λ (j : ℕ). 65537 * w .before .before .args .v) (w .before .before .args .out .now) (c .before .before .before .before .before .loop .i) (c .before .before .before .before .before .loop .inv .1 .1) (w .twice .ensures .0)))
+    let a = c .before .before .before .before .before .before .before .args in
+    (search needs, (search needs, c .before .before .put-sample .ensures ∙ sample-more (λ (j : ℕ). a .v) (a .out .now) (c .before .before .before .before .before .loop .i) (c .before .before .before .before .before .loop .inv .1 .1) refl))
 
 same-length : tie.Need-same-length Inv-loop μ-loop
 same-length c = search needs
 
 returns : tie.Need-returns Inv-loop μ-loop
-returns c =
-    let w = c .before .before in
-    fill-done _ _ (omega arith) (omega arith) (c .before .loop .inv .1 .1) ∙ flood-is (w .before .before .args .v) _ _ (w .twice .ensures .1)
+returns c = fill-done _ _ (omega arith) (omega arith) (c .before .loop .inv .1 .1)
 
 pub flood-all-spec : {M : Type 1} → statement M
 flood-all-spec =
@@ -51,9 +46,8 @@ flood-all-spec =
     (tie.spec
     Inv-loop
     μ-loop
-    twice-requires
     loop-holds
-    put-word-requires
+    put-sample-requires
     add-i
     loop-less
     loop-again
