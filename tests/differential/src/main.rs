@@ -37,6 +37,8 @@ mod oracle {
 
 use host::Host;
 use std::process::ExitCode;
+use std::sync::atomic::{AtomicUsize, Ordering};
+use std::thread::{self, available_parallelism};
 use tally::Tally;
 
 type Subject = fn(&mut Tally);
@@ -70,28 +72,40 @@ const SUBJECTS: &[(&str, Subject)] = &[
 fn main() -> ExitCode {
     let words: Vec<String> = std::env::args().skip(1).collect();
     let cut = words.iter().position(|w| w == "--").expect("usage: differential [list | NAME..] -- HOST..");
-    let mut host = Host::start(&words[cut + 1..]);
     match words[..cut].first().map(String::as_str) {
         Some("list") => {
             list::write();
             list_predict::write();
             list_refs::write();
         }
-        _ => return compare(&mut host, &words[..cut]),
+        _ => return compare(&words[cut + 1..], &words[..cut]),
     }
     ExitCode::SUCCESS
 }
 
-/// Runs the subjects that are named, or all; a name that is none leaves no calls, which fails.
-fn compare(host: &mut Host, names: &[String]) -> ExitCode {
-    let (mut calls, mut differ) = (0, 0);
-    for (name, subject) in SUBJECTS.iter().filter(|s| names.is_empty() || names.iter().any(|n| n == s.0)) {
-        let mut tally = Tally::new(name, host);
-        subject(&mut tally);
-        let (c, d) = tally.finish();
-        calls += c;
-        differ += d;
-    }
+/// Runs the subjects that are named, or all, on every processor, each worker with a host of its own; a name that is none leaves no calls, which fails.
+fn compare(host: &[String], names: &[String]) -> ExitCode {
+    let chosen: Vec<_> = SUBJECTS.iter().filter(|s| names.is_empty() || names.iter().any(|n| n == s.0)).collect();
+    let workers = available_parallelism().map_or(1, |n| n.get()).min(chosen.len());
+    let next = AtomicUsize::new(0);
+    let work = || {
+        let mut host = Host::start(host);
+        let (mut calls, mut differ) = (0, 0);
+        while let Some((name, subject)) = chosen.get(next.fetch_add(1, Ordering::Relaxed)) {
+            let mut tally = Tally::new(name, &mut host);
+            subject(&mut tally);
+            let (c, d) = tally.finish();
+            calls += c;
+            differ += d;
+        }
+        (calls, differ)
+    };
+    let sums: Vec<(u64, u64)> = thread::scope(|s| {
+        let running: Vec<_> = (0..workers).map(|_| s.spawn(work)).collect();
+        running.into_iter().map(|w| w.join().expect("a subject ended early")).collect()
+    });
+    let calls: u64 = sums.iter().map(|s| s.0).sum();
+    let differ: u64 = sums.iter().map(|s| s.1).sum();
     println!("differential: {calls} calls compared, {differ} differ");
     if differ == 0 && calls > 0 { ExitCode::SUCCESS } else { ExitCode::FAILURE }
 }
