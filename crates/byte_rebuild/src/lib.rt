@@ -1,7 +1,6 @@
 // One block of the replay on lent bytes: plane and residuals as the C firmware has them (document 01, 'use from C'). A door that checks for itself, works in
 // place and copies no plane. Rests on the contracts of the byte gather, of the prediction and of the block's checks alone.
 ghost use mathlib.Core.Path.{_≡_};
-ghost use mathlib.Core.Bool.{_&&_};
 ghost use Prim.Native.Nat.{ℕ, _+_, _*_, _%_, _<_};
 ghost use lib.ListN.{length, getD, set};
 ghost use lib.IntN.{pos, _+ℤ_};
