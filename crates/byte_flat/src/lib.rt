@@ -1,7 +1,7 @@
 // Planar and DC prediction from bytes to bytes, samples of two bytes, the lower first. The side is a constant of each arm, so that the lengths
 // of all loops are, too. Rests on the contracts of crates taps, flat and pairs, and on the number of crate byte_entry.
 ghost use mathlib.Core.Path.{_≡_};
-ghost use mathlib.Core.Bool.{true};
+ghost use mathlib.Core.Bool.{true, false};
 ghost use Prim.Native.Nat.{ℕ, _*_, _/_, _≤_};
 ghost use lib.Dec.{ltb};
 ghost use lib.ListN.{length};
@@ -120,33 +120,72 @@ fn dc_by(
     }
 }
 
-// The arrays of each arm keep the compiler from making one call of the four.
-fn dc_block(n: usize, edge: bool, above: &[u8], left: &[u8], out: &mut [u8])
+// The edge is a constant of each arm, too. The arrays of each arm keep the compiler from making one call of the four.
+fn dc_plain(n: usize, above: &[u8], left: &[u8], out: &mut [u8])
     requires { ⌜ Fit n (length (now above)) (length (now left)) (length (now out)) ⌝ }
-    ensures { λ _. ⌜ now (out .exit) ≡ blockIn (dcIn edge n (now (above .entry)) (now (left .entry))) n (now (out .entry)) ⌝ }
+    ensures { λ _. ⌜ now (out .exit) ≡ blockIn (dcIn false n (now (above .entry)) (now (left .entry))) n (now (out .entry)) ⌝ }
 {
     match n {
         4 => {
             let mut a = [0u16; 4];
             let mut l = [0u16; 4];
-            dc_by(above, left, 4, edge, &mut a, &mut l, &mut *out);
+            dc_by(above, left, 4, false, &mut a, &mut l, &mut *out);
         }
         8 => {
             let mut a = [0u16; 8];
             let mut l = [0u16; 8];
-            dc_by(above, left, 8, edge, &mut a, &mut l, &mut *out);
+            dc_by(above, left, 8, false, &mut a, &mut l, &mut *out);
         }
         16 => {
             let mut a = [0u16; 16];
             let mut l = [0u16; 16];
-            dc_by(above, left, 16, edge, &mut a, &mut l, &mut *out);
+            dc_by(above, left, 16, false, &mut a, &mut l, &mut *out);
         }
         _ => {
             let mut a = [0u16; 32];
             let mut l = [0u16; 32];
-            dc_by(above, left, 32, edge, &mut a, &mut l, &mut *out);
+            dc_by(above, left, 32, false, &mut a, &mut l, &mut *out);
         }
     }
+}
+
+fn dc_edged(n: usize, above: &[u8], left: &[u8], out: &mut [u8])
+    requires { ⌜ Fit n (length (now above)) (length (now left)) (length (now out)) ⌝ }
+    ensures { λ _. ⌜ now (out .exit) ≡ blockIn (dcIn true n (now (above .entry)) (now (left .entry))) n (now (out .entry)) ⌝ }
+{
+    match n {
+        4 => {
+            let mut a = [0u16; 4];
+            let mut l = [0u16; 4];
+            dc_by(above, left, 4, true, &mut a, &mut l, &mut *out);
+        }
+        8 => {
+            let mut a = [0u16; 8];
+            let mut l = [0u16; 8];
+            dc_by(above, left, 8, true, &mut a, &mut l, &mut *out);
+        }
+        16 => {
+            let mut a = [0u16; 16];
+            let mut l = [0u16; 16];
+            dc_by(above, left, 16, true, &mut a, &mut l, &mut *out);
+        }
+        _ => {
+            let mut a = [0u16; 32];
+            let mut l = [0u16; 32];
+            dc_by(above, left, 32, true, &mut a, &mut l, &mut *out);
+        }
+    }
+}
+
+fn dc_block(n: usize, edge: bool, above: &[u8], left: &[u8], out: &mut [u8])
+    requires { ⌜ Fit n (length (now above)) (length (now left)) (length (now out)) ⌝ }
+    ensures { λ _. ⌜ now (out .exit) ≡ blockIn (dcIn edge n (now (above .entry)) (now (left .entry))) n (now (out .entry)) ⌝ }
+{
+    if edge {
+        dc_edged(n, above, left, &mut *out);
+        return;
+    }
+    dc_plain(n, above, left, &mut *out);
 }
 
 // The DC block; an edge flag that is not 0 asks for filtered edges. Numbers 2, 5.
