@@ -24,6 +24,7 @@ use Rattle.substitution.specs.declared.Flags.{Flags}
 use Rattle.rows.specs.declared.Gathered.{Gathered}
 use Rattle.refs.specs.declared.GatheredPair.{GatheredPair}
 use Rattle.refs.specs.declared.ChromaRefGeometry.{ChromaRefGeometry}
+use Rattle.substitution.specs.Door.{substituteDoor}
 use Rattle.refs.specs.Door as gather
 use Rattle.probes.specs.declared.Answer.{Answer}
 use Rattle.probes.specs.declared.PairReferences.{PairReferences}
@@ -125,7 +126,7 @@ pairOf a =
     }
 
 abbrev pub substituteAnswer : Rows → Flags → ℕ → ℕ → References
-substituteAnswer rows flags n bits = gatheredOf (gather.substituteDoor rows flags n bits)
+substituteAnswer rows flags n bits = gatheredOf (substituteDoor rows flags n bits)
 
 abbrev pub gatherAnswer : List ℕ → ℕ → Picture → ℕ → ℕ → ℕ → References
 gatherAnswer plane bits picture row col n =
