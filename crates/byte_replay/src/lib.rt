@@ -17,7 +17,6 @@ ghost use Rattle.byte_replay.specs.Door.{replayed};
 ghost use Rattle.byte_replay.specs.Laws.{own};
 use still::Still;
 use tiling::Block;
-use tiling::Block;
 use walk::Progress;
 
 // Block k, whose residuals begin at `at`: rebuilt unless it was done before. Gives the next block's place.

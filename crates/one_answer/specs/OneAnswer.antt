@@ -92,6 +92,7 @@ use Rattle.tiling.proofs.record_at.Reads as tiling-record-at
 use Rattle.plan.proofs.check_plan_bytes.Reads as plan-check-plan-bytes
 use Rattle.plan.proofs.check_plan_numbers.Reads as plan-check-plan-numbers
 use Rattle.plan.proofs.check_plan as plan-check-plan
+use Rattle.steps.proofs.step_of.Reads as steps-step-of
 use Rattle.walk.proofs.Progress.fresh.Reads as walk-fresh
 use Rattle.still.proofs.picture_ok.Reads as still-picture-ok
 use Rattle.still.proofs.is_whole.Reads as still-is-whole
@@ -426,6 +427,10 @@ plan-check-plan-numbers-once κs a x y s t p q = p ∙ sym q
 
 plan-check-plan-bytes-once : (κs : Lfts 1) → Once (plan-check-plan-bytes.Post κs)
 plan-check-plan-bytes-once κs a x y s t p q = p ∙ sym q
+
+-- steps
+steps-step-of-once : Once (steps-step-of.Post tt)
+steps-step-of-once a x y s t p q = p ∙ sym q
 
 -- walk
 walk-fresh-once : Once (walk-fresh.Post tt)

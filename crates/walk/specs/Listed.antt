@@ -22,12 +22,14 @@ use Rattle.still.specs.Checks.{largestOf, every, Tables, residualOk, replayFits
 use Rattle.still.specs.Laws.{good-call}
 use Rattle.rebuild.specs.Block.{replayUnit}
 use Rattle.coded.specs.Block.{World, walkUnit}
+use Rattle.steps.specs.declared.Step.{Step}
+use Rattle.steps.specs.Steps.{stepBy}
 use Rattle.walk.specs.declared.Progress.{Progress}
 use Rattle.walk.specs.declared.Stepped.{Stepped}
 use Rattle.walk.specs.declared.Call.{Call}
 use Rattle.walk.specs.Door.{doing, verdictOf, steppedBy, replayVerdict, replayAfter, walkVerdict, walkAfter}
 use Rattle.walk.specs.Ready.{ReplayReady, WalkReady}
-use Rattle.walk.specs.Laws.{units-more, verdict-early, verdict-plan, verdict-last, stepped-is, accepted-small, replay-verdict, replay-sound, walk-verdict, walk-sound}
+use Rattle.walk.specs.Laws.{units-more, verdict-early, verdict-plan, verdict-last, accepted-small, replay-verdict, replay-sound, walk-verdict, walk-sound}
 
 -- the tables of the scratch struct
 abbrev pub scratchTables : Tables
@@ -56,15 +58,20 @@ settle-is s plan p early v q ok = go (ℕ-discrete early 0) (ℕ-discrete (v .no
 
 -- the two ways of a call
 module _ (v : Verdict) (plan : Plan) (p : Progress) (grant : ℕ) where
-  pub refused-call : (a : Stepped) → a ≡ record { no = v .no; block = v .block; did = 0; next = p } → (v .no ≡ 0 → ⊥) → record { answer = a; upto = 0 } ≡ callOf v plan p grant
-  unfolding callOf
-  refused-call a e d = ap₂ (λ (x : Stepped) (u : ℕ). record { answer = x; upto = u }) (e ∙ unserved (v .no) _ _ d) (unserved (v .no) _ 0 d)
+  abbrev pub made : Step → Progress → Call
+  made t next = record { answer = record { no = t .no; block = t .block; did = t .did; next = next }; upto = t .upto }
 
-  pub granted-call : (did : ℕ) (a : Stepped) → did ≡ doing plan p grant → a ≡ record { no = 0; block = 0; did = did; next = record { done = p .done + did } } → v .no ≡ 0
-      → record { answer = a; upto = p .done + did } ≡ callOf v plan p grant
-  unfolding callOf
-  granted-call did a q e z =
-      ap₂ (λ (x : Stepped) (u : ℕ). record { answer = x; upto = u }) (e ∙ stepped-is v plan p grant did z q) (ap (λ (k : ℕ). p .done + k) q ∙ worked (v .no) _ 0 z)
+  pub refused-call : (t : Step) → t ≡ stepBy v (plan .count) (p .done) grant → (v .no ≡ 0 → ⊥) → made t p ≡ callOf v plan p grant
+  unfolding callOf stepBy
+  refused-call t e d =
+      ap (λ (x : Step). made x p) (e ∙ sym (unserved (v .no) _ _ d))
+      ∙ ap₂ (λ (x : Stepped) (u : ℕ). record { answer = x; upto = u }) (unserved (v .no) _ _ d) (unserved (v .no) _ 0 d)
+
+  pub granted-call : (t : Step) → t ≡ stepBy v (plan .count) (p .done) grant → v .no ≡ 0 → made t (record { done = t .upto }) ≡ callOf v plan p grant
+  unfolding callOf stepBy
+  granted-call t e z =
+      ap (λ (x : Step). made x (record { done = x .upto })) (e ∙ sym (worked (v .no) _ _ z))
+      ∙ ap₂ (λ (x : Stepped) (u : ℕ). record { answer = x; upto = u }) (worked (v .no) _ _ z) (worked (v .no) _ 0 z)
 
 -- a call that has a block to do is served, and goes up to the lesser of the grant and what remains
 module _ (v : Verdict) (plan : Plan) (p : Progress) (grant : ℕ) (c : Call) (is : c ≡ callOf v plan p grant) where

@@ -17,6 +17,7 @@ ghost use Rattle.walk.specs.Ready.{ReplayReady, WalkReady};
 ghost use Rattle.walk.specs.Listed.{scratchTables, bare, callOf};
 use plan::Verdict;
 use scratch::AngularScratch;
+use steps::Step;
 use still::Still;
 use tiling::Block;
 
@@ -33,52 +34,39 @@ pub struct Stepped {
     pub next: Progress,
 }
 
-// What a refused call gives: the record as it was.
-fn refusal(v: Verdict, p: Progress) -> Stepped
-    ensures { λ r. ⌜ r ≡ record { no = v .no; block = v .block; did = 0; next = p } ⌝ }
-{
-    Stepped {
-        no: v.no,
-        block: v.block,
-        did: 0,
-        next: p,
-    }
-}
-
-// What a served call gives: the record's successor.
-fn step_of(p: Progress, did: u32) -> Stepped
-    requires { ⌜ p .done + did ≤ 16777216 ⌝ }
-    ensures { λ r. ⌜ r ≡ record { no = 0; block = 0; did = did; next = record { done = p .done + did } } ⌝ }
-{
-    let next = Progress { done: p.done + did };
-    Stepped {
-        no: 0,
-        block: 0,
-        did,
-        next,
-    }
-}
-
 // What a call comes to, before the first write: its answer, and the block that it goes up to, 0 when refused.
 struct Call {
     answer: Stepped,
     upto: usize,
 }
 
+// A step's numbers with the record that the call hands back.
+fn call_by(t: Step, next: Progress) -> Call
+    ensures { λ r. ⌜ r ≡ record { answer = record { no = t .no; block = t .block; did = t .did; next = next }; upto = t .upto } ⌝ }
+{
+    let answer = Stepped {
+        no: t.no,
+        block: t.block,
+        did: t.did,
+        next,
+    };
+    Call {
+        answer,
+        upto: t.upto,
+    }
+}
+
+// Refused, the record comes back as it was; served, its successor does.
 fn call_of(p: Progress, v: Verdict, count: usize, grant: u32) -> Call
     requires { ⌜ (v .no ≡ 0 → (p .done ≤ count) × (count ≤ 16777216)) ⌝ }
     ensures { λ r. ⌜ r ≡ callOf v (bare count) p grant ⌝ }
 {
+    let t = steps::step_of(p.done, v, count, grant);
     if v.no != 0 {
-        let answer = refusal(v, p);
-        return Call { answer, upto: 0 };
+        return call_by(t, p);
     }
-    let did = still::doing_of(count, p.done, grant);
-    let answer = step_of(p, did);
-    Call {
-        answer,
-        upto: (p.done as usize) + (did as usize),
-    }
+    let done = t.upto as u32;
+    call_by(t, Progress { done })
 }
 
 fn replay_call(
