@@ -13,7 +13,7 @@ ghost use Rattle.h265.specs.Dc.{dc};
 ghost use Rattle.flat.specs.Flat.{flatNo, shortNo, Ready, planarMix, blended, cornered};
 ghost use Rattle.flat.specs.Text.{Total, valueOf};
 ghost use Rattle.flat.specs.Stores.{heads};
-ghost use Rattle.flat.specs.Edge.{edges, lineInto};
+ghost use Rattle.flat.specs.Edge.{edges};
 
 // The least entries of a reference row.
 fn predictor_row(n: usize) -> usize
@@ -217,7 +217,7 @@ fn blend(neighbour: u16, dc: u16) -> u16
     (((neighbour as u32) + 3 * (dc as u32) + 2) >> 2) as u16
 }
 
-pub fn corner(left: u16, above: u16, dc: u16) -> u16
+fn corner(left: u16, above: u16, dc: u16) -> u16
     ensures { λ r. ⌜ r ≡ cornered left above dc ⌝ }
 {
     (((left as u32) + 2 * (dc as u32) + (above as u32) + 2) >> 2) as u16
@@ -229,15 +229,6 @@ fn blend_row(above: &[u16], dc: u16, n: usize, out: &mut [u16])
 {
     for col in 0..n {
         out[col] = blend(above[col], dc);
-    }
-}
-
-// The edge along a line of n neighbours, but for the corner; nothing where a list is shorter.
-pub fn edge_line(line: &[u16], dc: u16, n: usize, out: &mut [u16])
-    ensures { λ _. ⌜ now (out .exit) ≡ lineInto n dc (now (line .entry)) (now (out .entry)) ⌝ }
-{
-    if (line.len() >= n) & (out.len() >= n) {
-        blend_row(line, dc, n, &mut *out);
     }
 }
 
@@ -304,6 +295,18 @@ pub fn predict_dc_into(
     let no = flat_no(n, above.len(), left.len(), pred.len());
     if no == 0 {
         dc_block(above, left, n, filter_boundary, &mut *pred);
+    }
+    no
+}
+
+// DC from rows of 2n entries.
+pub fn dc_2n(above: &[u16], left: &[u16], n: usize, filter_boundary: bool, pred: &mut [u16]) -> u32
+    ensures { λ r. ⌜ (r ≡ shortNo n (length (now (above .entry))) (length (now (left .entry))) (length (now (pred .entry)))) × (now (pred .exit) ≡ served r (block (λ (y x : ℕ). dc «filter_boundary» n (fromRows 0 (now (above .entry)) (now (left .entry))) x y) n (now (pred .entry))) (now (pred .entry))) ⌝ }
+{
+    let no = short_no(n, above.len(), left.len(), pred.len());
+    if no == 0 {
+        let all = total(above, left, n);
+        dc_n(above, left, all, n, filter_boundary, &mut *pred);
     }
     no
 }
