@@ -1,18 +1,12 @@
 // Planar and DC prediction from bytes to bytes, samples of two bytes, the lower first. The side is a constant of each arm, so that the lengths
-// of all loops are, too. Rests on the contracts of crates taps, flat and pairs, and on the number of crate byte_entry.
+// of all loops are, too. Rests on the contracts of crates flat and pairs, and on the number of crate byte_entry.
 ghost use mathlib.Core.Path.{_≡_};
 ghost use mathlib.Core.Bool.{true, false};
-ghost use Prim.Native.Nat.{ℕ, _*_, _/_, _≤_};
-ghost use lib.Dec.{ltb};
+ghost use Prim.Native.Nat.{ℕ, _*_, _≤_};
 ghost use lib.ListN.{length};
-ghost use Rattle.domain.specs.Facts.{Size};
-ghost use Rattle.h265.specs.Notation.{fromRows};
-ghost use Rattle.h265.specs.Dc.{dcVal};
-ghost use Rattle.pairs.specs.Into.{readInto};
 ghost use Rattle.byte_entry.specs.Entries.{wrote, blockIn};
 ghost use Rattle.byte_entry.specs.Checks.{Fit};
 ghost use Rattle.byte_flat.specs.Entries.{planarIn, planarEntry, dcIn, dcEntry};
-ghost use Rattle.byte_flat.specs.Dc.{EdgeOver};
 
 // Reads both rows, predicts into a buffer of samples, and stores the block. Where n is a constant, the buffers are as long as n asks.
 fn planar_by(
@@ -76,32 +70,6 @@ pub fn planar(n: u32, above: &[u8], left: &[u8], out: &mut [u8]) -> u32
     no
 }
 
-// Reads n samples of each row, all that DC asks for, and stores its value everywhere.
-fn dc_flat(above: &[u8], left: &[u8], n: usize, a: &mut [u16], l: &mut [u16], out: &mut [u8]) -> u16
-    requires { ⌜ Fit n (length (now above)) (length (now left)) (length (now out)) × (n ≤ length (now a)) × (n ≤ length (now l)) ⌝ }
-    ensures { λ v. ⌜ (now (a .exit) ≡ readInto (n / 2) (now (above .entry)) (now (a .entry))) × (now (l .exit) ≡ readInto (n / 2) (now (left .entry)) (now (l .entry))) × (v ≡ dcVal n (fromRows 0 (now (a .exit)) (now (l .exit)))) × (now (out .exit) ≡ blockIn (λ (y x : ℕ). v) n (now (out .entry))) ⌝ }
-{
-    pairs::read(above, n / 2, &mut *a);
-    pairs::read(left, n / 2, &mut *l);
-    let v = flat::dc_value(&*a, &*l, n);
-    pairs::flood(v, n * n, &mut *out);
-    v
-}
-
-// The edge over the value: the first row, then the first column with the corner.
-fn dc_edge(a: &[u16], l: &[u16], v: u16, n: usize, out: &mut [u8])
-    requires { ⌜ Size n × (ltb n 32 ≡ true) × (v ≡ dcVal n (fromRows 0 (now a) (now l))) × (n ≤ length (now a)) × (n ≤ length (now l)) × (2 * (n * n) ≤ length (now out)) ⌝ }
-    ensures { λ _. ⌜ EdgeOver v n (now (a .entry)) (now (l .entry)) (now (out .entry)) (now (out .exit)) ⌝ }
-{
-    let mut row = [0u16; 32];
-    flat::edge_line(a, v, n, &mut row);
-    pairs::store(&row, n / 2, &mut *out);
-    let mut column = [0u16; 32];
-    flat::edge_line(l, v, n, &mut column);
-    column[0] = taps::corner(l[0], a[0], v);
-    pairs::column(&column, n, &mut *out);
-}
-
 fn dc_by(
     above: &[u8],
     left: &[u8],
@@ -109,70 +77,88 @@ fn dc_by(
     edge: bool,
     a: &mut [u16],
     l: &mut [u16],
+    pred: &mut [u16],
     out: &mut [u8],
 )
-    requires { ⌜ Fit n (length (now above)) (length (now left)) (length (now out)) × (n ≤ length (now a)) × (n ≤ length (now l)) ⌝ }
+    requires { ⌜ Fit n (length (now above)) (length (now left)) (length (now out)) × (2 * n ≤ length (now a)) × (2 * n ≤ length (now l)) × (n * n ≤ length (now pred)) ⌝ }
     ensures { λ _. ⌜ now (out .exit) ≡ blockIn (dcIn edge n (now (above .entry)) (now (left .entry))) n (now (out .entry)) ⌝ }
 {
-    let v = dc_flat(above, left, n, &mut *a, &mut *l, &mut *out);
-    if edge & (n < 32) {
-        dc_edge(&*a, &*l, v, n, &mut *out);
-    }
+    pairs::read(above, n, &mut *a);
+    pairs::read(left, n, &mut *l);
+    flat::dc_2n(&*a, &*l, n, edge, &mut *pred);
+    pairs::store(&*pred, n * n / 2, &mut *out);
 }
 
-// The edge is a constant of each arm, too. The arrays of each arm keep the compiler from making one call of the four.
+// Without an edge the block is one value, of n samples of each row: it goes to the bytes straight away.
+fn dc_flat(above: &[u8], left: &[u8], n: usize, a: &mut [u16], l: &mut [u16], out: &mut [u8])
+    requires { ⌜ Fit n (length (now above)) (length (now left)) (length (now out)) × (n ≤ length (now a)) × (n ≤ length (now l)) ⌝ }
+    ensures { λ _. ⌜ now (out .exit) ≡ blockIn (dcIn false n (now (above .entry)) (now (left .entry))) n (now (out .entry)) ⌝ }
+{
+    pairs::read(above, n / 2, &mut *a);
+    pairs::read(left, n / 2, &mut *l);
+    let v = flat::dc_value(&*a, &*l, n);
+    pairs::flood(v, n * n, &mut *out);
+}
+
+// The edge is a constant of each arm, too. A small block is faster by way of a local one.
 fn dc_plain(n: usize, above: &[u8], left: &[u8], out: &mut [u8])
     requires { ⌜ Fit n (length (now above)) (length (now left)) (length (now out)) ⌝ }
     ensures { λ _. ⌜ now (out .exit) ≡ blockIn (dcIn false n (now (above .entry)) (now (left .entry))) n (now (out .entry)) ⌝ }
 {
     match n {
         4 => {
-            let mut a = [0u16; 4];
-            let mut l = [0u16; 4];
-            dc_by(above, left, 4, false, &mut a, &mut l, &mut *out);
-        }
-        8 => {
             let mut a = [0u16; 8];
             let mut l = [0u16; 8];
-            dc_by(above, left, 8, false, &mut a, &mut l, &mut *out);
+            let mut pred = [0u16; 16];
+            dc_by(above, left, 4, false, &mut a, &mut l, &mut pred, &mut *out);
+        }
+        8 => {
+            let mut a = [0u16; 16];
+            let mut l = [0u16; 16];
+            let mut pred = [0u16; 64];
+            dc_by(above, left, 8, false, &mut a, &mut l, &mut pred, &mut *out);
         }
         16 => {
             let mut a = [0u16; 16];
             let mut l = [0u16; 16];
-            dc_by(above, left, 16, false, &mut a, &mut l, &mut *out);
+            dc_flat(above, left, 16, &mut a, &mut l, &mut *out);
         }
         _ => {
             let mut a = [0u16; 32];
             let mut l = [0u16; 32];
-            dc_by(above, left, 32, false, &mut a, &mut l, &mut *out);
+            dc_flat(above, left, 32, &mut a, &mut l, &mut *out);
         }
     }
 }
 
+// At 32 there is no edge.
 fn dc_edged(n: usize, above: &[u8], left: &[u8], out: &mut [u8])
     requires { ⌜ Fit n (length (now above)) (length (now left)) (length (now out)) ⌝ }
     ensures { λ _. ⌜ now (out .exit) ≡ blockIn (dcIn true n (now (above .entry)) (now (left .entry))) n (now (out .entry)) ⌝ }
 {
     match n {
         4 => {
-            let mut a = [0u16; 4];
-            let mut l = [0u16; 4];
-            dc_by(above, left, 4, true, &mut a, &mut l, &mut *out);
-        }
-        8 => {
             let mut a = [0u16; 8];
             let mut l = [0u16; 8];
-            dc_by(above, left, 8, true, &mut a, &mut l, &mut *out);
+            let mut pred = [0u16; 16];
+            dc_by(above, left, 4, true, &mut a, &mut l, &mut pred, &mut *out);
         }
-        16 => {
+        8 => {
             let mut a = [0u16; 16];
             let mut l = [0u16; 16];
-            dc_by(above, left, 16, true, &mut a, &mut l, &mut *out);
+            let mut pred = [0u16; 64];
+            dc_by(above, left, 8, true, &mut a, &mut l, &mut pred, &mut *out);
+        }
+        16 => {
+            let mut a = [0u16; 32];
+            let mut l = [0u16; 32];
+            let mut pred = [0u16; 256];
+            dc_by(above, left, 16, true, &mut a, &mut l, &mut pred, &mut *out);
         }
         _ => {
             let mut a = [0u16; 32];
             let mut l = [0u16; 32];
-            dc_by(above, left, 32, true, &mut a, &mut l, &mut *out);
+            dc_flat(above, left, 32, &mut a, &mut l, &mut *out);
         }
     }
 }

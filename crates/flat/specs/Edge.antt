@@ -4,10 +4,10 @@ use mathlib.Core.Path.{_≡_, refl}
 use mathlib.Core.Bool.{Bool, true, false, cond, _&&_}
 use mathlib.Core.List.{List}
 use native.Mathlib.Omega.{arith}
-use lib.Dec.{leb, ltb, eqb}
-use lib.ListN.{length, getD, set}
+use lib.Dec.{ltb, eqb}
+use lib.ListN.{set}
 use borrow.Author.Tests.{lt-ltb, eqb-true}
-use Rattle.laws.specs.Fill.{fill, run, block}
+use Rattle.laws.specs.Fill.{run, block}
 use Rattle.laws.specs.FillLaws.{rows-same}
 use Rattle.h265.specs.Notation.{Neighbours}
 use Rattle.h265.specs.Dc.{dcVal, dc}
@@ -18,10 +18,6 @@ use Rattle.flat.specs.Stores.{heads, rows-put, run-rows, heads-rows}
 unfoldable pub edges : (ℕ → ℕ) → (ℕ → ℕ) → ℕ → ℕ → List ℕ → List ℕ
 edges above left v n d =
     set (heads (λ (y : ℕ). blended (left y) v) n n (run (λ (x : ℕ). blended (above x) v) 0 n d)) 0 (cornered (left 0) (above 0) v)
-
--- the edge along a line, where both lists have n entries
-unfoldable pub lineInto : ℕ → ℕ → List ℕ → List ℕ → List ℕ
-lineInto n v line d = cond (leb n (length line) && leb n (length d)) (fill (λ (x : ℕ). blended (getD line x 0) v) n d) d
 
 -- column 0 before row 0, but for the corner
 apart : (i j : Bool) (l t k v : ℕ) → (i ≡ true → j ≡ true → ⊥) → cond (i && true) l (cond (j && true) t v) ≡ cond i (cond j k l) (cond j t v)

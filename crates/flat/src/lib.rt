@@ -14,7 +14,7 @@ ghost use Rattle.numbers.specs.Numbers.{flatNo, flatShortNo};
 ghost use Rattle.flat.specs.Flat.{Ready, planarMix};
 ghost use Rattle.flat.specs.Text.{Total, valueOf};
 ghost use Rattle.flat.specs.Stores.{heads};
-ghost use Rattle.flat.specs.Edge.{edges, lineInto};
+ghost use Rattle.flat.specs.Edge.{edges};
 
 // Two samples by weights.
 fn mix(a: u32, x: u16, b: u32, y: u16) -> u32
@@ -187,15 +187,6 @@ fn blend_row(above: &[u16], dc: u16, n: usize, out: &mut [u16])
     }
 }
 
-// The edge along a line of n neighbours, but for the corner; nothing where a list is shorter.
-pub fn edge_line(line: &[u16], dc: u16, n: usize, out: &mut [u16])
-    ensures { λ _. ⌜ now (out .exit) ≡ lineInto n dc (now (line .entry)) (now (out .entry)) ⌝ }
-{
-    if (line.len() >= n) & (out.len() >= n) {
-        blend_row(line, dc, n, &mut *out);
-    }
-}
-
 fn edge_row(above: &[u16], dc: u16, n: usize, pred: &mut [u16])
     requires { ⌜ (n ≤ 32) × ((n ≤ length (now above)) × (n ≤ length (now pred))) ⌝ }
     ensures { λ _. ⌜ now (pred .exit) ≡ run (λ (x : ℕ). blended (getD (now (above .entry)) x 0) dc) 0 n (now (pred .entry)) ⌝ }
@@ -259,6 +250,18 @@ pub fn predict_dc_into(
     let no = numbers::flat_no(n, above.len(), left.len(), pred.len());
     if no == 0 {
         dc_block(above, left, n, filter_boundary, &mut *pred);
+    }
+    no
+}
+
+// DC from rows of 2n entries.
+pub fn dc_2n(above: &[u16], left: &[u16], n: usize, filter_boundary: bool, pred: &mut [u16]) -> u32
+    ensures { λ r. ⌜ (r ≡ flatShortNo n (length (now (above .entry))) (length (now (left .entry))) (length (now (pred .entry)))) × (now (pred .exit) ≡ served r (block (λ (y x : ℕ). dc «filter_boundary» n (fromRows 0 (now (above .entry)) (now (left .entry))) x y) n (now (pred .entry))) (now (pred .entry))) ⌝ }
+{
+    let no = numbers::flat_short_no(n, above.len(), left.len(), pred.len());
+    if no == 0 {
+        let all = total(above, left, n);
+        dc_n(above, left, all, n, filter_boundary, &mut *pred);
     }
     no
 }

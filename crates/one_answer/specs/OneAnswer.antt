@@ -127,9 +127,8 @@ use Rattle.walk_probes.proofs.salvrunde_probe_check_plan.Reads as walk-probes-s
 use Rattle.flat.proofs.predict_planar_into.Reads as flat-predict-planar-into
 use Rattle.flat.proofs.predict_dc_into.Reads as flat-predict-dc-into
 use Rattle.flat.proofs.planar_2n.Reads as flat-planar-2n
+use Rattle.flat.proofs.dc_2n.Reads as flat-dc-2n
 use Rattle.flat.proofs.dc_value.Reads as flat-dc-value
-use Rattle.flat.proofs.corner.Reads as flat-corner
-use Rattle.flat.proofs.edge_line.Reads as flat-edge-line
 use Rattle.angular.proofs.predict_angular_slices.Reads as angular-predict-angular-slices
 use Rattle.angular.proofs.angular_2n.Reads as angular-angular-2n
 use Rattle.predict.proofs.predict_chroma_tb_slices.Reads as predict-predict-chroma-tb-slices
@@ -160,7 +159,6 @@ use Rattle.walk_probes.proofs.salvrunde_probe_replay_records as walk-probes-sal
 use Rattle.pairs.proofs.read.Reads as pairs-read
 use Rattle.pairs.proofs.store.Reads as pairs-store
 use Rattle.pairs.proofs.flood.Reads as pairs-flood
-use Rattle.pairs.proofs.column.Reads as pairs-column
 use Rattle.byte_entry.proofs.flat_no.Reads as byte-entry-flat-no
 use Rattle.byte_entry.proofs.mode_no.Reads as byte-entry-mode-no
 use Rattle.byte_flat.proofs.planar.Reads as byte-flat-planar
@@ -541,14 +539,11 @@ flat-predict-dc-into-once κs a x y s t p q = by-number _ _ (p .0) (q .0) (p .1)
 flat-planar-2n-once : (κs : Lfts 3) → OnceLeft (λ s. now (s .1 .1 .1 .0)) (flat-planar-2n.Post κs)
 flat-planar-2n-once κs a x y s t p q = by-number _ _ (p .0) (q .0) (p .1) (q .1)
 
+flat-dc-2n-once : (κs : Lfts 3) → OnceLeft (λ s. now (s .1 .1 .1 .1 .0)) (flat-dc-2n.Post κs)
+flat-dc-2n-once κs a x y s t p q = by-number _ _ (p .0) (q .0) (p .1) (q .1)
+
 flat-dc-value-once : (κs : Lfts 2) → Once (flat-dc-value.Post κs)
 flat-dc-value-once κs a x y s t p q = p ∙ sym q
-
-flat-corner-once : Once (flat-corner.Post tt)
-flat-corner-once a x y s t p q = p ∙ sym q
-
-flat-edge-line-once : (κs : Lfts 2) → OnceLeft (λ s. now (s .1 .1 .1 .0)) (flat-edge-line.Post κs)
-flat-edge-line-once κs a x y s t p q = (refl, p ∙ sym q)
 
 -- angular
 angular-predict-angular-slices-once : (κs : Lfts 6) → OnceLeft (λ s. now (s .1 .1 .1 .1 .1 .1 .1 .0)) (angular-predict-angular-slices.Post κs)
@@ -652,9 +647,6 @@ pairs-store-once κs a x y s t p q = (refl, p ∙ sym q)
 
 pairs-flood-once : (κs : Lfts 1) → OnceLeft (λ s. now (s .1 .1 .0)) (pairs-flood.Post κs)
 pairs-flood-once κs a x y s t p q = (refl, p ∙ sym q)
-
-pairs-column-once : (κs : Lfts 2) → OnceLeft (λ s. now (s .1 .1 .0)) (pairs-column.Post κs)
-pairs-column-once κs a x y s t p q = (refl, p ∙ sym q)
 
 -- byte_entry
 byte-entry-flat-no-once : Once (byte-entry-flat-no.Post tt)

@@ -1,6 +1,6 @@
 -- Samples of two bytes, the lower first: what a list holds after they were read into it, or a buffer after they were stored.
 -- A count is one of pairs of samples. Where a list is too short for it, nothing is written. Assumes nothing.
-use Prim.Native.Nat.{ℕ, zero, suc, _+_, _*_, _%_}
+use Prim.Native.Nat.{ℕ, _+_, _*_, _%_}
 use mathlib.Core.Bool.{Bool, cond, _&&_}
 use mathlib.Core.List.{List}
 use lib.Dec.{leb}
@@ -29,12 +29,3 @@ floodInto v count d = within 1024 count (leb (2 * count) (length d)) (fill (byte
 -- sample i of a buffer
 abbrev pub put : ℕ → ℕ → List ℕ → List ℕ
 put i v d = set (set d (2 * i) (v % 256)) (2 * i + 1) (byte1 v)
-
--- k samples that stand n apart, from the first on
-unfoldable pub apartIn : (ℕ → ℕ) → ℕ → ℕ → List ℕ → List ℕ
-apartIn h n zero d = d
-apartIn h n (suc k) d = put (k * n) (h k) (apartIn h n k d)
-
--- the first column of a block of side n
-unfoldable pub columnInto : ℕ → List ℕ → List ℕ → List ℕ
-columnInto n samples d = within 32 n (leb n (length samples) && leb (2 * (n * n)) (length d)) (apartIn (λ i. getD samples i 0) n n d) d

@@ -1,5 +1,5 @@
 -- Bytes that stand for a list of samples, and what stores into them make of it; and the works that are done, where their lists are long enough. Assumes nothing.
-use Prim.Native.Nat.{ℕ, zero, suc, _+_, _*_, _/_, _%_, _^_, _≤_, _<_}
+use Prim.Native.Nat.{ℕ, _+_, _*_, _/_, _%_, _^_, _≤_, _<_}
 use mathlib.Core.Path.{_≡_, refl, sym, ap, _∙_}
 use mathlib.Core.Bool.{Bool, true, _&&_}
 use mathlib.Core.List.{List}
@@ -12,13 +12,13 @@ use Rattle.laws.specs.Fill.{fill}
 use Rattle.laws.specs.FillLaws.{fill-more}
 use Rattle.laws.specs.Bytes.{byteOf, byte-at}
 use Rattle.bytes.specs.Bytes.{byte1, samplesOf}
-use Rattle.pairs.specs.Into.{within, readInto, storeInto, floodInto, columnInto, put, apartIn}
+use Rattle.pairs.specs.Into.{within, readInto, storeInto, floodInto, put}
 
 -- both bytes of a sample
-pub byte-low : (f : ℕ → ℕ) (i : ℕ) → f i % 256 ≡ byteOf 2 f (2 * i)
+byte-low : (f : ℕ → ℕ) (i : ℕ) → f i % 256 ≡ byteOf 2 f (2 * i)
 byte-low f i = ap (λ (x : ℕ). x % 256) (sym (div-one (f i))) ∙ byte-at 2 f i 0 (omega arith) ∙ ap (byteOf 2 f) (let e : i * 2 + 0 ≡ 2 * i = omega arith in e)
 
-pub byte-high : (f : ℕ → ℕ) (i : ℕ) → byte1 (f i) ≡ byteOf 2 f (2 * i + 1)
+byte-high : (f : ℕ → ℕ) (i : ℕ) → byte1 (f i) ≡ byteOf 2 f (2 * i + 1)
 byte-high f i = byte-at 2 f i 1 (omega arith) ∙ ap (byteOf 2 f) (let e : i * 2 + 1 ≡ 2 * i + 1 = omega arith in e)
 
 -- one sample more
@@ -26,18 +26,6 @@ pub sample-more : (f : ℕ → ℕ) (d : List ℕ) (i : ℕ) {e : List ℕ} {v :
 sample-more f d i p q =
     fill-more (byteOf 2 f) d (fill-more (byteOf 2 f) d p (ap (λ (x : ℕ). x % 256) q ∙ byte-low f i)) (ap byte1 q ∙ byte-high f i)
     ∙ ap (λ (k : ℕ). fill (byteOf 2 f) k d) (let e : 2 * i + 1 + 1 ≡ 2 * (i + 1) = omega arith in e)
-
--- the column, as a loop makes it
-pub apart-none : (h : ℕ → ℕ) (n : ℕ) (d : List ℕ) → d ≡ apartIn h n 0 d
-unfolding apartIn
-apart-none h n d = refl
-
-pub apart-more : (h : ℕ → ℕ) (n : ℕ) (d : List ℕ) {i : ℕ} {e : List ℕ} {v : ℕ} → e ≡ apartIn h n i d → v ≡ h i → put (i * n) v e ≡ apartIn h n (i + 1) d
-unfolding apartIn
-apart-more h n d {i} {e} {v} p q = ap (λ (l : List ℕ). put (i * n) v l) p ∙ ap (λ (w : ℕ). put (i * n) w (apartIn h n i d)) q ∙ ap (λ (m : ℕ). apartIn h n m d) (let w : suc i ≡ i + 1 = omega arith in w)
-
-pub apart-done : (h : ℕ → ℕ) (n : ℕ) (d : List ℕ) {i k : ℕ} {e : List ℕ} → i ≤ k → k ≤ i → e ≡ apartIn h n i d → e ≡ apartIn h n k d
-apart-done h n d {i} {k} p q r = r ∙ ap (λ (m : ℕ). apartIn h n m d) (omega arith)
 
 -- where all is long enough
 enough : (m count : ℕ) (long : Bool) (work kept : List ℕ) → count ≤ m → long ≡ true → within m count long work kept ≡ work
@@ -55,7 +43,3 @@ store-done count samples d h p q = enough 512 count (leb (2 * count) (length sam
 pub flood-done : (v count : ℕ) (d : List ℕ) → count ≤ 1024 → 2 * count ≤ length d → floodInto v count d ≡ fill (byteOf 2 (λ i. v)) (2 * count) d
 unfolding floodInto
 flood-done v count d h p = enough 1024 count _ _ _ h (le-leb (2 * count) (length d) p)
-
-pub column-done : (n : ℕ) (samples d : List ℕ) → n ≤ 32 → n ≤ length samples → 2 * (n * n) ≤ length d → columnInto n samples d ≡ apartIn (λ i. getD samples i 0) n n d
-unfolding columnInto
-column-done n samples d h p q = enough 32 n (leb n (length samples) && leb (2 * (n * n)) (length d)) _ _ h (rw (le-leb n (length samples) p, le-leb (2 * (n * n)) (length d) q))

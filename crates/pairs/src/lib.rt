@@ -8,7 +8,7 @@ ghost use Rattle.laws.specs.Bytes.{byteOf};
 ghost use Rattle.bytes.specs.Bytes.{byte1, byte2, byte3, samplesOf};
 ghost use Rattle.bytes.specs.Laws.{AreBytes};
 ghost use Rattle.pairs.specs.Words.{Below, pairOf, Paired, halfOf};
-ghost use Rattle.pairs.specs.Into.{readInto, storeInto, floodInto, columnInto, put, apartIn};
+ghost use Rattle.pairs.specs.Into.{readInto, storeInto, floodInto, put};
 
 // A byte as a wider number, and that it is one.
 fn byte_at(row: &[u8], k: usize) -> u32
@@ -161,26 +161,5 @@ pub fn flood(v: u16, count: usize, out: &mut [u8])
     }
     if out.len() >= 2 * count {
         flood_all(v, count, &mut *out);
-    }
-}
-
-fn column_all(samples: &[u16], n: usize, out: &mut [u8])
-    requires { ⌜ (n ≤ 32) × ((n ≤ length (now samples)) × (2 * (n * n) ≤ length (now out))) ⌝ }
-    ensures { λ _. ⌜ now (out .exit) ≡ apartIn (λ (i : ℕ). getD (now (samples .entry)) i 0) n n (now (out .entry)) ⌝ }
-{
-    for row in 0..n {
-        put_sample(&mut *out, row * n, samples[row]);
-    }
-}
-
-// The first n samples of a list, as the first column of a block of side n, at most 32.
-pub fn column(samples: &[u16], n: usize, out: &mut [u8])
-    ensures { λ _. ⌜ now (out .exit) ≡ columnInto n (now (samples .entry)) (now (out .entry)) ⌝ }
-{
-    if n > 32 {
-        return;
-    }
-    if (samples.len() >= n) & (out.len() >= 2 * (n * n)) {
-        column_all(samples, n, &mut *out);
     }
 }

@@ -1,23 +1,31 @@
--- The value everywhere, and the edge over it where there is one. Assumes nothing.
-use mathlib.Core.Path.{_∙_}
-use mathlib.Core.Bool.{true}
+-- Both rows are read, the block predicted into the buffer and stored. Assumes nothing.
+use mathlib.Core.List.{List}
+use Prim.Native.Nat.{ℕ}
 use native.Mathlib.Omega.{arith}
-use lib.Dec.{ltb}
-use Rattle.laws.specs.Choose.{both-true}
-use Rattle.domain.specs.Facts.{size-of, size-small}
-use Rattle.byte_flat.specs.Dc.{plain, as-read}
+use lib.ListN.{length}
+use Rattle.h265.specs.Notation.{fromRows}
+use Rattle.h265.specs.Dc.{dc}
+use Rattle.numbers.specs.Numbers.{flatShortNo}
+use Rattle.byte_flat.specs.Blocks.{predicted, flat-serves}
+use Rattle.byte_flat.specs.Dc.{dc-alike}
 use borrow.Author.Needs.{needs}
 use Rattle.byte_flat.proofs.dc_by.Statement.{statement}
 use Rattle.byte_flat.proofs.dc_by.Tie as tie
 
-dc-flat-requires : tie.Need-dc-flat-requires
-dc-flat-requires c κs = search needs
+read-requires : tie.Need-read-requires
+read-requires c κs = search needs
 
-dc-edge-requires : tie.Need-dc-edge-requires
-dc-edge-requires c κs =
-    let a = c .before .before .before .before .before .before .before .before .before .before .before .before .before .before .before .before .before .before .before .args in
-    let f = c .before .before .before .before .before .before .before .before .before .before .before .before .before .before .before .before .before .before .before .pre in
-    (size-of (a .n) (f .0 .size), both-true (a .edge) (ltb (a .n) 32) (c .before .before .before .if1 .taken) .1, c .before .before .before .before .before .before .before .before .before .before .dc-flat .ensures .2, search needs, search needs, search needs)
+read-requires-2 : tie.Need-read-requires-2
+read-requires-2 c κs = search needs
+
+dc-2n-requires : tie.Need-dc-2n-requires
+dc-2n-requires c κs = search needs
+
+mul-store : tie.Need-mul-store
+mul-store c = omega (arith, c .before .before .before .before .before .before .before .before .before .before .before .before .before .before .before .before .before .before .before .before .before .pre .0 .few)
+
+store-requires : tie.Need-store-requires
+store-requires c κs = search needs
 
 same-length : tie.Need-same-length
 same-length c = search needs
@@ -28,42 +36,27 @@ same-length-2 c = search needs
 same-length-3 : tie.Need-same-length-3
 same-length-3 c = search needs
 
-returns : tie.Need-returns
-returns c =
-    let a = c .before .before .before .before .before .before .before .before .before .before .before .before .before .before .before .before .before .before .before .before .before .before .args in
-    let f = c .before .before .before .before .before .before .before .before .before .before .before .before .before .before .before .before .before .before .before .before .before .before .pre in
-    let r = c .before .before .before .before .before .before .before .before .before .before .before .before .before .dc-flat .ensures in
-    let e = both-true (a .edge) (ltb (a .n) 32) (c .before .before .before .before .before .before .if1 .taken) .0 in
-    c .before .before .dc-edge .ensures (a .out .now) (r .3) ∙ rw e (as-read true (a .n) (a .above .now) (a .left .now) (a .out .now) (a .a .now) (a .l .now) (size-of (a .n) (f .0 .size)) (f .0 .above-long) (f .0 .left-long) (f .1) (f .2) (r .0) (r .1))
-
 same-length-4 : tie.Need-same-length-4
 same-length-4 c = search needs
 
-same-length-5 : tie.Need-same-length-5
-same-length-5 c = search needs
-
-same-length-6 : tie.Need-same-length-6
-same-length-6 c = search needs
-
-returns-2 : tie.Need-returns-2
-returns-2 c =
-    let a = c .before .before .before .before .before .before .before .before .before .before .before .before .before .before .before .before .args in
-    let f = c .before .before .before .before .before .before .before .before .before .before .before .before .before .before .before .before .pre in
-    let r = c .before .before .before .before .before .before .before .dc-flat .ensures in
-    let m = size-small (a .n) (size-of (a .n) (f .0 .size)) in
-    r .3 ∙ plain (a .edge) (a .n) _ _ (a .out .now) (omega arith) (r .2) (c .if1 .left) ∙ as-read (a .edge) (a .n) (a .above .now) (a .left .now) (a .out .now) (a .a .now) (a .l .now) (size-of (a .n) (f .0 .size)) (f .0 .above-long) (f .0 .left-long) (f .1) (f .2) (r .0) (r .1)
+returns : tie.Need-returns
+returns c =
+    let a = c .before .before .before .before .before .before .before .before .before .before .before .before .before .before .before .before .before .before .before .before .before .before .before .before .before .args in
+    let f = c .before .before .before .before .before .before .before .before .before .before .before .before .before .before .before .before .before .before .before .before .before .before .before .before .before .pre in
+    let p = c .before .before .before .before .before .before .before .dc-2n .ensures in
+    predicted (λ (u v : List ℕ) (y x : ℕ). dc (a .edge) (a .n) (fromRows 0 u v) x y) (a .n) (a .above .now) (a .left .now) (a .a .now) (a .l .now) (a .pred .now) (a .out .now) (f .0) (dc-alike (a .n) (f .0 .size) (a .edge)) (f .1) (f .2) (f .3) (λ (x y : ℕ). flatShortNo (a .n) x y (length (a .pred .now))) (λ x y hx hy. flat-serves (a .n) x y _ (f .0 .size) hx hy (f .3)) (c .before .before .before .before .before .before .before .before .before .before .before .before .before .before .before .before .before .read .ensures) (c .before .before .before .before .before .before .before .before .before .before .before .before .before .read2 .ensures) (p .0) (p .1) (c .before .before .store .ensures)
 
 pub dc-by-spec : {M : Type 1} → statement M
 dc-by-spec =
     tie.close
     (tie.spec
-    dc-flat-requires
-    dc-edge-requires
+    read-requires
+    read-requires-2
+    dc-2n-requires
+    mul-store
+    store-requires
     same-length
     same-length-2
     same-length-3
-    returns
     same-length-4
-    same-length-5
-    same-length-6
-    returns-2)
+    returns)

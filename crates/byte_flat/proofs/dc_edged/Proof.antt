@@ -1,8 +1,9 @@
--- An arm for each side. Assumes nothing.
-use mathlib.Core.Path.{_≡_}
+-- An arm for each side; at 32 there is no edge. Assumes nothing.
+use mathlib.Core.Path.{_≡_, _∙_}
 use Rattle.domain.specs.Facts.{size-of}
 use Rattle.flat.specs.Flat.{last-size}
 use Rattle.byte_entry.specs.Checks.{as-found}
+use Rattle.byte_flat.specs.Dc.{no-edge}
 use borrow.Author.Needs.{needs}
 use Rattle.byte_flat.proofs.dc_edged.Statement.{statement}
 use Rattle.byte_flat.proofs.dc_edged.Tie as tie
@@ -17,17 +18,14 @@ slice-aggregate-dc-by c = search needs
 slice-aggregate-dc-by-2 : tie.Need-slice-aggregate-dc-by-2
 slice-aggregate-dc-by-2 c = search needs
 
-dc-by-requires : tie.Need-dc-by-requires
-dc-by-requires c κs = (as-found _ _ _ _ _ (c .before .before .before .match .keys1) (c .before .before .before .before .before .before .before .pre), search needs, search needs)
-
 slice-aggregate-dc-by-3 : tie.Need-slice-aggregate-dc-by-3
 slice-aggregate-dc-by-3 c = search needs
 
+dc-by-requires : tie.Need-dc-by-requires
+dc-by-requires c κs = (as-found _ _ _ _ _ (c .before .before .before .before .match .keys1) (c .before .before .before .before .before .before .before .before .pre), search needs, search needs, search needs)
+
 slice-aggregate-dc-by-4 : tie.Need-slice-aggregate-dc-by-4
 slice-aggregate-dc-by-4 c = search needs
-
-dc-by-requires-2 : tie.Need-dc-by-requires-2
-dc-by-requires-2 c κs = (as-found _ _ _ _ _ (c .before .before .before .match .keys2) (c .before .before .before .before .before .before .before .pre), search needs, search needs)
 
 slice-aggregate-dc-by-5 : tie.Need-slice-aggregate-dc-by-5
 slice-aggregate-dc-by-5 c = search needs
@@ -35,8 +33,8 @@ slice-aggregate-dc-by-5 c = search needs
 slice-aggregate-dc-by-6 : tie.Need-slice-aggregate-dc-by-6
 slice-aggregate-dc-by-6 c = search needs
 
-dc-by-requires-3 : tie.Need-dc-by-requires-3
-dc-by-requires-3 c κs = (as-found _ _ _ _ _ (c .before .before .before .match .keys3) (c .before .before .before .before .before .before .before .pre), search needs, search needs)
+dc-by-requires-2 : tie.Need-dc-by-requires-2
+dc-by-requires-2 c κs = (as-found _ _ _ _ _ (c .before .before .before .before .match .keys2) (c .before .before .before .before .before .before .before .before .pre), search needs, search needs, search needs)
 
 slice-aggregate-dc-by-7 : tie.Need-slice-aggregate-dc-by-7
 slice-aggregate-dc-by-7 c = search needs
@@ -44,32 +42,44 @@ slice-aggregate-dc-by-7 c = search needs
 slice-aggregate-dc-by-8 : tie.Need-slice-aggregate-dc-by-8
 slice-aggregate-dc-by-8 c = search needs
 
-dc-by-requires-4 : tie.Need-dc-by-requires-4
-dc-by-requires-4 c κs = (as-found _ _ _ _ _ (key (c .before .before .before)) (c .before .before .before .before .before .before .before .pre), search needs, search needs)
+slice-aggregate-dc-by-9 : tie.Need-slice-aggregate-dc-by-9
+slice-aggregate-dc-by-9 c = search needs
+
+dc-by-requires-3 : tie.Need-dc-by-requires-3
+dc-by-requires-3 c κs = (as-found _ _ _ _ _ (c .before .before .before .before .match .keys3) (c .before .before .before .before .before .before .before .before .pre), search needs, search needs, search needs)
+
+slice-aggregate-dc-flat : tie.Need-slice-aggregate-dc-flat
+slice-aggregate-dc-flat c = search needs
+
+slice-aggregate-dc-flat-2 : tie.Need-slice-aggregate-dc-flat-2
+slice-aggregate-dc-flat-2 c = search needs
+
+dc-flat-requires : tie.Need-dc-flat-requires
+dc-flat-requires c κs = (as-found _ _ _ _ _ (key (c .before .before .before)) (c .before .before .before .before .before .before .before .pre), search needs, search needs)
 
 same-length : tie.Need-same-length
 same-length c = search needs
 
 returns : tie.Need-returns
-returns c = rw (c .before .before .before .before .before .before .before .before .match .keys1) (c .before .before .before .before .dc-by .ensures)
+returns c = rw (c .before .before .before .before .before .before .before .before .before .before .match .keys1) (c .before .before .before .before .before .dc-by .ensures)
 
 same-length-2 : tie.Need-same-length-2
 same-length-2 c = search needs
 
 returns-2 : tie.Need-returns-2
-returns-2 c = rw (c .before .before .before .before .before .before .before .before .match .keys2) (c .before .before .before .before .dc-by2 .ensures)
+returns-2 c = rw (c .before .before .before .before .before .before .before .before .before .before .match .keys2) (c .before .before .before .before .before .dc-by2 .ensures)
 
 same-length-3 : tie.Need-same-length-3
 same-length-3 c = search needs
 
 returns-3 : tie.Need-returns-3
-returns-3 c = rw (c .before .before .before .before .before .before .before .before .match .keys3) (c .before .before .before .before .dc-by3 .ensures)
+returns-3 c = rw (c .before .before .before .before .before .before .before .before .before .before .match .keys3) (c .before .before .before .before .before .dc-by3 .ensures)
 
 same-length-4 : tie.Need-same-length-4
 same-length-4 c = search needs
 
 returns-4 : tie.Need-returns-4
-returns-4 c = rw (key (c .before .before .before .before .before .before .before .before)) (c .before .before .before .before .dc-by4 .ensures)
+returns-4 c = rw (key (c .before .before .before .before .before .before .before .before)) (c .before .before .before .before .dc-flat .ensures ∙ no-edge _ _ _)
 
 pub dc-edged-spec : {M : Type 1} → statement M
 dc-edged-spec =
@@ -77,16 +87,19 @@ dc-edged-spec =
     (tie.spec
     slice-aggregate-dc-by
     slice-aggregate-dc-by-2
-    dc-by-requires
     slice-aggregate-dc-by-3
+    dc-by-requires
     slice-aggregate-dc-by-4
-    dc-by-requires-2
     slice-aggregate-dc-by-5
     slice-aggregate-dc-by-6
-    dc-by-requires-3
+    dc-by-requires-2
     slice-aggregate-dc-by-7
     slice-aggregate-dc-by-8
-    dc-by-requires-4
+    slice-aggregate-dc-by-9
+    dc-by-requires-3
+    slice-aggregate-dc-flat
+    slice-aggregate-dc-flat-2
+    dc-flat-requires
     same-length
     returns
     same-length-2
