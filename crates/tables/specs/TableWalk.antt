@@ -36,8 +36,8 @@ use Rattle.walk.specs.declared.Stepped.{Stepped}
 use Rattle.still.specs.Checks.{largestOf, every, whole, Tables, roomy}
 use Rattle.coded.specs.Block.{World}
 use Rattle.walk.specs.Door.{doing, verdictOf, steppedBy, replayVerdict, walkVerdict}
-use Rattle.promises.specs.Exact.{Row, _when_, _or_, First, ExactFirst, FirstBy, Tells, first-exact, first-test, first-row, all-of, at-most, same}
-use Rattle.promises.specs.Table.{BadPicture, BadPlace, depth, picture, placed}
+use Rattle.tables.specs.Exact.{Row, _when_, _or_, First, ExactFirst, FirstBy, Tells, first-exact, first-test, first-row, all-of, at-most, same}
+use Rattle.tables.specs.Table.{BadPicture, BadPlace, depth, picture, placed}
 
 -- number n, about block k of the list
 abbrev pub about : ℕ → ℕ → Verdict

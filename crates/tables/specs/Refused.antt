@@ -39,7 +39,7 @@ use Rattle.walk.specs.Door.{steppedBy, replayVerdict, replayAfter, walkVerdict,
 use Rattle.byte_answer.specs.Door.{Lent, byteVerdict, answered}
 use Rattle.byte_replay.specs.Door.{planeAfter, resultAfter}
 use Rattle.byte_entry.specs.Entries.{entry}
-use Rattle.promises.specs.Exact.{number-in}
+use Rattle.tables.specs.Exact.{number-in}
 
 -- what a call with a number gives, or leaves behind
 pub kept : {A : Type 0} (k : ℕ) (work given : A) → ¬ (k ≡ 0) → served k work given ≡ given

@@ -56,7 +56,7 @@ use Rattle.smooth.specs.Smoothing.{ruleDoor, filterNo, filterDoor}
 use Rattle.numbers.specs.Numbers.{flatNo, Lent, enough, angularNo, predictNo}
 use Rattle.scratch.specs.Lent.{withScratch}
 use Rattle.residual.specs.Residual.{inRange, allInRange, residualNo, reconstructNo}
-use Rattle.promises.specs.Exact.{Row, _when_, _or_, Exact, Tells, exact-none, exact-row, exact-answer, all-of, and-more, at-most, less, same, fact}
+use Rattle.tables.specs.Exact.{Row, _when_, _or_, Exact, Tells, exact-none, exact-row, exact-answer, all-of, and-more, at-most, less, same, fact}
 
 -- number 4: a side or the CTU outside the domain
 abbrev pub BadPicture : Picture → Type 0
