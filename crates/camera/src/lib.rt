@@ -45,6 +45,15 @@ fn store(from: &[u16], count: usize, out: &mut [u8], at: usize)
     }
 }
 
+// Stores the 65 samples of a row: 64 of them are 128 bytes, a copy that the compiler makes in place, then the last.
+fn store_row(from: &[u16], out: &mut [u8], at: usize)
+    requires { ⌜ (65 ≤ length (now from)) × (2 * (at + 65) ≤ length (now out)) ⌝ }
+    ensures { λ _. ⌜ now (out .exit) ≡ run (sampleByte (now (from .entry))) (2 * at) (2 * 65) (now (out .entry)) ⌝ }
+{
+    store(from, 64, &mut *out, at);
+    put(&mut *out, at + 64, from[64]);
+}
+
 // Stores the corner, the row above and the left column.
 fn store_rows(rows: Rows, out: &mut [u8], at: usize)
     requires { ⌜ 2 * (at + 131) ≤ length (now out) ⌝ }
@@ -53,8 +62,8 @@ fn store_rows(rows: Rows, out: &mut [u8], at: usize)
     let above = rows.above;
     let left = rows.left;
     put(&mut *out, at, rows.corner);
-    store(&above, 65, &mut *out, at + 1);
-    store(&left, 65, &mut *out, at + 66);
+    store_row(&above, &mut *out, at + 1);
+    store_row(&left, &mut *out, at + 66);
 }
 
 // A gather's number where its buffer may be short: 5 comes before 6 and 0, and after the others.

@@ -10,40 +10,40 @@ use Rattle.camera.proofs.store_rows.Tie as tie
 put-requires : tie.Need-put-requires
 put-requires c κs = search needs
 
-slice-aggregate-store : tie.Need-slice-aggregate-store
-slice-aggregate-store c = search needs
+slice-aggregate-store-row : tie.Need-slice-aggregate-store-row
+slice-aggregate-store-row c = search needs
 
-add-store : tie.Need-add-store
-add-store c = search needs
+add-store-row : tie.Need-add-store-row
+add-store-row c = search needs
 
-store-requires : tie.Need-store-requires
-store-requires c κs = let up : length (c .before .before .before .before .before .before .before .before .before .args .rows .above) ≡ 65 = search needs in (omega (arith, up), omega (arith, c .before .before .before .before .put .kept .0))
+store-row-requires : tie.Need-store-row-requires
+store-row-requires c κs = let up : length (c .before .before .before .before .before .before .before .before .before .args .rows .above) ≡ 65 = search needs in (omega (arith, up), omega (arith, c .before .before .before .before .put .kept .0))
 
-slice-aggregate-store-2 : tie.Need-slice-aggregate-store-2
-slice-aggregate-store-2 c = search needs
+slice-aggregate-store-row-2 : tie.Need-slice-aggregate-store-row-2
+slice-aggregate-store-row-2 c = search needs
 
-add-store-2 : tie.Need-add-store-2
-add-store-2 c = search needs
+add-store-row-2 : tie.Need-add-store-row-2
+add-store-row-2 c = search needs
 
-store-requires-2 : tie.Need-store-requires-2
-store-requires-2 c κs = let up : length (c .before .before .before .before .before .before .before .before .before .before .before .before .before .before .args .rows .left) ≡ 65 = search needs in (omega (arith, up), omega (arith, c .before .before .before .before .before .before .before .before .before .put .kept .0, c .before .before .before .before .store .kept .1 .1 .0))
+store-row-requires-2 : tie.Need-store-row-requires-2
+store-row-requires-2 c κs = let up : length (c .before .before .before .before .before .before .before .before .before .before .before .before .before .before .args .rows .left) ≡ 65 = search needs in (omega (arith, up), omega (arith, c .before .before .before .before .before .before .before .before .before .put .kept .0, c .before .before .before .before .store-row .kept .1 .0))
 
 same-length : tie.Need-same-length
 same-length c = search needs
 
 returns : tie.Need-returns
-returns c = let a = c .before .before .before .before .before .before .before .before .before .before .before .before .before .before .before .before .before .args in rows-stored (a .rows) (a .at) (a .out .now) (search needs) (c .before .before .before .before .before .before .before .before .before .before .before .before .put .ensures) (c .before .before .before .before .before .before .before .store .ensures) (c .before .before .store2 .ensures)
+returns c = let a = c .before .before .before .before .before .before .before .before .before .before .before .before .before .before .before .before .before .args in rows-stored (a .rows) (a .at) (a .out .now) (search needs) (c .before .before .before .before .before .before .before .before .before .before .before .before .put .ensures) (c .before .before .before .before .before .before .before .store-row .ensures) (c .before .before .store-row2 .ensures)
 
 pub store-rows-spec : {M : Type 1} → statement M
 store-rows-spec =
     tie.close
     (tie.spec
     put-requires
-    slice-aggregate-store
-    add-store
-    store-requires
-    slice-aggregate-store-2
-    add-store-2
-    store-requires-2
+    slice-aggregate-store-row
+    add-store-row
+    store-row-requires
+    slice-aggregate-store-row-2
+    add-store-row-2
+    store-row-requires-2
     same-length
     returns)
