@@ -5,6 +5,7 @@ use Prim.Native.Nat.{ℕ, _+_, _-_, _*_, _/_, _≤_, _<_}
 use native.Mathlib.Nat.{mul-le-mul-left, add-mul}
 use native.Mathlib.Omega.{arith}
 use lib.ListN.{getD}
+use Rattle.lines.specs.Starts.{lineStart, firstOf}
 use Rattle.taps.specs.Taps.{interpOf}
 use Rattle.angular.specs.Unsigned.{startOf, fractionOf}
 
@@ -15,16 +16,8 @@ turns = 0 ∷ 6 ∷ 11 ∷ 15 ∷ 19 ∷ 23 ∷ 27 ∷ 30 ∷ 32 ∷ 34 ∷ 37 �
 abbrev pub bends : List ℕ
 bends = 256 ∷ 315 ∷ 390 ∷ 482 ∷ 630 ∷ 910 ∷ 1638 ∷ 4096 ∷ []
 
--- where row r of an angle starts in a row of references whose entry b is ref[1]
-abbrev pub lineStart : ℕ → ℕ → ℕ → ℕ
-lineStart b e r = b + (r + 1) * e / 32 - (r + 1)
-
 abbrev pub lineAt : List ℕ → ℕ → ℕ → ℕ → ℕ → ℕ
 lineAt refs b e r c = interpOf (fractionOf e r) (getD refs (lineStart b e r + c) 0) (getD refs (lineStart b e r + c + 1) 0)
-
--- the first reference that a negative angle uses
-abbrev pub firstOf : ℕ → ℕ → ℕ
-firstOf e n = 65 + n * e / 32 - n
 
 -- a negative angle's rows start at it or later, and at the corner or before
 pub first-le : (e n r : ℕ) → e < 32 → r < n → (firstOf e n ≤ startOf e r) × (startOf e r ≤ 64)

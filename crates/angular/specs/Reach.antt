@@ -13,11 +13,11 @@ use Rattle.domain.specs.Facts.{Size, at-size}
 use Rattle.h265.specs.Notation.{Neighbours}
 use Rattle.taps.specs.Taps.{interpOf}
 use Rattle.angular.specs.Unsigned.{fractionOf, sideOf, refAt}
-use Rattle.angular.specs.Lines.{lineStart, firstOf}
+use Rattle.lines.specs.Starts.{lineStart, firstOf}
 use Rattle.angular.specs.Grid.{column}
 
 -- a row starts at an entry
-pub reach : (b e r : ℕ) → 32 ≤ b + e → r < 32 → r + 1 ≤ b + (r + 1) * e / 32
+reach : (b e r : ℕ) → 32 ≤ b + e → r < 32 → r + 1 ≤ b + (r + 1) * e / 32
 reach b e r h l =
     let x : (r + 1) * 32 ≤ (r + 1) * (b + e) = mul-le-mul-left (r + 1) h in
     let y : (r + 1) * (b + e) ≡ (r + 1) * b + (r + 1) * e = mul-add (r + 1) b e in

@@ -11,7 +11,8 @@ use borrow.Author.Tests.{le-ltb}
 use Rattle.laws.specs.Table.{at}
 use Rattle.domain.specs.Facts.{Size, at-size}
 use Rattle.angular.specs.Unsigned.{angles, inverses, sideOf}
-use Rattle.angular.specs.Lines.{turns, bends, firstOf}
+use Rattle.lines.specs.Starts.{firstOf}
+use Rattle.angular.specs.Lines.{turns, bends}
 
 pub turn-angle : (mode : ℕ) → 2 ≤ mode → mode < 35 → getD turns (mode - 18 + (18 - mode)) 0 ≡ getD angles mode 0
 turn-angle mode l h =

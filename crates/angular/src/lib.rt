@@ -1,4 +1,5 @@
-// Angular prediction, modes 2 to 34, as H.265 8.4.4.2.6 has it. Rests on the standard's definitions, on the doors' numbers and on the arithmetic of one sample (taps).
+// Angular prediction, modes 2 to 34, as H.265 8.4.4.2.6 has it. Rests on the standard's definitions, on the doors' numbers, on where lines start
+// and on the arithmetic of one sample (taps).
 // An angle stands as the angle plus 32 (`e`), and ref[i] at entry 64 + i of the scratch, so that no number is below 0.
 ghost use mathlib.Core.Path.{_≡_};
 ghost use Prim.Native.Nat.{ℕ, _+_, _-_, _*_, _/_, _%_, _≤_, _<_};
@@ -12,7 +13,8 @@ ghost use Rattle.domain.specs.Facts.{Depth, Size};
 ghost use Rattle.taps.specs.Taps.{interpOf, edgeOf};
 ghost use Rattle.numbers.specs.Numbers.{angularNo, angularShortNo};
 ghost use Rattle.angular.specs.Unsigned.{fractionOf, sideOf, refAt, sampleAt, angularAt};
-ghost use Rattle.angular.specs.Lines.{turns, bends, lineStart, lineAt, firstOf, Reads};
+ghost use Rattle.lines.specs.Starts.{lineStart, firstOf};
+ghost use Rattle.angular.specs.Lines.{turns, bends, lineAt, Reads};
 ghost use Rattle.angular.specs.Grid.{column};
 
 // Where row r of an angle starts in a row of references whose entry b is ref[1], and its fraction.
@@ -20,7 +22,7 @@ fn start(b: usize, e: usize, r: usize) -> usize
     requires { ⌜ (e ≤ 64) × ((32 ≤ b + e) × ((b ≤ 128) × (r < 32))) ⌝ }
     ensures { λ s. ⌜ s ≡ lineStart b e r ⌝ }
 {
-    b + (r + 1) * e / 32 - (r + 1)
+    lines::start(b as u32, e as u32, r as u32)
 }
 
 fn fraction(e: usize, r: usize) -> u32
@@ -294,7 +296,7 @@ fn build(corner: u16, main: &[u16], side: &[u16], e: usize, inv: usize, n: usize
     requires { ⌜ (e < 32) × ((sideOf inv (firstOf e n) ≤ 2 * n) × (Size n × ((2 * n ≤ length (now main)) × ((2 * n ≤ length (now side)) × (129 ≤ length (now refs)))))) ⌝ }
     ensures { λ _. ⌜ now (refs .exit) ≡ run (λ (i : ℕ). refAt (fromRows corner (now (main .entry)) (now (side .entry))) inv (firstOf e n + i)) (firstOf e n) (65 + n - firstOf e n) (now (refs .entry)) ⌝ }
 {
-    let lo = 65 + n * e / 32 - n;
+    let lo = lines::first(e as u32, n as u32);
     lowers(corner, side, inv, lo, 65 - lo, &mut *refs);
     main_refs(main, n, &mut *refs);
 }

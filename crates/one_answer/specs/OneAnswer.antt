@@ -38,6 +38,8 @@ use Rattle.taps.proofs.edge.Reads as taps-edge
 use Rattle.taps.proofs.filtered.Reads as taps-filtered
 use Rattle.taps.proofs.blend.Reads as taps-blend
 use Rattle.taps.proofs.corner.Reads as taps-corner
+use Rattle.lines.proofs.start.Reads as lines-start
+use Rattle.lines.proofs.first.Reads as lines-first
 use Rattle.numbers.proofs.flat_no.Reads as numbers-flat-no
 use Rattle.numbers.proofs.flat_short_no.Reads as numbers-flat-short-no
 use Rattle.numbers.proofs.angular_no.Reads as numbers-angular-no
@@ -235,6 +237,13 @@ domain-ctu-ok-once a x y s t p q = p ∙ sym q
 
 domain-unit-ok-once : Once (domain-unit-ok.Post tt)
 domain-unit-ok-once a x y s t p q = p ∙ sym q
+
+-- lines
+lines-start-once : Once (lines-start.Post tt)
+lines-start-once a x y s t p q = p ∙ sym q
+
+lines-first-once : Once (lines-first.Post tt)
+lines-first-once a x y s t p q = p ∙ sym q
 
 -- taps
 taps-largest-of-once : Once (taps-largest-of.Post tt)

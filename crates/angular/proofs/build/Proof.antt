@@ -1,42 +1,39 @@
 -- `angular::build` meets its contract. The references are the run that the two parts make. Assumes nothing.
-use Prim.Native.Nat.{_*_, _≤_}
+use mathlib.Core.Path.{sym}
+use Prim.Native.Nat.{_≤_}
 use native.Mathlib.Omega.{arith}
 use borrow.Author.Needs.{needs}
-use Rattle.angular.specs.Lines.{firstOf}
+use Rattle.lines.specs.Starts.{firstOf}
 use Rattle.domain.specs.Facts.{size-small}
-use native.Mathlib.Nat.{mul-le-mul}
 use Rattle.angular.specs.Reach.{first-reach}
 use Rattle.angular.specs.Blocks.{built}
 use Rattle.angular.proofs.build.Statement.{statement}
 use Rattle.angular.proofs.build.Tie as tie
 
-first : (c : tie.After-slice-known) → let a = c .before .before .before .args in firstOf (a .e) (a .n) ≤ 64
-first c =
+early : (c : tie.After-slice-known) → let a = c .before .before .before .args in firstOf (a .e) (a .n) ≤ 64
+early c =
     let p = c .before .before .before .pre in
     first-reach _ _ (p .0) (p .1 .1 .0)
 
-product : (c : tie.After-slice-known) → let a = c .before .before .before .args in a .n * a .e ≤ 32 * 64
-product c =
-    let p = c .before .before .before .pre in
-    mul-le-mul (size-small _ (p .1 .1 .0) .1) (let q : c .before .before .before .args .e ≤ 64 = omega arith in q)
+cast-first : tie.Need-cast-first
+cast-first c = search needs
 
-mul-lo : tie.Need-mul-lo
-mul-lo c = omega (arith, product c)
+cast-first-2 : tie.Need-cast-first-2
+cast-first-2 c = omega (arith, size-small _ (c .before .before .before .pre .1 .1 .0))
 
-add-lo : tie.Need-add-lo
-add-lo c = omega (arith, product c)
-
-sub-lo : tie.Need-sub-lo
-sub-lo c = omega (arith, size-small _ (c .before .before .before .pre .1 .1 .0))
+first-requires : tie.Need-first-requires
+first-requires c κs = search needs
 
 sub-lowers : tie.Need-sub-lowers
-sub-lowers c = omega (arith, first c)
+sub-lowers c = omega (arith, early (c .before), c .first .ensures)
 
 lowers-requires : tie.Need-lowers-requires
 lowers-requires c κs =
-    let f = first (c .before) in
-    let h = size-small _ (c .before .before .before .before .pre .1 .1 .0) in
-    let p = c .before .before .before .before .pre in
+    let f = early (c .before .before) in
+    let q = c .before .first .ensures in
+    let p = c .before .before .before .before .before .pre in
+    let h = size-small _ (p .1 .1 .0) in
+    let s = rw (sym q) at (p .1 .0) in
     (omega arith, (omega arith, (omega arith, omega arith)))
 
 main-refs-requires : tie.Need-main-refs-requires
@@ -47,16 +44,18 @@ same-length c = search needs
 
 returns : tie.Need-returns
 returns c =
-    let a = c .before .before .before .before .before .before .before .before .before .before .before .args in
-    built (a .corner) (a .main .now) (a .side .now) (a .inv) (firstOf (a .e) (a .n)) (a .n) (a .refs .now) (first (c .before .before .before .before .before .before .before .before)) (c .before .before .before .before .before .before .lowers .ensures (a .main .now)) (c .before .before .main-refs .ensures)
+    let a = c .before .before .before .before .before .before .before .before .before .before .before .before .args in
+    let q = c .before .before .before .before .before .before .before .before .first .ensures in
+    let low = rw q at (c .before .before .before .before .before .before .lowers .ensures (a .main .now)) in
+    built (a .corner) (a .main .now) (a .side .now) (a .inv) (firstOf (a .e) (a .n)) (a .n) (a .refs .now) (early (c .before .before .before .before .before .before .before .before .before)) low (c .before .before .main-refs .ensures)
 
 pub build-spec : {M : Type 1} → statement M
 build-spec =
     tie.close
     (tie.spec
-    mul-lo
-    add-lo
-    sub-lo
+    cast-first
+    cast-first-2
+    first-requires
     sub-lowers
     lowers-requires
     main-refs-requires

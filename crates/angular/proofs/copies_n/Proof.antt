@@ -5,7 +5,8 @@ use native.Mathlib.Omega.{arith}
 use borrow.Author.Needs.{needs}
 use lib.ListN.{length}
 use Rattle.angular.specs.Unsigned.{fractionOf}
-use Rattle.angular.specs.Lines.{lineStart, lineAt}
+use Rattle.lines.specs.Starts.{lineStart}
+use Rattle.angular.specs.Lines.{lineAt}
 use Rattle.laws.specs.Weigh.{row-room}
 use Rattle.laws.specs.Fill.{rows}
 use Rattle.laws.specs.FillLaws.{rows-none, rows-more, rows-done}
