@@ -38,6 +38,9 @@ use Rattle.taps.proofs.edge.Reads as taps-edge
 use Rattle.taps.proofs.filtered.Reads as taps-filtered
 use Rattle.taps.proofs.blend.Reads as taps-blend
 use Rattle.taps.proofs.corner.Reads as taps-corner
+use Rattle.cells.proofs.interleave.Reads as cells-interleave
+use Rattle.cells.proofs.ctus_of.Reads as cells-ctus-of
+use Rattle.cells.proofs.inside.Reads as cells-inside
 use Rattle.lines.proofs.start.Reads as lines-start
 use Rattle.lines.proofs.first.Reads as lines-first
 use Rattle.numbers.proofs.flat_no.Reads as numbers-flat-no
@@ -237,6 +240,16 @@ domain-ctu-ok-once a x y s t p q = p ∙ sym q
 
 domain-unit-ok-once : Once (domain-unit-ok.Post tt)
 domain-unit-ok-once a x y s t p q = p ∙ sym q
+
+-- cells
+cells-interleave-once : Once (cells-interleave.Post tt)
+cells-interleave-once a x y s t p q = p ∙ sym q
+
+cells-ctus-of-once : Once (cells-ctus-of.Post tt)
+cells-ctus-of-once a x y s t p q = p ∙ sym q
+
+cells-inside-once : Once (cells-inside.Post tt)
+cells-inside-once a x y s t p q = p ∙ sym q
 
 -- lines
 lines-start-once : Once (lines-start.Post tt)

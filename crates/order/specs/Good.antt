@@ -14,6 +14,7 @@ use Rattle.domain.specs.Domain.{sideOk, ctuOk, unitOk}
 use Rattle.domain.specs.Facts.{Ctu, Unit, Side, ctu-of, unit-of, side-of}
 use Rattle.fmt.specs.declared.LumaRow.{LumaRow}
 use Rattle.fmt.specs.declared.LumaCol.{LumaCol}
+use Rattle.cells.specs.Row.{ctusOf}
 use Rattle.order.specs.declared.Picture.{Picture}
 use Rattle.order.specs.declared.Shifts.{Shifts}
 use Rattle.order.specs.Order.{gridOf, numberAt, pictureOk, placeOk, orderNo}
@@ -90,6 +91,11 @@ ctusIn p = widthInCtbs (gridOf p)
 pub ctus-are : {p : Picture} → Good p → ctusIn p ≡ (p .width + p .ctu - 1) / p .ctu
 ctus-are {p} g = ap (λ (c : ℕ). (p .width + c - 1) / c) (sized g .ctu-is)
 
+-- as the code finds them
+ctus-found : {p : Picture} → Good p → ctusOf (p .width) (p .ctu) ≡ (p .width + p .ctu - 1) / p .ctu
+unfolding ctusOf
+ctus-found {p} g = ⊎-elim (λ e. rw e) (⊎-elim (λ e. rw e) (λ e. rw e)) (g .ctus)
+
 -- they cover the row, and are from 1 to 256
 pub ctus-cover : {p : Picture} → Good p → (p .width ≤ ctusIn p * p .ctu) × (ctusIn p ≤ 256) × (1 ≤ ctusIn p)
 ctus-cover {p} g =
@@ -137,13 +143,13 @@ abbrev pub shiftsOf : Picture → Shifts
 shiftsOf p = record { unit = log2 (p .unit); levels = levels p; cells = 2 ^ levels p; ctus = ctusIn p }
 
 -- the code's own way to them
-pub shifts-are : {p : Picture} → Good p → (a b : ℕ) → a ≡ log2 (p .unit) → b ≡ log2 (p .ctu)
-    → _≡_ {A = Shifts} (record { unit = a; levels = b - a; cells = p .ctu / 2 ^ a; ctus = (p .width + p .ctu - 1) / 2 ^ b }) (shiftsOf p)
-shifts-are {p} g a b ea eb =
+pub shifts-are : {p : Picture} → Good p → (a b c : ℕ) → a ≡ log2 (p .unit) → b ≡ log2 (p .ctu) → c ≡ ctusOf (p .width) (p .ctu)
+    → _≡_ {A = Shifts} (record { unit = a; levels = b - a; cells = p .ctu / 2 ^ a; ctus = c }) (shiftsOf p)
+shifts-are {p} g a b c ea eb ec =
     let s = sized g in
     let pos : 0 < p .unit = omega arith in
     let cells : p .ctu / 2 ^ a ≡ 2 ^ levels p = ap (λ (k : ℕ). p .ctu / 2 ^ k) ea ∙ ap (λ (u : ℕ). p .ctu / u) (s .unit-is) ∙ div-eq-of-eq-mul-left pos (sym (s .split) ∙ mul-comm (p .unit) (2 ^ levels p)) in
-    let ctus : (p .width + p .ctu - 1) / 2 ^ b ≡ ctusIn p = ap (λ (k : ℕ). (p .width + p .ctu - 1) / 2 ^ k) eb ∙ ap (λ (u : ℕ). (p .width + u - 1) / 2 ^ log2 (p .ctu)) (sym (s .ctu-is)) in
+    let ctus : c ≡ ctusIn p = ec ∙ ctus-found g ∙ sym (ctus-are g) in
     let levels : b - a ≡ log2 (p .ctu) - log2 (p .unit) = ap₂ (λ (x y : ℕ). x - y) eb ea in
     λ i. record { unit = ea i; levels = levels i; cells = cells i; ctus = ctus i }
 

@@ -1,4 +1,4 @@
--- 6.5.2's inner sum, one coordinate at a time: the bits of a number, each at twice its place. Assumes nothing.
+-- 6.5.2's inner sum, one coordinate at a time: how many of a number's bits count, and the cell's number as the code makes it. Assumes nothing.
 use mathlib.Core.Path.{_≡_, refl, sym, ap, ap₂, _∙_}
 use Prim.Native.Nat.{ℕ, zero, suc, _+_, _-_, _*_, _/_, _%_, _^_, _≤_, _<_}
 use native.Mathlib.Nat.{div-eq-of-lt, pow-suc, add-suc, add-zero, mod-lt, div-add-mod', div-le-self, mul-le-mul, pow-le-pow-right}
@@ -7,16 +7,8 @@ use lib.Arith.{mod-mul}
 use lib.Pow.{pow-pos}
 use Rattle.h265.specs.Notation.{_>>ℕ_}
 use Rattle.h265.specs.Order.{interleaved, zScan}
+use Rattle.cells.specs.Spread.{spread, interleaved-spread}
 use Rattle.order.specs.Cells.{half-half, quad, dbl}
-
-unfoldable pub spread : ℕ → ℕ → ℕ
-spread zero v = 0
-spread (suc i) v = spread i v + v / 2 ^ i % 2 * 4 ^ i
-
-pub interleaved-spread : (k x y : ℕ) → interleaved k x y ≡ spread k x + 2 * spread k y
-unfolding interleaved spread
-interleaved-spread zero x y = refl
-interleaved-spread (suc k) x y = omega (arith, interleaved-spread k x y)
 
 -- bits above the number's own are 0
 top : (j v : ℕ) → v < 2 ^ j → spread (suc j) v ≡ spread j v
@@ -74,11 +66,17 @@ pub rest : (k v cells : ℕ) → cells ≡ 2 ^ k → v - v / 2 ^ k * cells ≡ v
 rest k v cells e = rw e (omega (arith, div-add-mod' v (2 ^ k)))
 
 -- the number as the code makes it
-pub number-is : (k w x y cells a b : ℕ) → cells ≡ 2 ^ k → a ≡ spread k y → b ≡ spread k x → (y / 2 ^ k * w + x / 2 ^ k) * (cells * cells) + 2 * a + b ≡ zScan k w x y
+pub number-is : (k w x y cells a b c : ℕ) → k ≤ 4 → cells ≡ 2 ^ k → a ≡ y % 2 ^ k → b ≡ x % 2 ^ k → c ≡ interleaved 4 b a → (y / 2 ^ k * w + x / 2 ^ k) * (cells * cells) + c ≡ zScan k w x y
 unfolding zScan
-number-is k w x y cells a b e p q =
-    let c : cells * cells ≡ 4 ^ k = rw e (square-pow k) in
-    rw (c, p, q, interleaved-spread k x y) (omega arith)
+number-is k w x y cells a b c h e p q r =
+    let s : cells * cells ≡ 4 ^ k = rw e (square-pow k) in
+    let m : interleaved 4 b a ≡ spread k x + 2 * spread k y = rw (p, q) (interleaved-spread 4 (x % 2 ^ k) (y % 2 ^ k) ∙ ap₂ (λ (u v : ℕ). u + 2 * v) (spread-four k x h) (spread-four k y h)) in
+    rw (s, r, m, interleaved-spread k x y) (omega arith)
+
+-- four bits make less than 256
+pub four-low : (x y : ℕ) → interleaved 4 x y ≤ 255
+unfolding interleaved
+four-low x y = omega arith
 
 -- and its bounds
 pub record Room (k w x y cells : ℕ) : Type 0 where

@@ -1,5 +1,5 @@
 // Decode order of a picture's cells (H.265 6.5.2) and which luma neighbours are available (document 01, module 2).
-// Rests on the domain's tests and on the kinds of places.
+// Rests on the domain's tests, on what a cell's number is made of and on the kinds of places.
 ghost use mathlib.Core.Path.{_≡_};
 ghost use Prim.Native.Nat.{ℕ, _+_, _-_, _*_, _/_, _%_, _^_, _≤_, _<_, min};
 ghost use lib.Dec.{ltb, eqb};
@@ -8,7 +8,6 @@ ghost use Rattle.h265.specs.Notation.{log2};
 ghost use Rattle.h265.specs.Order.{zScan, widthInCtbs};
 ghost use Rattle.order.specs.Order.{gridOf, pictureOk, placeOk, numberAt, orderNo, orderDoor, before, availDoor};
 ghost use Rattle.order.specs.Good.{Good, Power, Small, shiftsOf};
-ghost use Rattle.order.specs.Spread.{spread};
 ghost use Rattle.order.specs.Reach.{leading, cornerHas, aboveHas, leftHas, inPlane, reachBy, lumaHas, lumaReachNo, lumaReach, colour, chromaBlockOk, chromaHas, chromaReachNo, chromaReach};
 ghost use Rattle.order.specs.Edges.{numberBy, below, Step, groupOf, Line, Edge, Placed, edgesOf};
 ghost use Rattle.domain.specs.Facts.{Size};
@@ -77,24 +76,16 @@ fn shifts_of(p: Picture) -> Shifts
         unit,
         levels: ctb - unit,
         cells: (p.ctu as usize) >> unit,
-        ctus: ((p.width as usize) + (p.ctu as usize) - 1) >> ctb,
+        ctus: cells::ctus_of(p.width, p.ctu),
     }
 }
 
-// The last four bits of a number, each at twice its place.
-fn spread_of(v: usize) -> usize
-    requires { ⌜ v < 16 ⌝ }
-    ensures { λ r. ⌜ (r ≡ spread 4 v) × (r < 256) ⌝ }
-{
-    v % 2 + 4 * (v / 2 % 2) + 16 * (v / 4 % 2) + 64 * (v / 8 % 2)
-}
-
-// The last k bits of a number, each at twice its place.
+// The last k bits of a number: what is left of it past its CTU.
 fn inner(v: usize, k: u32, cells: usize) -> usize
     requires { ⌜ (k ≤ 4) × (cells ≡ 2 ^ k) × (v < 65536) ⌝ }
-    ensures { λ r. ⌜ (r ≡ spread k v) × (r < 256) ⌝ }
+    ensures { λ r. ⌜ r ≡ v % 2 ^ k ⌝ }
 {
-    spread_of(v - (v >> k) * cells)
+    v - (v >> k) * cells
 }
 
 // The number of the cell in row y and column x of cells: its CTU in raster order, and its place in the CTU.
@@ -103,7 +94,7 @@ fn cell_number(y: usize, x: usize, k: u32, cells: usize, ctus: usize) -> usize
     ensures { λ r. ⌜ r ≡ zScan k ctus x y ⌝ }
 {
     let ctu = (y >> k) * ctus + (x >> k);
-    ctu * (cells * cells) + 2 * inner(y, k, cells) + inner(x, k, cells)
+    ctu * (cells * cells) + cells::interleave(inner(y, k, cells), inner(x, k, cells))
 }
 
 // The number of the cell that holds the sample at (row, col).
@@ -148,10 +139,7 @@ fn inside_before(p: Picture, limit: usize, row: usize, col: usize) -> bool
     requires { ⌜ Good p ⌝ }
     ensures { λ r. ⌜ r ≡ before p limit (pos row) (pos col) ⌝ }
 {
-    if row >= (p.height as usize) {
-        return false;
-    }
-    if col >= (p.width as usize) {
+    if !cells::inside(p.height, p.width, row, col) {
         return false;
     }
     number(shifts_of(p), row, col) < limit

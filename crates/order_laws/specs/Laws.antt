@@ -19,7 +19,8 @@ use Rattle.fmt.specs.declared.LumaCol.{LumaCol}
 use Rattle.order.specs.declared.Picture.{Picture}
 use Rattle.order.specs.Order.{gridOf, numberAt, before, availableTo}
 use Rattle.order.specs.Cells.{cellNo, row-lt, col-lt, cell-inj, cell-split, cell-zs, run-in, run-only}
-use Rattle.order.specs.Spread.{spread, interleaved-spread, spread-mod}
+use Rattle.cells.specs.Spread.{spread, interleaved-spread}
+use Rattle.order.specs.Spread.{spread-mod}
 use Rattle.order.specs.Good.{Good, sized, levels, ctusIn, ctus-are, ctus-cover, cell-in, number-cell}
 
 pub div-mono : (u : ℕ) {a b : ℕ} → 0 < u → a ≤ b → a / u ≤ b / u

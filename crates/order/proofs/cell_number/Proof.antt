@@ -1,6 +1,6 @@
 -- `order::cell_number` meets its contract. `room` bounds every product.
 use native.Mathlib.Omega.{arith}
-use Rattle.order.specs.Spread.{room, number-is}
+use Rattle.order.specs.Spread.{room, number-is, four-low}
 use Prim.Native.Nat.{_/_, _^_}
 use native.Mathlib.Nat.{div-le-self}
 use borrow.Author.Needs.{needs}
@@ -28,20 +28,23 @@ mul-result-2 c = record { fits = omega (arith, room (c .args .k) (c .args .ctus)
 inner-requires : tie.Need-inner-requires
 inner-requires c κs = search needs
 
-mul-result-3 : tie.Need-mul-result-3
-mul-result-3 c = search needs
-
-add-result : tie.Need-add-result
-add-result c = record { fits = omega (arith, room (c .before .args .k) (c .before .args .ctus) (c .before .args .x) (c .before .args .y) (c .before .args .cells) (c .before .pre .0) (c .before .pre .1) (c .before .pre .2) (c .before .pre .3) (c .before .pre .4)) }
-
 inner-requires-2 : tie.Need-inner-requires-2
 inner-requires-2 c κs = search needs
 
-add-result-2 : tie.Need-add-result-2
-add-result-2 c = record { fits = omega (arith, room (c .before .before .args .k) (c .before .before .args .ctus) (c .before .before .args .x) (c .before .before .args .y) (c .before .before .args .cells) (c .before .before .pre .0) (c .before .before .pre .1) (c .before .before .pre .2) (c .before .before .pre .3) (c .before .before .pre .4)) }
+interleave-requires : tie.Need-interleave-requires
+interleave-requires c κs = search needs
+
+add-result : tie.Need-add-result
+add-result c =
+    let a = c .before .before .before .args in
+    let p = c .before .before .before .pre in
+    record { fits = omega (arith, room (a .k) (a .ctus) (a .x) (a .y) (a .cells) (p .0) (p .1) (p .2) (p .3) (p .4), c .interleave .ensures, four-low (c .before .inner2 .result) (c .before .before .inner .result)) }
 
 returns : tie.Need-returns
-returns c = let a = c .before .before .args in number-is (a .k) (a .ctus) (a .x) (a .y) (a .cells) _ _ (c .before .before .pre .1) (c .before .inner .ensures .0) (c .inner2 .ensures .0)
+returns c =
+    let a = c .before .before .before .args in
+    let p = c .before .before .before .pre in
+    number-is (a .k) (a .ctus) (a .x) (a .y) (a .cells) _ _ _ (p .0) (p .1) (c .before .before .inner .ensures) (c .before .inner2 .ensures) (c .interleave .ensures)
 
 pub cell-number-spec : {M : Type 1} → statement M
 cell-number-spec =
@@ -54,8 +57,7 @@ cell-number-spec =
     mul-result
     mul-result-2
     inner-requires
-    mul-result-3
-    add-result
     inner-requires-2
-    add-result-2
+    interleave-requires
+    add-result
     returns)

@@ -25,26 +25,11 @@ cast-t6 c = search needs
 shr-t7 : tie.Need-shr-t7
 shr-t7 c = omega (arith, sized (c .before .before .before .pre) .bounds, c .before .before .log2-of .ensures)
 
-cast-t8 : tie.Need-cast-t8
-cast-t8 c = search needs
-
-cast-t9 : tie.Need-cast-t9
-cast-t9 c = search needs
-
-add-t10 : tie.Need-add-t10
-add-t10 c = search needs
-
-sub-t11 : tie.Need-sub-t11
-sub-t11 c = search needs
-
-cast-t12 : tie.Need-cast-t12
-cast-t12 c = search needs
-
-shr-t13 : tie.Need-shr-t13
-shr-t13 c = omega (arith, sized (c .before .before .before .before .before .pre) .bounds, c .before .before .before .log2-of2 .ensures)
+ctus-of-requires : tie.Need-ctus-of-requires
+ctus-of-requires c κs = search needs
 
 returns : tie.Need-returns
-returns c = shifts-are (c .before .before .before .before .before .pre) _ _ (c .before .before .before .before .log2-of .ensures) (c .before .before .before .log2-of2 .ensures)
+returns c = shifts-are (c .before .before .before .before .pre) _ _ _ (c .before .before .before .log2-of .ensures) (c .before .before .log2-of2 .ensures) (c .ctus-of .ensures)
 
 pub shifts-of-spec : {M : Type 1} → statement M
 shifts-of-spec =
@@ -56,10 +41,5 @@ shifts-of-spec =
     cast-t5
     cast-t6
     shr-t7
-    cast-t8
-    cast-t9
-    add-t10
-    sub-t11
-    cast-t12
-    shr-t13
+    ctus-of-requires
     returns)

@@ -1,9 +1,9 @@
--- `order::spread_of` meets its contract: four bits, written out.
+-- `cells::spread_of` meets its contract: four bits, written out.
 use native.Mathlib.Omega.{arith}
-use Rattle.order.specs.Spread.{spread}
+use Rattle.cells.specs.Spread.{spread}
 use borrow.Author.Needs.{needs}
-use Rattle.order.proofs.spread_of.Statement.{statement}
-use Rattle.order.proofs.spread_of.Tie as tie
+use Rattle.cells.proofs.spread_of.Statement.{statement}
+use Rattle.cells.proofs.spread_of.Tie as tie
 
 mul-result : tie.Need-mul-result
 mul-result c = search needs
