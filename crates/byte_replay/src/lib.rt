@@ -71,7 +71,7 @@ fn replay_blocks(
     let mut at: usize = 0;
     let mut k: usize = 0;
     while k < upto {
-        let b = tiling::record_at(plan, k);
+        let b = records::record_at(plan, k);
         at = replay_turn(
             s,
             b,

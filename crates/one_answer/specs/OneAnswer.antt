@@ -93,7 +93,7 @@ use Rattle.refs.proofs.get_reference_samples_bytes.Reads as refs-get-reference-
 use Rattle.refs.proofs.get_reference_samples_chroma_pair_bytes.Reads as refs-get-reference-samples-chroma-pair-bytes
 use Rattle.tiling.proofs.picture_ok.Reads as tiling-picture-ok
 use Rattle.tiling.proofs.block_no.Reads as tiling-block-no
-use Rattle.tiling.proofs.record_at.Reads as tiling-record-at
+use Rattle.records.proofs.record_at.Reads as records-record-at
 use Rattle.plan.proofs.check_plan_bytes.Reads as plan-check-plan-bytes
 use Rattle.plan.proofs.check_plan_numbers.Reads as plan-check-plan-numbers
 use Rattle.plan.proofs.check_plan as plan-check-plan
@@ -438,8 +438,8 @@ tiling-picture-ok-once a x y s t p q = p ∙ sym q
 tiling-block-no-once : Once (tiling-block-no.Post tt)
 tiling-block-no-once a x y s t p q = p ∙ sym q
 
-tiling-record-at-once : (κs : Lfts 1) → Once (tiling-record-at.Post κs)
-tiling-record-at-once κs a x y s t p q = p ∙ sym q
+records-record-at-once : (κs : Lfts 1) → Once (records-record-at.Post κs)
+records-record-at-once κs a x y s t p q = p ∙ sym q
 
 -- plan
 plan-check-plan-numbers-once : (κs : Lfts 1) → Once (plan-check-plan-numbers.Post κs)

@@ -7,7 +7,7 @@ use lib.ListN.{length}
 use Rattle.order.specs.Order.{pictureOk}
 use Rattle.tiling.specs.declared.Frame.{Frame}
 use Rattle.tiling.specs.Tiling.{pictureOf}
-use Rattle.tiling.specs.Records.{recordAt}
+use Rattle.records.specs.Records.{recordAt}
 use Rattle.plan.specs.declared.Verdict.{Verdict}
 use Rattle.plan.specs.Plan.{Plan}
 use Rattle.plan.specs.Check.{blocksVerdict}

@@ -122,7 +122,7 @@ fn check_records(frame: Frame, plan: &[u8]) -> Verdict
     let mut t = check_start(frame);
     let mut i: usize = 0;
     while i < count {
-        t = check_step(frame, t, tiling::record_at(plan, i), i);
+        t = check_step(frame, t, records::record_at(plan, i), i);
         i += 1;
     }
     check_end(frame, t)

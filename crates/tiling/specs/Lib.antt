@@ -1,7 +1,6 @@
--- Tiling: what blocks cover, and when a plan of them is good. Check: what refuses one, by a running count. Records: one as bytes.
+-- Tiling: what blocks cover, and when a plan of them is good. Check: what refuses one, by a running count.
 pub mod Tiling
 pub mod Check
-pub mod Records
 -- Cover: the running count decides exactly; blocks of a good plan are apart, and fill the picture. It rests on the tests.
 pub mod Tests
 pub mod Cover

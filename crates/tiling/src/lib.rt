@@ -1,5 +1,5 @@
 // A still's frame and a block of its plan: whether the block is next, and what refuses it (document 01, 'Plan, walk, replay').
-// Rests on the decode order's definitions, on the domain's tests and on what bytes spell.
+// Rests on the decode order's definitions and on the domain's tests.
 ghost use mathlib.Core.Path.{_≡_};
 ghost use Prim.Native.Nat.{ℕ, min, _+_, _-_, _*_, _/_, _%_, _^_, _≤_, _<_};
 ghost use mathlib.Core.Bool.{_&&_};
@@ -9,7 +9,6 @@ ghost use Rattle.domain.specs.Facts.{Size, Ctu};
 ghost use Rattle.order.specs.Order.{pictureOk};
 ghost use Rattle.order.specs.Good.{Good};
 ghost use Rattle.tiling.specs.Tiling.{pictureOf, In};
-ghost use Rattle.tiling.specs.Records.{recordAt};
 ghost use Rattle.tiling.specs.Check.{aheadBy, ahead, placedOk, blockNo, blockDoor};
 
 // A still's luma sides and its CTU; its least unit is 4.
@@ -152,25 +151,4 @@ pub fn block_no(f: Frame, b: Block, covered: usize) -> u32
         return 4;
     }
     placed_no(f, b, covered)
-}
-
-// Block i of a plan of bytes; zeros where there is none.
-pub fn record_at(plan: &[u8], i: usize) -> Block
-    ensures { λ r. ⌜ r ≡ recordAt (now (plan .entry)) i ⌝ }
-{
-    if i >= plan.len() / 6 {
-        return Block {
-            row: 0,
-            col: 0,
-            side: 0,
-            mode: 0,
-        };
-    }
-    let at = 6 * i;
-    Block {
-        row: bytes::sample(plan[at], plan[at + 1]) as u32,
-        col: bytes::sample(plan[at + 2], plan[at + 3]) as u32,
-        side: plan[at + 4] as u32,
-        mode: plan[at + 5] as u32,
-    }
 }

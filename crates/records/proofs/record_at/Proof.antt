@@ -1,4 +1,4 @@
--- `tiling::record_at` meets its contract: the record's six bytes are read. Rests on what bytes spell.
+-- `records::record_at` meets its contract: the record's six bytes are read. Rests on what bytes spell.
 use mathlib.Core.Path.{refl, ap₂}
 use Prim.Native.Nat.{ℕ, _+_, _*_, _/_}
 use native.Mathlib.Omega.{arith}
@@ -6,10 +6,10 @@ use lib.Dec.{ltb}
 use lib.ListN.{length, getD}
 use borrow.Author.Tests.{lt-ltb, le-ltb}
 use Rattle.laws.specs.Choose.{if-yes, if-no}
-use Rattle.tiling.specs.Records.{recordOf, recordAt}
+use Rattle.records.specs.Records.{recordOf, recordAt}
 use borrow.Author.Needs.{needs}
-use Rattle.tiling.proofs.record_at.Statement.{statement}
-use Rattle.tiling.proofs.record_at.Tie as tie
+use Rattle.records.proofs.record_at.Statement.{statement}
+use Rattle.records.proofs.record_at.Tie as tie
 
 returns : tie.Need-returns
 unfolding recordAt

@@ -1,0 +1,2 @@
+-- Records: a block of a plan as bytes.
+pub mod Records
