@@ -192,19 +192,3 @@ module _ (f : Frame) (l : Plan) where
       go (bad-picture q a) = absurd (omega (arith, e, no-of q))
       go (bad-block n k q g r) = absurd (block-no (r .broken) .1 .1 (sym (no-of q) ∙ e))
       go (bad-cover q g a) = a
-
-  -- number 4 is about the picture alone
-  pub verdict-picture : (v .no ≡ 4) ↔ (Good (pictureOf f) → ⊥)
-  verdict-picture = (λ e. to e (told f l), λ h. from h (told f l))
-    where
-      to : v .no ≡ 4 → Told f (l .block) (l .count) v → Good (pictureOf f) → ⊥
-      to e (is-good q a) g = omega (arith, e, no-of q)
-      to e (bad-picture q a) g = a g
-      to e (bad-block n k q g r) _ = block-no (r .broken) .1 .0 (sym (no-of q) ∙ e)
-      to e (bad-cover q g a) _ = omega (arith, e, no-of q)
-
-      from : (Good (pictureOf f) → ⊥) → Told f (l .block) (l .count) v → v .no ≡ 4
-      from h (is-good q a) = absurd (h (a .picture))
-      from h (bad-picture q a) = no-of q
-      from h (bad-block n k q g r) = absurd (h g)
-      from h (bad-cover q g a) = absurd (h g)
