@@ -11,12 +11,12 @@ fn main() {
     let folder = env::var("PROBES").expect("run tests/bench/run, which makes the archives");
     println!("cargo:rerun-if-env-changed=PROBES");
     println!("cargo:rustc-link-search=native={folder}");
-    for name in ["probes", "walk_probes", "camera"] {
+    for name in ["probes", "predict_probes", "walk_probes", "camera"] {
         println!("cargo:rerun-if-changed={folder}/lib{name}.a");
         println!("cargo:rustc-link-lib=static={name}");
     }
     println!("cargo:rustc-check-cfg=cfg(entry, values(any()))");
-    for name in ["probes", "walk_probes"] {
+    for name in ["probes", "predict_probes", "walk_probes"] {
         let source = format!("../../crates/{name}/src/lib.rt");
         println!("cargo:rerun-if-changed={source}");
         for line in fs::read_to_string(source).unwrap().lines() {

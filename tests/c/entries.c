@@ -9,7 +9,7 @@
 
 #include "salvrunde.h"
 
-/* The doors, as crates probes and walk_probes export them: a slice is a pointer and a count of elements, and an answer of more than two words is
+/* The doors, as crates probes, predict_probes and walk_probes export them: a slice is a pointer and a count of elements, and an answer of more than two words is
  * written where a first argument points, which comes back. */
 struct references { uint32_t no; uint16_t corner, above[65], left[65]; };
 struct pair_references { uint32_t no; struct { uint16_t corner, above[65], left[65]; } planes[2]; };

@@ -147,16 +147,16 @@ use Rattle.scratch.proofs.predict_chroma_tb_fresh.Reads as scratch-predict-chro
 use Rattle.scratch.proofs.predict_luma_tb_fresh.Reads as scratch-predict-luma-tb-fresh
 use Rattle.residual.proofs.compute_residual_i32_into.Reads as residual-compute-residual-i32-into
 use Rattle.residual.proofs.reconstruct_into.Reads as residual-reconstruct-into
-use Rattle.probes.proofs.salvrunde_probe_predict_planar_into.Reads as probes-salvrunde-probe-predict-planar-into
-use Rattle.probes.proofs.salvrunde_probe_predict_dc_into.Reads as probes-salvrunde-probe-predict-dc-into
-use Rattle.probes.proofs.salvrunde_probe_predict_angular_slices.Reads as probes-salvrunde-probe-predict-angular-slices
-use Rattle.probes.proofs.salvrunde_probe_predict_chroma_tb_slices.Reads as probes-salvrunde-probe-predict-chroma-tb-slices
-use Rattle.probes.proofs.salvrunde_probe_predict_luma_tb_slices.Reads as probes-salvrunde-probe-predict-luma-tb-slices
-use Rattle.probes.proofs.salvrunde_probe_predict_angular_scratch.Reads as probes-salvrunde-probe-predict-angular-scratch
-use Rattle.probes.proofs.salvrunde_probe_predict_chroma_tb_scratch.Reads as probes-salvrunde-probe-predict-chroma-tb-scratch
-use Rattle.probes.proofs.salvrunde_probe_predict_luma_tb_scratch.Reads as probes-salvrunde-probe-predict-luma-tb-scratch
-use Rattle.probes.proofs.salvrunde_probe_compute_residual_i32_into.Reads as probes-salvrunde-probe-compute-residual-i32-into
-use Rattle.probes.proofs.salvrunde_probe_reconstruct_into.Reads as probes-salvrunde-probe-reconstruct-into
+use Rattle.predict_probes.proofs.salvrunde_probe_predict_planar_into.Reads as predict-probes-salvrunde-probe-predict-planar-into
+use Rattle.predict_probes.proofs.salvrunde_probe_predict_dc_into.Reads as predict-probes-salvrunde-probe-predict-dc-into
+use Rattle.predict_probes.proofs.salvrunde_probe_predict_angular_slices.Reads as predict-probes-salvrunde-probe-predict-angular-slices
+use Rattle.predict_probes.proofs.salvrunde_probe_predict_chroma_tb_slices.Reads as predict-probes-salvrunde-probe-predict-chroma-tb-slices
+use Rattle.predict_probes.proofs.salvrunde_probe_predict_luma_tb_slices.Reads as predict-probes-salvrunde-probe-predict-luma-tb-slices
+use Rattle.predict_probes.proofs.salvrunde_probe_predict_angular_scratch.Reads as predict-probes-salvrunde-probe-predict-angular-scratch
+use Rattle.predict_probes.proofs.salvrunde_probe_predict_chroma_tb_scratch.Reads as predict-probes-salvrunde-probe-predict-chroma-tb-scratch
+use Rattle.predict_probes.proofs.salvrunde_probe_predict_luma_tb_scratch.Reads as predict-probes-salvrunde-probe-predict-luma-tb-scratch
+use Rattle.predict_probes.proofs.salvrunde_probe_compute_residual_i32_into.Reads as predict-probes-salvrunde-probe-compute-residual-i32-into
+use Rattle.predict_probes.proofs.salvrunde_probe_reconstruct_into.Reads as predict-probes-salvrunde-probe-reconstruct-into
 use Rattle.walk_probes.proofs.salvrunde_probe_walk.Reads as walk-probes-salvrunde-probe-walk
 use Rattle.walk_probes.proofs.salvrunde_probe_replay.Reads as walk-probes-salvrunde-probe-replay
 use Rattle.walk_probes.proofs.salvrunde_probe_walk_records as walk-probes-salvrunde-probe-walk-records
@@ -602,35 +602,35 @@ residual-reconstruct-into-once : (κs : Lfts 3) → OnceLeft (λ s. now (s .1 .1
 residual-reconstruct-into-once κs a x y s t p q = (p .0 ∙ sym (q .0), p .1 ∙ sym (q .1))
 
 -- probes
-probes-salvrunde-probe-predict-planar-into-once : (κs : Lfts 3) → OnceLeft (λ s. now (s .1 .1 .1 .0)) (probes-salvrunde-probe-predict-planar-into.Post κs)
-probes-salvrunde-probe-predict-planar-into-once κs a x y s t p q = by-number _ _ (p .0) (q .0) (p .1) (q .1)
+predict-probes-salvrunde-probe-predict-planar-into-once : (κs : Lfts 3) → OnceLeft (λ s. now (s .1 .1 .1 .0)) (predict-probes-salvrunde-probe-predict-planar-into.Post κs)
+predict-probes-salvrunde-probe-predict-planar-into-once κs a x y s t p q = by-number _ _ (p .0) (q .0) (p .1) (q .1)
 
-probes-salvrunde-probe-predict-dc-into-once : (κs : Lfts 3) → OnceLeft (λ s. now (s .1 .1 .1 .1 .0)) (probes-salvrunde-probe-predict-dc-into.Post κs)
-probes-salvrunde-probe-predict-dc-into-once κs a x y s t p q = by-number _ _ (p .0) (q .0) (p .1) (q .1)
+predict-probes-salvrunde-probe-predict-dc-into-once : (κs : Lfts 3) → OnceLeft (λ s. now (s .1 .1 .1 .1 .0)) (predict-probes-salvrunde-probe-predict-dc-into.Post κs)
+predict-probes-salvrunde-probe-predict-dc-into-once κs a x y s t p q = by-number _ _ (p .0) (q .0) (p .1) (q .1)
 
-probes-salvrunde-probe-predict-angular-slices-once : (κs : Lfts 6) → OnceLeft (λ s. now (s .1 .1 .1 .1 .1 .1 .1 .0)) (probes-salvrunde-probe-predict-angular-slices.Post κs)
-probes-salvrunde-probe-predict-angular-slices-once κs a x y s t p q = by-number _ _ (p .0) (q .0) (p .1 .0) (q .1 .0)
+predict-probes-salvrunde-probe-predict-angular-slices-once : (κs : Lfts 6) → OnceLeft (λ s. now (s .1 .1 .1 .1 .1 .1 .1 .0)) (predict-probes-salvrunde-probe-predict-angular-slices.Post κs)
+predict-probes-salvrunde-probe-predict-angular-slices-once κs a x y s t p q = by-number _ _ (p .0) (q .0) (p .1 .0) (q .1 .0)
 
-probes-salvrunde-probe-predict-chroma-tb-slices-once : (κs : Lfts 6) → OnceLeft (λ s. now (s .1 .1 .1 .1 .1 .1 .0)) (probes-salvrunde-probe-predict-chroma-tb-slices.Post κs)
-probes-salvrunde-probe-predict-chroma-tb-slices-once κs a x y s t p q = by-number _ _ (p .0) (q .0) (p .1 .0) (q .1 .0)
+predict-probes-salvrunde-probe-predict-chroma-tb-slices-once : (κs : Lfts 6) → OnceLeft (λ s. now (s .1 .1 .1 .1 .1 .1 .0)) (predict-probes-salvrunde-probe-predict-chroma-tb-slices.Post κs)
+predict-probes-salvrunde-probe-predict-chroma-tb-slices-once κs a x y s t p q = by-number _ _ (p .0) (q .0) (p .1 .0) (q .1 .0)
 
-probes-salvrunde-probe-predict-luma-tb-slices-once : (κs : Lfts 6) → OnceLeft (λ s. now (s .1 .1 .1 .1 .1 .1 .0)) (probes-salvrunde-probe-predict-luma-tb-slices.Post κs)
-probes-salvrunde-probe-predict-luma-tb-slices-once κs a x y s t p q = by-number _ _ (p .0) (q .0) (p .1 .0) (q .1 .0)
+predict-probes-salvrunde-probe-predict-luma-tb-slices-once : (κs : Lfts 6) → OnceLeft (λ s. now (s .1 .1 .1 .1 .1 .1 .0)) (predict-probes-salvrunde-probe-predict-luma-tb-slices.Post κs)
+predict-probes-salvrunde-probe-predict-luma-tb-slices-once κs a x y s t p q = by-number _ _ (p .0) (q .0) (p .1 .0) (q .1 .0)
 
-probes-salvrunde-probe-predict-angular-scratch-once : (κs : Lfts 3) → OnceLeft (λ s. now (s .1 .1 .1 .1 .1 .1 .1 .0)) (probes-salvrunde-probe-predict-angular-scratch.Post κs)
-probes-salvrunde-probe-predict-angular-scratch-once κs a x y s t p q = by-number _ _ (p .0) (q .0) (p .1) (q .1)
+predict-probes-salvrunde-probe-predict-angular-scratch-once : (κs : Lfts 3) → OnceLeft (λ s. now (s .1 .1 .1 .1 .1 .1 .1 .0)) (predict-probes-salvrunde-probe-predict-angular-scratch.Post κs)
+predict-probes-salvrunde-probe-predict-angular-scratch-once κs a x y s t p q = by-number _ _ (p .0) (q .0) (p .1) (q .1)
 
-probes-salvrunde-probe-predict-chroma-tb-scratch-once : (κs : Lfts 3) → OnceLeft (λ s. now (s .1 .1 .1 .1 .1 .1 .0)) (probes-salvrunde-probe-predict-chroma-tb-scratch.Post κs)
-probes-salvrunde-probe-predict-chroma-tb-scratch-once κs a x y s t p q = by-number _ _ (p .0) (q .0) (p .1) (q .1)
+predict-probes-salvrunde-probe-predict-chroma-tb-scratch-once : (κs : Lfts 3) → OnceLeft (λ s. now (s .1 .1 .1 .1 .1 .1 .0)) (predict-probes-salvrunde-probe-predict-chroma-tb-scratch.Post κs)
+predict-probes-salvrunde-probe-predict-chroma-tb-scratch-once κs a x y s t p q = by-number _ _ (p .0) (q .0) (p .1) (q .1)
 
-probes-salvrunde-probe-predict-luma-tb-scratch-once : (κs : Lfts 3) → OnceLeft (λ s. now (s .1 .1 .1 .1 .1 .1 .0)) (probes-salvrunde-probe-predict-luma-tb-scratch.Post κs)
-probes-salvrunde-probe-predict-luma-tb-scratch-once κs a x y s t p q = by-number _ _ (p .0) (q .0) (p .1) (q .1)
+predict-probes-salvrunde-probe-predict-luma-tb-scratch-once : (κs : Lfts 3) → OnceLeft (λ s. now (s .1 .1 .1 .1 .1 .1 .0)) (predict-probes-salvrunde-probe-predict-luma-tb-scratch.Post κs)
+predict-probes-salvrunde-probe-predict-luma-tb-scratch-once κs a x y s t p q = by-number _ _ (p .0) (q .0) (p .1) (q .1)
 
-probes-salvrunde-probe-compute-residual-i32-into-once : (κs : Lfts 3) → OnceLeft (λ s. now (s .1 .1 .1 .0)) (probes-salvrunde-probe-compute-residual-i32-into.Post κs)
-probes-salvrunde-probe-compute-residual-i32-into-once κs a x y s t p q = (p .0 ∙ sym (q .0), p .1 ∙ sym (q .1))
+predict-probes-salvrunde-probe-compute-residual-i32-into-once : (κs : Lfts 3) → OnceLeft (λ s. now (s .1 .1 .1 .0)) (predict-probes-salvrunde-probe-compute-residual-i32-into.Post κs)
+predict-probes-salvrunde-probe-compute-residual-i32-into-once κs a x y s t p q = (p .0 ∙ sym (q .0), p .1 ∙ sym (q .1))
 
-probes-salvrunde-probe-reconstruct-into-once : (κs : Lfts 3) → OnceLeft (λ s. now (s .1 .1 .1 .1 .0)) (probes-salvrunde-probe-reconstruct-into.Post κs)
-probes-salvrunde-probe-reconstruct-into-once κs a x y s t p q = (p .0 ∙ sym (q .0), p .1 ∙ sym (q .1))
+predict-probes-salvrunde-probe-reconstruct-into-once : (κs : Lfts 3) → OnceLeft (λ s. now (s .1 .1 .1 .1 .0)) (predict-probes-salvrunde-probe-reconstruct-into.Post κs)
+predict-probes-salvrunde-probe-reconstruct-into-once κs a x y s t p q = (p .0 ∙ sym (q .0), p .1 ∙ sym (q .1))
 
 walk-probes-salvrunde-probe-walk-once : (κs : Lfts 7) → OnceLeft {L = World} (λ s. record { work = now (s .1 .1 .1 .1 .1 .1 .1 .0); residuals = now (s .1 .1 .1 .1 .1 .1 .1 .1 .0) }) (walk-probes-salvrunde-probe-walk.Post κs)
 walk-probes-salvrunde-probe-walk-once κs a x y s t p q = (p .0 ∙ sym (q .0), p .1 .0 ∙ sym (q .1 .0))

@@ -1,4 +1,4 @@
-//! The entries of crates probes and walk_probes as C sees them on x86-64: a slice is its address and its length, and a result of more than two
+//! The entries of crates probes, predict_probes and walk_probes as C sees them on x86-64: a slice is its address and its length, and a result of more than two
 //! words is written where a first argument says, which comes back. Said so, it holds wherever the module is compiled for.
 
 /// A call's number, and two rows.
