@@ -75,6 +75,10 @@ use Rattle.helpers.proofs.min.Reads as helpers-min
 use Rattle.helpers.proofs.abs_diff.Reads as helpers-abs-diff
 use Rattle.helpers.proofs.abs.Reads as helpers-abs
 use Rattle.helpers.proofs.clamp.Reads as helpers-clamp
+use Rattle.filters.proofs.smooths.Reads as filters-smooths
+use Rattle.filters.proofs.tap.Reads as filters-tap
+use Rattle.filters.proofs.ramp.Reads as filters-ramp
+use Rattle.filters.proofs.is_straight.Reads as filters-is-straight
 use Rattle.smooth.proofs.should_filter_refs.Reads as smooth-should-filter-refs
 use Rattle.smooth.proofs.filter_references.Reads as smooth-filter-references
 use Rattle.smooth.proofs.filter_luma_refs.Reads as smooth-filter-luma-refs
@@ -372,6 +376,19 @@ helpers-abs-once a x y s t p q = p ∙ sym q
 
 helpers-clamp-once : Once (helpers-clamp.Post tt)
 helpers-clamp-once a x y s t p q = p ∙ sym q
+
+-- filters
+filters-smooths-once : Once (filters-smooths.Post tt)
+filters-smooths-once a x y s t p q = p ∙ sym q
+
+filters-tap-once : Once (filters-tap.Post tt)
+filters-tap-once a x y s t p q = p ∙ sym q
+
+filters-ramp-once : Once (filters-ramp.Post tt)
+filters-ramp-once a x y s t p q = p ∙ sym q
+
+filters-is-straight-once : Once (filters-is-straight.Post tt)
+filters-is-straight-once a x y s t p q = p ∙ sym q
 
 -- smooth
 smooth-should-filter-refs-once : Once (smooth-should-filter-refs.Post tt)

@@ -1,8 +1,8 @@
--- `smooth::mix` meets its contract. A weighted sum of 64 shares is at most 64 times the largest sample. Assumes nothing.
+-- `filters::mix` meets its contract. A weighted sum of 64 shares is at most 64 times the largest sample. Assumes nothing.
 use native.Mathlib.Omega.{arith}
 use Rattle.laws.specs.Weigh.{most, weigh}
-use Rattle.smooth.proofs.mix.Statement.{statement}
-use Rattle.smooth.proofs.mix.Tie as tie
+use Rattle.filters.proofs.mix.Statement.{statement}
+use Rattle.filters.proofs.mix.Tie as tie
 
 mul-result : tie.Need-mul-result
 mul-result c = omega (arith, most 65535 (c .args .a) (c .args .x) (omega arith))

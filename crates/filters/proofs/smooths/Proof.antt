@@ -1,8 +1,8 @@
--- `smooth::smooths` meets its contract. The code is the definition, with what the two calls ensure put in. Assumes nothing.
+-- `filters::smooths` meets its contract. The code is the definition, with what the two calls ensure put in. Assumes nothing.
 use borrow.Author.Needs.{needs}
 use Rattle.h265.specs.Filtering.{filterFlag}
-use Rattle.smooth.proofs.smooths.Statement.{statement}
-use Rattle.smooth.proofs.smooths.Tie as tie
+use Rattle.filters.proofs.smooths.Statement.{statement}
+use Rattle.filters.proofs.smooths.Tie as tie
 
 threshold-requires : tie.Need-threshold-requires
 threshold-requires c κs = search needs

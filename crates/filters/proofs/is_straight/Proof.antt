@@ -1,8 +1,8 @@
--- `smooth::is_straight` meets its contract. The distance and the limit are what the two calls ensure. Assumes nothing.
+-- `filters::is_straight` meets its contract. The distance and the limit are what the two calls ensure. Assumes nothing.
 use borrow.Author.Needs.{needs}
-use Rattle.h265.specs.Filtering.{straight}
-use Rattle.smooth.proofs.is_straight.Statement.{statement}
-use Rattle.smooth.proofs.is_straight.Tie as tie
+use Rattle.filters.specs.Filters.{straight-is}
+use Rattle.filters.proofs.is_straight.Statement.{statement}
+use Rattle.filters.proofs.is_straight.Tie as tie
 
 add-abs-diff : tie.Need-add-abs-diff
 add-abs-diff c = search needs
@@ -17,8 +17,9 @@ limit-of-requires : tie.Need-limit-of-requires
 limit-of-requires c κs = search needs
 
 returns : tie.Need-returns
-unfolding straight
-returns c = rw (c .limit-of .ensures, c .before .abs-diff .ensures)
+returns c =
+    let a = c .before .before .args in
+    rw (c .limit-of .ensures, c .before .abs-diff .ensures) (straight-is (a .bits) (a .corner) (a .mid) (a .far))
 
 pub is-straight-spec : {M : Type 1} → statement M
 is-straight-spec =

@@ -1,7 +1,7 @@
--- `smooth::threshold` meets its contract. Each size by its arm. Assumes nothing.
+-- `filters::threshold` meets its contract. Each size by its arm. Assumes nothing.
 use borrow.Author.Tests.{ne-eqb}
-use Rattle.smooth.proofs.threshold.Statement.{statement}
-use Rattle.smooth.proofs.threshold.Tie as tie
+use Rattle.filters.proofs.threshold.Statement.{statement}
+use Rattle.filters.proofs.threshold.Tie as tie
 
 returns : tie.Need-returns
 returns c = rw (c .match .keys1)
