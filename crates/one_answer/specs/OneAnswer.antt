@@ -79,6 +79,10 @@ use Rattle.filters.proofs.smooths.Reads as filters-smooths
 use Rattle.filters.proofs.tap.Reads as filters-tap
 use Rattle.filters.proofs.ramp.Reads as filters-ramp
 use Rattle.filters.proofs.is_straight.Reads as filters-is-straight
+use Rattle.deltas.proofs.less.Reads as deltas-less
+use Rattle.deltas.proofs.restored.Reads as deltas-restored
+use Rattle.deltas.proofs.in_range.Reads as deltas-in-range
+use Rattle.deltas.proofs.high_part.Reads as deltas-high-part
 use Rattle.smooth.proofs.should_filter_refs.Reads as smooth-should-filter-refs
 use Rattle.smooth.proofs.filter_references.Reads as smooth-filter-references
 use Rattle.smooth.proofs.filter_luma_refs.Reads as smooth-filter-luma-refs
@@ -389,6 +393,19 @@ filters-ramp-once a x y s t p q = p ∙ sym q
 
 filters-is-straight-once : Once (filters-is-straight.Post tt)
 filters-is-straight-once a x y s t p q = p ∙ sym q
+
+-- deltas
+deltas-less-once : Once (deltas-less.Post tt)
+deltas-less-once a x y s t p q = p ∙ sym q
+
+deltas-restored-once : Once (deltas-restored.Post tt)
+deltas-restored-once a x y s t p q = p ∙ sym q
+
+deltas-in-range-once : Once (deltas-in-range.Post tt)
+deltas-in-range-once a x y s t p q = p ∙ sym q
+
+deltas-high-part-once : Once (deltas-high-part.Post tt)
+deltas-high-part-once a x y s t p q = p ∙ sym q
 
 -- smooth
 smooth-should-filter-refs-once : Once (smooth-should-filter-refs.Post tt)

@@ -1,9 +1,9 @@
--- `residual::difference` meets its contract. Two samples fit an i32, and so does their difference. Assumes nothing.
+-- `deltas::less` meets its contract. Two samples fit an i32, and so does their difference. Assumes nothing.
 use native.Mathlib.Omega.{arith}
 use borrow.Author.Needs.{needs}
 use Rattle.laws.specs.Signed.{sample-i32, sub-asks, sub-gives}
-use Rattle.residual.proofs.difference.Statement.{statement}
-use Rattle.residual.proofs.difference.Tie as tie
+use Rattle.deltas.proofs.less.Statement.{statement}
+use Rattle.deltas.proofs.less.Tie as tie
 
 cast-result : tie.Need-cast-result
 cast-result c = search needs
@@ -17,5 +17,5 @@ sub-result c = sub-asks (c .args .o) (c .args .p) _ _ (sample-i32 _ (c .fits .o 
 returns : tie.Need-returns
 returns c = sub-gives (c .args .o) (c .args .p) _ _ (sample-i32 _ (c .fits .o .fits)) (sample-i32 _ (c .fits .p .fits)) (omega arith)
 
-pub difference-spec : {M : Type 1} → statement M
-difference-spec = tie.close (tie.spec cast-result cast-result-2 sub-result returns)
+pub less-spec : {M : Type 1} → statement M
+less-spec = tie.close (tie.spec cast-result cast-result-2 sub-result returns)
