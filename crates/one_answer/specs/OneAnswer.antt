@@ -34,6 +34,7 @@ use Rattle.domain.proofs.ctu_ok.Reads as domain-ctu-ok
 use Rattle.domain.proofs.unit_ok.Reads as domain-unit-ok
 use Rattle.taps.proofs.largest_of.Reads as taps-largest-of
 use Rattle.taps.proofs.interp.Reads as taps-interp
+use Rattle.taps.proofs.mean.Reads as taps-mean
 use Rattle.taps.proofs.edge.Reads as taps-edge
 use Rattle.taps.proofs.filtered.Reads as taps-filtered
 use Rattle.taps.proofs.blend.Reads as taps-blend
@@ -250,6 +251,9 @@ taps-largest-of-once a x y s t p q = p ∙ sym q
 
 taps-interp-once : Once (taps-interp.Post tt)
 taps-interp-once a x y s t p q = p ∙ sym q
+
+taps-mean-once : Once (taps-mean.Post tt)
+taps-mean-once a x y s t p q = p ∙ sym q
 
 taps-edge-once : Once (taps-edge.Post tt)
 taps-edge-once a x y s t p q = p ∙ sym q
