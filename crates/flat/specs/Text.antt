@@ -1,6 +1,6 @@
 -- The standard's shift by log2 n + 1 divides by 2n, so that planar and the DC value are quotients. Rests on the standard's clauses.
 use Prim.Native.Nat.{ℕ, _+_, _-_, _*_, _/_, _^_, _≤_, _<_}
-use mathlib.Core.Path.{_≡_, refl, ap, subst}
+use mathlib.Core.Path.{_≡_, refl, ap, _∙_, subst}
 use native.Mathlib.Numerals.{add-one}
 use native.Mathlib.Omega.{arith}
 use mathlib.Core.Bool.{cond, _&&_}
@@ -12,6 +12,8 @@ use Rattle.domain.specs.Facts.{Size, at-size}
 use Rattle.h265.specs.Notation.{Neighbours, fromRows, log2, halvings}
 use Rattle.h265.specs.Planar.{planar}
 use Rattle.h265.specs.Dc.{sum, dcVal}
+use Rattle.taps.specs.Taps.{meanOf}
+use Rattle.taps.specs.Laws.{mean-is}
 use Rattle.flat.specs.Flat.{planarMix}
 
 halves : (n : ℕ) → Size n → 2 ^ (log2 n + 1) ≡ 2 * n
@@ -43,9 +45,9 @@ total-more nb i s t a l = record { is = let e = t .is in rw add-one (omega arith
 pub total-done : (nb : Neighbours) {i k s : ℕ} → i ≤ k → k ≤ i → Total nb i s → Total nb k s
 total-done nb {i} {k} {s} p q t = subst (λ (m : ℕ). Total nb m s) (let e : i ≡ k = omega arith in e) t
 
-pub dc-mean : (n : ℕ) → Size n → (nb : Neighbours) (s : ℕ) → s ≡ sum (nb .above) n + sum (nb .left) n → (s + n) / (2 * n) ≡ dcVal n nb
+pub dc-mean : (n : ℕ) → Size n → (nb : Neighbours) (s : ℕ) → Total nb n s → meanOf n s ≡ dcVal n nb
 unfolding dcVal
-dc-mean n s nb all e = rw (e, halves n s)
+dc-mean n s nb all t = mean-is n all s (t .most) ∙ rw (t .is, halves n s)
 
 -- the DC value of two lists, where n is a side and each has n entries
 unfoldable pub valueOf : ℕ → List ℕ → List ℕ → ℕ

@@ -2,13 +2,14 @@
 // The stores run with a side that is a constant of each call, and a row that is read and written goes by way of a local array:
 // all reads then come before the first store, and the compiler can use wide ones.
 ghost use mathlib.Core.Path.{_≡_};
-ghost use Prim.Native.Nat.{ℕ, _+_, _*_, _/_, _≤_, _<_};
+ghost use Prim.Native.Nat.{ℕ, _+_, _*_, _≤_, _<_};
 ghost use lib.ListN.{length, getD};
 ghost use Rattle.laws.specs.Fill.{fill, run, block};
 ghost use Rattle.laws.specs.Choose.{served};
 ghost use Rattle.h265.specs.Notation.{fromRows};
 ghost use Rattle.h265.specs.Planar.{planar};
 ghost use Rattle.h265.specs.Dc.{dc};
+ghost use Rattle.domain.specs.Facts.{Size};
 ghost use Rattle.taps.specs.Taps.{blended};
 ghost use Rattle.numbers.specs.Numbers.{flatNo, flatShortNo};
 ghost use Rattle.flat.specs.Flat.{Ready, planarMix};
@@ -33,12 +34,12 @@ fn planar_sample(
     top: u16,
     bottom_left: u16,
 ) -> u16
-    requires { ⌜ (row < n) × ((col < n) × (n ≤ 32)) ⌝ }
+    requires { ⌜ Size n × ((row < n) × ((col < n) × (n ≤ 32))) ⌝ }
     ensures { λ r. ⌜ r ≡ planarMix n row col left «top_right» top «bottom_left» ⌝ }
 {
     let h = mix(n - 1 - col, left, col + 1, top_right);
     let v = mix(n - 1 - row, top, row + 1, bottom_left);
-    ((h + v + n) / (2 * n)) as u16
+    taps::mean(h + v, n as usize)
 }
 
 // A row of samples, from entry 0 of a list on.
@@ -51,7 +52,7 @@ fn planar_row(
     row: usize,
     out: &mut [u16],
 )
-    requires { ⌜ (row < n) × ((n ≤ 32) × ((n ≤ length (now above)) × (n ≤ length (now out)))) ⌝ }
+    requires { ⌜ Size n × ((row < n) × ((n ≤ 32) × ((n ≤ length (now above)) × (n ≤ length (now out))))) ⌝ }
     ensures { λ _. ⌜ now (out .exit) ≡ fill (λ (x : ℕ). planarMix n row x left «top_right» (getD (now (above .entry)) x 0) «bottom_left») n (now (out .entry)) ⌝ }
 {
     for col in 0..n {
@@ -87,7 +88,7 @@ fn planar_line(
     at: usize,
     pred: &mut [u16],
 )
-    requires { ⌜ (row < n) × ((n ≤ 32) × ((n ≤ length (now above)) × (at + n ≤ length (now pred)))) ⌝ }
+    requires { ⌜ Size n × ((row < n) × ((n ≤ 32) × ((n ≤ length (now above)) × (at + n ≤ length (now pred))))) ⌝ }
     ensures { λ _. ⌜ now (pred .exit) ≡ run (λ (x : ℕ). planarMix n row x left «top_right» (getD (now (above .entry)) x 0) «bottom_left») at n (now (pred .entry)) ⌝ }
 {
     let mut samples = [0u16; 32];
@@ -160,13 +161,6 @@ fn total(above: &[u16], left: &[u16], n: usize) -> u32
     all
 }
 
-fn mean(all: u32, n: usize) -> u16
-    requires { ⌜ (4 ≤ n) × ((n ≤ 32) × (all ≤ 131070 * n)) ⌝ }
-    ensures { λ r. ⌜ r ≡ (all + n) / (2 * n) ⌝ }
-{
-    ((all + n as u32) / (2 * n as u32)) as u16
-}
-
 // The value in the first count entries.
 fn flat_fill(dc: u16, count: usize, pred: &mut [u16])
     requires { ⌜ count ≤ length (now pred) ⌝ }
@@ -218,9 +212,9 @@ fn dc_n(above: &[u16], left: &[u16], all: u32, n: usize, filter_boundary: bool, 
     requires { ⌜ (Ready n (length (now above)) (length (now left)) × (n * n ≤ length (now pred))) × Total (fromRows 0 (now above) (now left)) n all ⌝ }
     ensures { λ _. ⌜ now (pred .exit) ≡ block (λ (y x : ℕ). dc «filter_boundary» n (fromRows 0 (now (above .entry)) (now (left .entry))) x y) n (now (pred .entry)) ⌝ }
 {
-    let value = mean(all, n);
+    let value = taps::mean(all, n);
     flat_fill(value, n * n, &mut *pred);
-    if filter_boundary & (n < 32) {
+    if taps::filtered(filter_boundary, n) {
         edge(above, left, value, n, &mut *pred);
     }
 }
@@ -274,7 +268,7 @@ pub fn dc_value(above: &[u16], left: &[u16], n: usize) -> u16
         return 0;
     }
     if (above.len() >= n) & (left.len() >= n) {
-        return mean(total(above, left, n), n);
+        return taps::mean(total(above, left, n), n);
     }
     0
 }

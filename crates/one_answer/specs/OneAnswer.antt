@@ -34,6 +34,7 @@ use Rattle.domain.proofs.ctu_ok.Reads as domain-ctu-ok
 use Rattle.domain.proofs.unit_ok.Reads as domain-unit-ok
 use Rattle.taps.proofs.largest_of.Reads as taps-largest-of
 use Rattle.taps.proofs.interp.Reads as taps-interp
+use Rattle.taps.proofs.mean.Reads as taps-mean
 use Rattle.taps.proofs.edge.Reads as taps-edge
 use Rattle.taps.proofs.filtered.Reads as taps-filtered
 use Rattle.taps.proofs.blend.Reads as taps-blend
@@ -80,6 +81,14 @@ use Rattle.helpers.proofs.min.Reads as helpers-min
 use Rattle.helpers.proofs.abs_diff.Reads as helpers-abs-diff
 use Rattle.helpers.proofs.abs.Reads as helpers-abs
 use Rattle.helpers.proofs.clamp.Reads as helpers-clamp
+use Rattle.filters.proofs.smooths.Reads as filters-smooths
+use Rattle.filters.proofs.tap.Reads as filters-tap
+use Rattle.filters.proofs.ramp.Reads as filters-ramp
+use Rattle.filters.proofs.is_straight.Reads as filters-is-straight
+use Rattle.deltas.proofs.less.Reads as deltas-less
+use Rattle.deltas.proofs.restored.Reads as deltas-restored
+use Rattle.deltas.proofs.in_range.Reads as deltas-in-range
+use Rattle.deltas.proofs.high_part.Reads as deltas-high-part
 use Rattle.smooth.proofs.should_filter_refs.Reads as smooth-should-filter-refs
 use Rattle.smooth.proofs.filter_references.Reads as smooth-filter-references
 use Rattle.smooth.proofs.filter_luma_refs.Reads as smooth-filter-luma-refs
@@ -265,6 +274,9 @@ taps-largest-of-once a x y s t p q = p ∙ sym q
 taps-interp-once : Once (taps-interp.Post tt)
 taps-interp-once a x y s t p q = p ∙ sym q
 
+taps-mean-once : Once (taps-mean.Post tt)
+taps-mean-once a x y s t p q = p ∙ sym q
+
 taps-edge-once : Once (taps-edge.Post tt)
 taps-edge-once a x y s t p q = p ∙ sym q
 
@@ -394,6 +406,32 @@ helpers-abs-once a x y s t p q = p ∙ sym q
 
 helpers-clamp-once : Once (helpers-clamp.Post tt)
 helpers-clamp-once a x y s t p q = p ∙ sym q
+
+-- filters
+filters-smooths-once : Once (filters-smooths.Post tt)
+filters-smooths-once a x y s t p q = p ∙ sym q
+
+filters-tap-once : Once (filters-tap.Post tt)
+filters-tap-once a x y s t p q = p ∙ sym q
+
+filters-ramp-once : Once (filters-ramp.Post tt)
+filters-ramp-once a x y s t p q = p ∙ sym q
+
+filters-is-straight-once : Once (filters-is-straight.Post tt)
+filters-is-straight-once a x y s t p q = p ∙ sym q
+
+-- deltas
+deltas-less-once : Once (deltas-less.Post tt)
+deltas-less-once a x y s t p q = p ∙ sym q
+
+deltas-restored-once : Once (deltas-restored.Post tt)
+deltas-restored-once a x y s t p q = p ∙ sym q
+
+deltas-in-range-once : Once (deltas-in-range.Post tt)
+deltas-in-range-once a x y s t p q = p ∙ sym q
+
+deltas-high-part-once : Once (deltas-high-part.Post tt)
+deltas-high-part-once a x y s t p q = p ∙ sym q
 
 -- smooth
 smooth-should-filter-refs-once : Once (smooth-should-filter-refs.Post tt)

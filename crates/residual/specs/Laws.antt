@@ -1,78 +1,25 @@
--- The round trip, the range of a residual, and how the tests are taken apart. Assumes nothing.
+-- Residuals one after the other, and how the tests are taken apart. Assumes nothing.
 use mathlib.Core.Path.{_≡_, refl, ap, _∙_}
 use mathlib.Core.Bool.{Bool, true, false, _&&_}
 use mathlib.Core.Logic.{⊎-elim}
 use mathlib.Core.List.{List, [], _∷_}
-use Prim.Native.Nat.{ℕ, zero, suc, _+_, _-_, _*_, _^_, _/_, _%_, _≤_, _<_}
-use native.Mathlib.Nat.{not-suc-le-zero, eq-or-lt-of-le, le-of-suc-le-suc, min-eq-left}
+use Prim.Native.Nat.{ℕ, zero, suc, _+_, _*_, _≤_, _<_}
+use native.Mathlib.Nat.{not-suc-le-zero, eq-or-lt-of-le, le-of-suc-le-suc}
 use native.Mathlib.Numerals.{add-one}
 use native.Mathlib.Omega.{arith}
-use borrow.Author.Tests.{leb-true, le-leb}
+use borrow.Author.Tests.{leb-true}
 use lib.Bits.{bitOr, or-add-and, and-le-l, and-le-r}
 use lib.Dec.{leb}
-use lib.Signed.{mag}
-use mir.Syntax.{w32, w64}
-use mir.Val.{Fits as FitsIn, SFits, toZ, ofZ}
-use mir.Facts.{toZ-ofZ}
 use lib.ListN.{length, getD, replicate, length-replicate}
-use lib.IntN.{ℤ, pos, negsuc, natAbs, _+ℤ_, _-ℤ_, +ℤ-comm, -ℤ-+ℤ-cancel}
+use lib.IntN.{ℤ, pos, natAbs}
 use Rattle.laws.specs.Fill.{fill, run}
 use Rattle.laws.specs.FillLaws.{fill-at, fill-run}
 use Rattle.laws.specs.Choose.{Check, _unless_, firstFail, passed, both-true}
-use Rattle.laws.specs.Diff.{as-sub, sub-le, sub-pos}
-use Rattle.helpers.specs.Ways.{whole}
-use Rattle.h265.specs.Notation.{clipTo}
 use Rattle.domain.specs.Domain.{depthOk, sizeOk}
 use Rattle.domain.specs.Facts.{Depth, Size, depth-of, size-of}
-use Rattle.residual.specs.Residual.{inRange, allInRange, blockChecks, residualNo, reconstructNo}
-
--- a residual added back gives the original
-pub round-trip : (m o p : ℕ) → o ≤ m → clipTo m (pos p +ℤ (pos o -ℤ pos p)) ≡ o
-round-trip m o p h = ap (clipTo m) (+ℤ-comm (pos p) (pos o -ℤ pos p) ∙ -ℤ-+ℤ-cancel (pos o) (pos p)) ∙ min-eq-left h
-
--- the residual of two 16-bit samples is in range
-pub in-range-of : (o p : ℕ) → o ≤ 65535 → p ≤ 65535 → inRange (pos o -ℤ pos p) ≡ true
-in-range-of o p h k =
-    rw (whole o p, sub-le 0 65535 o p (omega arith), as-sub 65535, sub-le o p 65535 0 (omega arith))
-
--- a residual in range has a small magnitude
-pub small : (r : ℤ) → inRange r ≡ true → natAbs r ≤ 65535
-small (pos k) e = leb-true k 65535 e
-small (negsuc k) e = let h = leb-true k 65534 (both-true (leb k 65534) true e .0) in omega arith
-
--- a number raised by 2^31, after which no i32 is below 0
-abbrev pub raise : ℤ → ℕ
-raise (pos k) = k + 2147483648
-raise (negsuc k) = 2147483648 - suc k
-
-raise-is : (z : ℤ) → mag z < 2147483648 → z +ℤ pos 2147483648 ≡ pos (raise z)
-raise-is (pos k) h = refl
-raise-is (negsuc k) h = sub-pos 2147483648 (suc k) h
-
-pub raise-fits : (z : ℤ) → SFits w32 z → FitsIn w32 (raise z)
-raise-fits (pos k) f = let s = f .sfits in record { fits = omega arith }
-raise-fits (negsuc k) f = let s = f .sfits in record { fits = omega arith }
-
--- as the machine does it in 64 bits
-module _ (z : ℤ) (f : SFits w32 z) where
-  pub wide-fits : SFits w64 z
-  wide-fits = let s = f .sfits in record { sfits = omega arith }
-
-  pub sum-fits : SFits w64 (z +ℤ pos 2147483648)
-  sum-fits = rw (raise-is z (f .sfits)) (let s = raise-fits z f .fits in record { sfits = omega arith })
-
-  pub sum-gives : toZ w64 (ofZ w64 (z +ℤ pos 2147483648)) ≡ pos (raise z)
-  sum-gives = toZ-ofZ {w = w64} sum-fits ∙ raise-is z (f .sfits)
-
--- and a small magnitude is in range
-pub in-range : (r : ℤ) → natAbs r ≤ 65535 → inRange r ≡ true
-in-range (pos k) h = le-leb k 65535 h
-in-range (negsuc k) h = rw (le-leb k 65534 (omega arith))
-
--- a number that fits an i16, told by what is above its 16 low bits
-pub narrow-in-range : (z : ℤ) → SFits w32 z → ((raise z + 2147516416) % 2 ^ 32) / 65536 ≡ 0 → inRange z ≡ true
-narrow-in-range (pos k) f e = let s = f .sfits in in-range (pos k) (omega arith)
-narrow-in-range (negsuc k) f e = let s = f .sfits in in-range (negsuc k) (omega arith)
+use Rattle.deltas.specs.Deltas.{inRange}
+use Rattle.deltas.specs.Laws.{small}
+use Rattle.residual.specs.Residual.{allInRange, blockChecks, residualNo, reconstructNo}
 
 -- nothing laid over nothing
 pub both-none : (a b : ℕ) → bitOr a b ≡ 0 → (a ≡ 0) × (b ≡ 0)

@@ -4,12 +4,12 @@ use mathlib.Core.List.{List, [], _∷_}
 use Prim.Native.Nat.{ℕ, zero, suc, _-_, _*_, _^_}
 use lib.Dec.{leb}
 use lib.ListN.{length, getD}
-use lib.IntN.{ℤ, pos, negsuc, _+ℤ_, _-ℤ_}
-use lib.Signed.{leZ}
+use lib.IntN.{ℤ, pos, _+ℤ_, _-ℤ_}
 use Rattle.laws.specs.Fill.{fill}
 use Rattle.laws.specs.Choose.{Check, _unless_, firstFail, served}
 use Rattle.h265.specs.Notation.{clipTo}
 use Rattle.domain.specs.Domain.{depthOk, sizeOk}
+use Rattle.deltas.specs.Deltas.{inRange}
 
 -- original less prediction, at entry i
 abbrev pub residualAt : List ℕ → List ℕ → ℕ → ℤ
@@ -18,10 +18,6 @@ residualAt orig pred i = pos (getD orig i 0) -ℤ pos (getD pred i 0)
 -- prediction plus residual, brought to 0..largest, at entry i
 abbrev pub rebuiltTo : ℕ → List ℕ → List ℤ → ℕ → ℕ
 rebuiltTo largest pred residual i = clipTo largest (pos (getD pred i 0) +ℤ getD residual i (pos 0))
-
--- residuals run from -65535 to 65535
-abbrev pub inRange : ℤ → Bool
-inRange r = leZ (negsuc 65534) r && leZ r (pos 65535)
 
 -- the first k are in range
 unfoldable pub allInRange : List ℤ → ℕ → Bool

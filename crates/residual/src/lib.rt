@@ -1,14 +1,14 @@
-// Residual and reconstruction. Rests on the standard's clip, the domain's tests, the largest sample of a depth (taps) and the helpers.
+// Residual and reconstruction. Rests on the standard's clip, the domain's tests, the largest sample of a depth (taps), the arithmetic of one residual (deltas) and the helpers.
 ghost use mathlib.Core.Path.{_≡_};
 ghost use mathlib.Core.Bool.{true};
 ghost use Prim.Native.Nat.{ℕ, _+_, _*_, _≤_, _<_};
 ghost use lib.ListN.{length, getD, replicate};
-ghost use lib.IntN.{pos, natAbs, _+ℤ_, _-ℤ_};
+ghost use lib.IntN.{pos, natAbs, _+ℤ_};
 ghost use Rattle.laws.specs.Fill.{fill, run};
 ghost use Rattle.h265.specs.Notation.{clipTo};
 ghost use Rattle.domain.specs.Facts.{Size};
-ghost use Rattle.residual.specs.Residual.{residualAt, rebuiltTo, inRange, allInRange, residualNo, reconstructNo, residualsAfter, reconstructed};
-ghost use Rattle.residual.specs.Laws.{Fits, raise};
+ghost use Rattle.residual.specs.Residual.{residualAt, rebuiltTo, allInRange, residualNo, reconstructNo, residualsAfter, reconstructed};
+ghost use Rattle.residual.specs.Laws.{Fits};
 
 // How many runs of 16 samples a block of side n has.
 fn runs_of(n: usize) -> usize
@@ -23,12 +23,7 @@ fn runs_of(n: usize) -> usize
     }
 }
 
-fn difference(o: u16, p: u16) -> i32
-    ensures { λ r. ⌜ r ≡ pos o -ℤ pos p ⌝ }
-{
-    (o as i32) - (p as i32)
-}
-
+// Prediction plus residual, clamped; of a residual in range, so that a sample asks no test (`deltas::restored` makes one).
 fn rebuilt(p: u16, r: i32, largest: u16) -> u16
     requires { ⌜ natAbs r ≤ 65535 ⌝ }
     ensures { λ s. ⌜ s ≡ clipTo largest (pos p +ℤ r) ⌝ }
@@ -58,7 +53,7 @@ fn residual_run(orig: &[u16], pred: &[u16], at: usize) -> [i32; 16]
 {
     let mut to = [0i32; 16];
     for j in 0..16 {
-        to[j] = difference(orig[at + j], pred[at + j]);
+        to[j] = deltas::less(orig[at + j], pred[at + j]);
     }
     to
 }
@@ -94,12 +89,6 @@ pub fn compute_residual_i32_into(orig: &[u16], pred: &[u16], n: usize, residual:
     0
 }
 
-fn in_range(r: i32) -> bool
-    ensures { λ b. ⌜ b ≡ inRange r ⌝ }
-{
-    (r >= -65535) & (r <= 65535)
-}
-
 // Whether so many runs of residuals are in range; no early way out, so that many are tested at once.
 fn all_in_range(residual: &[i32], runs: usize) -> bool
     requires { ⌜ (runs * 16 ≤ length (now residual)) × (runs ≤ 64) ⌝ }
@@ -107,23 +96,9 @@ fn all_in_range(residual: &[i32], runs: usize) -> bool
 {
     let mut ok = true;
     for i in 0..runs * 16 {
-        ok = ok & in_range(residual[i]);
+        ok = ok & deltas::in_range(residual[i]);
     }
     ok
-}
-
-// A number raised by 2^31, after which it is not below 0.
-fn raised(r: i32) -> u32
-    ensures { λ u. ⌜ u ≡ raise r ⌝ }
-{
-    ((r as i64) + 2147483648) as u32
-}
-
-// What r + 32768 has above its 16 low bits: 0 where r fits an i16, and then it is in range.
-fn high_part(r: i32) -> u16
-    ensures { λ h. ⌜ (h ≡ 0 → inRange r ≡ true) ⌝ }
-{
-    (std::num::wrapping_add_u32(raised(r), 2147516416) / 65536) as u16
 }
 
 // The high parts of so many runs of residuals, one laid over the other.
@@ -133,7 +108,7 @@ fn high_parts(residual: &[i32], runs: usize) -> u16
 {
     let mut parts = 0u16;
     for i in 0..runs * 16 {
-        parts = parts | high_part(residual[i]);
+        parts = parts | deltas::high_part(residual[i]);
     }
     parts
 }

@@ -3,7 +3,7 @@ use mathlib.Core.Path.{_≡_, refl, ap}
 use mathlib.Core.Bool.{Bool, true, false, _&&_}
 use mathlib.Core.Logic.{⊎-elim}
 use mathlib.Core.List.{List}
-use Prim.Native.Nat.{ℕ, _+_, _-_, _*_, _/_, _≤_, _<_}
+use Prim.Native.Nat.{ℕ, _+_, _-_, _*_, _/_, _%_, _≤_, _<_}
 use native.Mathlib.Omega.{arith}
 use borrow.Author.Tests.{lt-ltb, le-ltb, leb-true}
 use lib.Dec.{leb}
@@ -39,9 +39,8 @@ module _ (n corner : ℕ) (row : List ℕ) where
   unfolding weakAt
   weak-end x h = ⊎-elim (λ l. rw (lt-ltb x (2 * n) l, le-ltb x (2 * n - 1) h)) (λ l. rw (le-ltb x (2 * n) l)) (order x (2 * n))
 
-  pub strong-mid : (x : ℕ) → x < 63 → ((63 - x) * corner + (x + 1) * getD row 63 0 + 32) / 64 ≡ strongEntry corner row x
-  unfolding strongAt
-  strong-mid x h = rw (lt-ltb x (2 * 32) (omega arith), lt-ltb x 63 h)
+  pub strong-mid : (x : ℕ) → x < 63 → strongAt corner (getD row 63 0) (x % 64) ≡ strongEntry corner row x
+  strong-mid x h = let e : x % 64 ≡ x = omega arith in rw (lt-ltb x (2 * 32) (omega arith), e)
 
   pub strong-last : getD row 63 0 ≡ strongEntry corner row 63
   unfolding strongAt

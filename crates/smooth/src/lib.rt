@@ -1,10 +1,10 @@
-// Smoothing of a block's references, H.265 8.4.4.2.3. Rests on the standard's definitions, the domain's tests, the rows and the helpers.
+// Smoothing of a block's references, H.265 8.4.4.2.3. Rests on the standard's definitions, the domain's tests, the rows and the arithmetic of one reference (filters).
 ghost use mathlib.Core.Path.{_≡_};
 ghost use mathlib.Core.Bool.{true};
-ghost use Prim.Native.Nat.{ℕ, _+_, _-_, _*_, _/_, _^_, _≤_, _<_};
+ghost use Prim.Native.Nat.{ℕ, _≤_};
 ghost use lib.ListN.{length, getD};
 ghost use Rattle.h265.specs.Notation.{fromRows};
-ghost use Rattle.h265.specs.Filtering.{minDistVerHor, distThreshold, filterFlag, straight, biIntFlag, strongAt};
+ghost use Rattle.h265.specs.Filtering.{biIntFlag, strongAt};
 ghost use Rattle.domain.specs.Facts.{Depth};
 ghost use Rattle.smooth.specs.Smoothing.{ruleNo, filterNo, lumaNo, ruleDoor, filterDoor, lumaDoor, rowOf, smoothed};
 ghost use Rattle.smooth.specs.Forms.{weakRow};
@@ -29,33 +29,6 @@ pub struct Smoothed {
     pub rows: rows::Rows,
 }
 
-// The distance of a mode from pure vertical and pure horizontal.
-fn distance(mode: u8) -> u32
-    ensures { λ r. ⌜ r ≡ minDistVerHor mode ⌝ }
-{
-    helpers::min(
-        helpers::abs_diff(mode as u32, 26),
-        helpers::abs_diff(mode as u32, 10),
-    )
-}
-
-fn threshold(n: usize) -> u32
-    ensures { λ r. ⌜ r ≡ distThreshold n ⌝ }
-{
-    match n {
-        8 => 7,
-        16 => 1,
-        _ => 0,
-    }
-}
-
-fn smooths(mode: u8, n: usize) -> bool
-    ensures { λ r. ⌜ r ≡ filterFlag n mode ⌝ }
-{
-    let near = (mode == 1) | (n == 4);
-    !near & (threshold(n) < distance(mode))
-}
-
 // Number 2, then 3.
 fn rule_no(mode: u8, n: usize) -> u32
     ensures { λ r. ⌜ r ≡ ruleNo mode n ⌝ }
@@ -77,7 +50,7 @@ pub fn should_filter_refs(mode: u8, n: usize) -> Rule
     if no == 0 {
         return Rule {
             no: 0,
-            yes: smooths(mode, n),
+            yes: filters::smooths(mode, n),
         };
     }
     Rule { no: no, yes: false }
@@ -107,13 +80,6 @@ fn luma_no(bits: u32, n: usize, above: usize, left: usize) -> u32
     filter_no(n, above, left)
 }
 
-// One sample in the [1 2 1] form.
-fn tap(before: u16, own: u16, after: u16) -> u16
-    ensures { λ r. ⌜ r ≡ (after + 2 * own + before + 2) / 4 ⌝ }
-{
-    (((after as u32) + 2 * (own as u32) + (before as u32) + 2) / 4) as u16
-}
-
 // A row in the [1 2 1] form: entries 2n - 1 and 2n are copied.
 fn weak_row(corner: u16, row: &[u16], n: usize) -> [u16; 65]
     requires { ⌜ (4 ≤ n) × ((n ≤ 32) × (65 ≤ length (now row))) ⌝ }
@@ -122,29 +88,13 @@ fn weak_row(corner: u16, row: &[u16], n: usize) -> [u16; 65]
     let mut to = [0u16; 65];
     let ext = 2 * n;
     let last = ext - 1;
-    to[0] = tap(corner, row[0], row[1]);
+    to[0] = filters::tap(corner, row[0], row[1]);
     for x in 1..last {
-        to[x] = tap(row[x - 1], row[x], row[x + 1]);
+        to[x] = filters::tap(row[x - 1], row[x], row[x + 1]);
     }
     to[last] = row[last];
     to[ext] = row[ext];
     to
-}
-
-// Two weighted samples; with 64 shares in all the sum is bounded.
-fn mix(a: u32, x: u16, b: u32, y: u16) -> u32
-    requires { ⌜ a + b ≤ 64 ⌝ }
-    ensures { λ r. ⌜ (r ≡ a * x + b * y) × (r ≤ (a + b) * 65535) ⌝ }
-{
-    a * (x as u32) + b * (y as u32)
-}
-
-// One sample on the straight line from the corner to the far end.
-fn ramp(x: u32, corner: u16, far: u16) -> u16
-    requires { ⌜ x < 63 ⌝ }
-    ensures { λ r. ⌜ r ≡ ((63 - x) * corner + (x + 1) * far + 32) / 64 ⌝ }
-{
-    ((mix(63 - x, corner, x + 1, far) + 32) / 64) as u16
 }
 
 // A row in the strong form, of n = 32: entries 63 and 64 are copied.
@@ -155,31 +105,11 @@ fn strong_row(corner: u16, row: &[u16]) -> [u16; 65]
     let mut to = [0u16; 65];
     let far = row[63];
     for x in 0..63 {
-        to[x] = ramp(x as u32, corner, far);
+        to[x] = filters::ramp(x as u32, corner, far);
     }
     to[63] = far;
     to[64] = row[64];
     to
-}
-
-// The strong form's limit, 2^(bits-5).
-fn limit_of(bits: u32) -> u32
-    requires { ⌜ Depth bits ⌝ }
-    ensures { λ r. ⌜ r ≡ 2 ^ (bits - 5) ⌝ }
-{
-    match bits {
-        8 => 8,
-        10 => 32,
-        _ => 128,
-    }
-}
-
-// Whether a row is nearly straight, by its corner, entry 31 and entry 63.
-fn is_straight(bits: u32, corner: u16, mid: u16, far: u16) -> bool
-    requires { ⌜ Depth bits ⌝ }
-    ensures { λ r. ⌜ r ≡ straight bits corner mid far ⌝ }
-{
-    helpers::abs_diff((corner as u32) + (far as u32), 2 * (mid as u32)) < limit_of(bits)
 }
 
 // Whether the strong form is taken, where it is allowed.
@@ -187,8 +117,8 @@ fn is_strong(allowed: bool, corner: u16, above: &[u16], left: &[u16], n: usize, 
     requires { ⌜ Depth bits × Ready n (length (now above)) (length (now left)) ⌝ }
     ensures { λ r. ⌜ r ≡ biIntFlag allowed bits n (fromRows corner (now (above .entry)) (now (left .entry))) ⌝ }
 {
-    let up = is_straight(bits, corner, above[31], above[63]);
-    let down = is_straight(bits, corner, left[31], left[63]);
+    let up = filters::is_straight(bits, corner, above[31], above[63]);
+    let down = filters::is_straight(bits, corner, left[31], left[63]);
     allowed & (n == 32) & up & down
 }
 
@@ -213,7 +143,7 @@ fn smooth_rows(
             left: l,
         };
     }
-    let c = tap(above[0], corner, left[0]);
+    let c = filters::tap(above[0], corner, left[0]);
     let a = weak_row(corner, above, n);
     let l = weak_row(corner, left, n);
     rows::Rows {

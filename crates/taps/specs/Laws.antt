@@ -1,12 +1,12 @@
--- The edge with no number below 0, and what the samples are where a fraction is below 32 or a depth is one. Assumes nothing.
+-- The edge with no number below 0, and what the samples are where a fraction is below 32, a depth is one or a sum is that of 2n samples. Assumes nothing.
 use mathlib.Core.Path.{_≡_, refl, ap, _∙_}
 use mathlib.Core.Logic.{⊎-elim}
-use Prim.Native.Nat.{ℕ, zero, suc, _+_, _-_, _/_, _%_, _^_, _≤_, _<_, min}
+use Prim.Native.Nat.{ℕ, zero, suc, _+_, _-_, _*_, _/_, _%_, _^_, _≤_, _<_, min}
 use native.Mathlib.Omega.{arith}
 use lib.IntN.{pos, subℕ, _-ℤ_}
 use Rattle.laws.specs.Diff.{order, sub-neg, sub-pos, as-sub}
-use Rattle.domain.specs.Facts.{Depth, at-depth}
-use Rattle.taps.specs.Taps.{largestAt, interpOf, edgeOf}
+use Rattle.domain.specs.Facts.{Depth, Size, at-depth, at-size}
+use Rattle.taps.specs.Taps.{largestAt, interpOf, meanOf, edgeOf}
 
 -- the largest sample of a depth
 pub largest-is : (bits : ℕ) → Depth bits → largestAt bits ≡ 2 ^ bits - 1
@@ -15,6 +15,12 @@ largest-is bits d = at-depth (λ (k : ℕ). largestAt k ≡ 2 ^ k - 1) refl refl
 -- a fraction below 32 is itself by 32
 pub by-fraction : (f x y : ℕ) → f < 32 → interpOf (f % 32) x y ≡ interpOf f x y
 by-fraction f x y h = ap (λ (k : ℕ). interpOf k x y) (let e : f % 32 ≡ f = omega arith in e)
+
+-- the mean of 2n samples of 16 bits
+pub mean-is : (n all : ℕ) → Size n → all ≤ 131070 * n → meanOf n all ≡ (all + n) / (2 * n)
+unfolding meanOf
+mean-is n all s h =
+    at-size (λ (m : ℕ). all ≤ 131070 * m → meanOf m all ≡ (all + m) / (2 * m)) (λ l. omega arith) (λ l. omega arith) (λ l. omega arith) (λ l. omega arith) n s h
 
 -- an edge sample with no number below 0
 minus : (l c : ℕ) → pos l -ℤ pos c ≡ subℕ l c

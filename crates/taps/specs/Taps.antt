@@ -1,10 +1,10 @@
--- One sample of a prediction over the samples that it mixes, H.265 8.4.4.2.5 and 8.4.4.2.6, and the largest sample of a depth. Assumes nothing.
-use Prim.Native.Nat.{ℕ, _+_, _-_, _*_, _/_, _^_}
+-- One sample of a prediction over the samples that it mixes, H.265 8.4.4.2.4 to 8.4.4.2.6, and the largest sample of a depth. Assumes nothing.
+use Prim.Native.Nat.{ℕ, _+_, _-_, _*_, _/_, _%_, _^_}
 use mathlib.Core.Bool.{cond}
 use lib.IntN.{pos, _+ℤ_, _-ℤ_}
 use lib.Signed.{shrZ}
 use Rattle.h265.specs.Notation.{clipTo}
-use Rattle.domain.specs.Domain.{depthOk}
+use Rattle.domain.specs.Domain.{depthOk, sizeOk}
 
 -- the largest sample of a number of bits: 0 where there is no such depth
 abbrev pub largestAt : ℕ → ℕ
@@ -13,6 +13,10 @@ largestAt bits = cond (depthOk bits) (2 ^ bits - 1) 0
 -- 32 - f parts of x and f of y
 unfoldable pub interpOf : ℕ → ℕ → ℕ → ℕ
 interpOf f x y = ((32 - f) * x + f * y + 16) / 32
+
+-- 2n samples' sum over 2n, rounded, in numbers of 32 bits and 16: 0 where n is no side
+unfoldable pub meanOf : ℕ → ℕ → ℕ
+meanOf n all = cond (sizeOk n) (((all + n) % 2 ^ 32) / (2 * n) % 65536) 0
 
 -- an edge sample: a, and half of l less c, brought to 0 .. m
 abbrev pub edgeOf : ℕ → ℕ → ℕ → ℕ → ℕ

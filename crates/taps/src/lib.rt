@@ -1,10 +1,10 @@
-// The arithmetic of one predicted sample: between two references, the edge filters of the pure modes and of DC, and the largest sample of a depth.
+// The arithmetic of one predicted sample: between two references, the mean of 2n samples, the edge filters of the pure modes and of DC, and the largest sample of a depth.
 // Rests on the laws, the standard's clip and the domain's tests. Each is a door of its own, so that a wrong number in one is found in seconds.
 ghost use mathlib.Core.Bool.{_&&_};
 ghost use mathlib.Core.Path.{_≡_};
 ghost use Prim.Native.Nat.{_%_};
 ghost use lib.Dec.{ltb};
-ghost use Rattle.taps.specs.Taps.{largestAt, interpOf, edgeOf, blended, cornered};
+ghost use Rattle.taps.specs.Taps.{largestAt, interpOf, meanOf, edgeOf, blended, cornered};
 
 // The largest sample of a depth, and 0 where there is no such depth.
 pub fn largest_of(bits: u32) -> u16
@@ -24,6 +24,18 @@ pub fn interp(f: u32, x: u16, y: u16) -> u16
 {
     let g = f % 32;
     (((32 - g) * (x as u32) + g * (y as u32) + 16) >> 5) as u16
+}
+
+// The mean of 2n samples by their sum, which planar and DC end with, and 0 where n is no side. Such a sum is below 2^22, so that neither the wrap nor
+// the remainder changes anything.
+pub fn mean(all: u32, n: usize) -> u16
+    ensures { λ r. ⌜ r ≡ meanOf n all ⌝ }
+{
+    if !domain::size_ok(n) {
+        return 0;
+    }
+    let side = n as u32;
+    ((std::num::wrapping_add_u32(all, side) / (2 * side)) % 65536) as u16
 }
 
 // The edge filter of the pure modes: a and half of l less c, rounded down and clipped. The half stands 32768 higher, so that no number is below 0.

@@ -34,14 +34,14 @@ total-requires c κs =
     (h .1, (p, q))
 
 mean-requires : tie.Need-mean-requires
-mean-requires c κs = let h = size-small _ (size-of _ (side (c .before .before))) in (h .0, (h .1, c .total .ensures .most))
+mean-requires c κs = search needs
 
 returns-2 : tie.Need-returns-2
 unfolding valueOf
 returns-2 c =
     let a = c .before .before .before .before .before .before .before .args in
     let s = side (c .before .before .before) in
-    if-yes _ _ _ _ s (if-yes _ _ _ _ (c .before .before .if2 .taken) (c .mean .ensures ∙ dc-mean (a .n) (size-of _ s) (fromRows 0 (a .above .now) (a .left .now)) _ (c .before .total .ensures .is)))
+    if-yes _ _ _ _ s (if-yes _ _ _ _ (c .before .before .if2 .taken) (c .mean .ensures ∙ dc-mean (a .n) (size-of _ s) (fromRows 0 (a .above .now) (a .left .now)) _ (c .before .total .ensures)))
 
 returns-3 : tie.Need-returns-3
 unfolding valueOf

@@ -49,7 +49,7 @@ mul-planar-line-2 : tie.Need-mul-planar-line-2 Inv-loop μ-loop
 mul-planar-line-2 c = omega (arith, room (c .before))
 
 planar-line-requires : tie.Need-planar-line-requires Inv-loop μ-loop
-planar-line-requires c κs = let h = room (c .before .before) in search needs
+planar-line-requires c κs = let h = room (c .before .before) in (c .before .before .before .before .before .before .before .before .before .pre .0 .size, search needs)
 
 add-row : tie.Need-add-row Inv-loop μ-loop
 add-row c = search needs

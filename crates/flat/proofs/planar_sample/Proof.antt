@@ -1,8 +1,9 @@
--- `flat::planar_sample` meets its contract. One planar sample: both sums by `mix`; the quotient fits 16 bits since the weights make 2n.
-use Prim.Native.Nat.{_+_, _*_, _<_}
+-- `flat::planar_sample` meets its contract. One planar sample: both sums by `mix`, then the mean, since the weights make 2n.
+use Prim.Native.Nat.{_+_, _*_, _≤_}
+use mathlib.Core.Path.{_∙_}
 use native.Mathlib.Omega.{arith}
 use borrow.Author.Needs.{needs}
-use Rattle.laws.specs.Weigh.{quotient}
+use Rattle.taps.specs.Laws.{mean-is}
 use Rattle.flat.specs.Flat.{planarMix}
 use Rattle.flat.proofs.planar_sample.Statement.{statement}
 use Rattle.flat.proofs.planar_sample.Tie as tie
@@ -31,27 +32,20 @@ add-mix-2 c = search needs
 mix-requires-2 : tie.Need-mix-requires-2
 mix-requires-2 c κs = search needs
 
-add-result : tie.Need-add-result
-add-result c = search needs
+add-mean : tie.Need-add-mean
+add-mean c = search needs
 
-add-result-2 : tie.Need-add-result-2
-add-result-2 c = search needs
-
-mul-result : tie.Need-mul-result
-mul-result c = search needs
-
-div-result : tie.Need-div-result
-div-result c = search needs
-
-cast-result : tie.Need-cast-result
-cast-result c =
-    let n = c .before .before .args .n in
-    let h : c .before .mix .result + c .mix2 .result + n < 65536 * (2 * n) = omega arith in
-    record { fits = quotient _ _ 65536 (omega arith) h }
+mean-requires : tie.Need-mean-requires
+mean-requires c κs = search needs
 
 returns : tie.Need-returns
 unfolding planarMix
-returns c = rw (c .before .mix .ensures .0, c .mix2 .ensures .0)
+returns c =
+    let s = c .before .before .before in
+    let h = c .before .before .mix in
+    let v = c .before .mix2 in
+    let l : h .result + v .result ≤ 131070 * s .args .n = omega arith in
+    c .mean .ensures ∙ mean-is (s .args .n) (h .result + v .result) (s .pre .0) l ∙ rw (h .ensures .0, v .ensures .0)
 
 pub planar-sample-spec : {M : Type 1} → statement M
 planar-sample-spec =
@@ -65,9 +59,6 @@ planar-sample-spec =
     sub-mix-4
     add-mix-2
     mix-requires-2
-    add-result
-    add-result-2
-    mul-result
-    div-result
-    cast-result
+    add-mean
+    mean-requires
     returns)

@@ -1,6 +1,6 @@
 -- `residual::high_parts` meets its contract. The loop's invariant: as long as nothing is found, the residuals passed are in range.
 -- Assumes nothing.
-use mathlib.Core.Path.{_≡_, refl, sym, _∙_, ap}
+use mathlib.Core.Path.{_≡_, sym, _∙_, ap}
 use mathlib.Core.Bool.{true}
 use Prim.Native.Nat.{_*_, _-_, _≤_}
 use native.Mathlib.Omega.{arith}
@@ -8,6 +8,7 @@ use borrow.Author.Needs.{needs}
 use lib.ListN.{getD}
 use lib.IntN.{pos}
 use Rattle.laws.specs.Signed.{held}
+use Rattle.deltas.specs.Laws.{narrow-in-range}
 use Rattle.residual.specs.Residual.{allInRange}
 use Rattle.residual.specs.Laws.{none-in, one-more, both-none}
 use Rattle.residual.proofs.high_parts.Statement.{statement}
@@ -47,7 +48,9 @@ loop-again c =
       search needs,
       λ e.
           let o = both-none (l .parts) (c .high-part .result) e in
-          let h = rw (held (getD rs (l .i) (pos 0)) (c .before .high-part-arg .given)) at (c .high-part .ensures (o .1)) in
+          let g = c .before .high-part-arg .given in
+          let u = rw (held (getD rs (l .i) (pos 0)) g) at (c .high-part .ensures) in
+          let h = narrow-in-range (getD rs (l .i) (pos 0)) (record { sfits = g }) (sym u ∙ o .1) in
           sym (one-more rs (l .i) (sym (l .inv .1 (o .0))) (sym h)),
     )
 

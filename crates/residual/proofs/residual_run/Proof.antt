@@ -20,26 +20,26 @@ abbrev μ-loop : tie.MeasureT-loop
 loop-holds : tie.Need-loop-holds Inv-loop μ-loop
 loop-holds c = (search needs, (search needs, fill-none _ _))
 
-add-difference : tie.Need-add-difference Inv-loop μ-loop
-add-difference c = search needs
+add-less : tie.Need-add-less Inv-loop μ-loop
+add-less c = search needs
 
-mul-difference : tie.Need-mul-difference Inv-loop μ-loop
-mul-difference c = search needs
+mul-less : tie.Need-mul-less Inv-loop μ-loop
+mul-less c = search needs
 
-shared-slice-read-difference : tie.Need-shared-slice-read-difference Inv-loop μ-loop
-shared-slice-read-difference c = search needs
+shared-slice-read-less : tie.Need-shared-slice-read-less Inv-loop μ-loop
+shared-slice-read-less c = search needs
 
-add-difference-2 : tie.Need-add-difference-2 Inv-loop μ-loop
-add-difference-2 c = search needs
+add-less-2 : tie.Need-add-less-2 Inv-loop μ-loop
+add-less-2 c = search needs
 
-mul-difference-2 : tie.Need-mul-difference-2 Inv-loop μ-loop
-mul-difference-2 c = search needs
+mul-less-2 : tie.Need-mul-less-2 Inv-loop μ-loop
+mul-less-2 c = search needs
 
-shared-slice-read-difference-2 : tie.Need-shared-slice-read-difference-2 Inv-loop μ-loop
-shared-slice-read-difference-2 c = search needs
+shared-slice-read-less-2 : tie.Need-shared-slice-read-less-2 Inv-loop μ-loop
+shared-slice-read-less-2 c = search needs
 
-difference-requires : tie.Need-difference-requires Inv-loop μ-loop
-difference-requires c κs = search needs
+less-requires : tie.Need-less-requires Inv-loop μ-loop
+less-requires c κs = search needs
 
 mul-to : tie.Need-mul-to Inv-loop μ-loop
 mul-to c = search needs
@@ -54,7 +54,7 @@ loop-less : tie.Need-loop-less Inv-loop μ-loop
 loop-less c = search needs
 
 loop-again : tie.Need-loop-again Inv-loop μ-loop
-loop-again c = (search needs, (search needs, fill-more _ _ (c .before .before .before .before .loop .inv .1 .1) (held _ (c .difference .ok) ∙ c .difference .ensures)))
+loop-again c = (search needs, (search needs, fill-more _ _ (c .before .before .before .before .loop .inv .1 .1) (held _ (c .less .ok) ∙ c .less .ensures)))
 
 returns : tie.Need-returns Inv-loop μ-loop
 returns c = fill-done _ _ (c .before .loop .inv .0) (c .loop-test .left) (c .before .loop .inv .1 .1)
@@ -66,13 +66,13 @@ residual-run-spec =
     Inv-loop
     μ-loop
     loop-holds
-    add-difference
-    mul-difference
-    shared-slice-read-difference
-    add-difference-2
-    mul-difference-2
-    shared-slice-read-difference-2
-    difference-requires
+    add-less
+    mul-less
+    shared-slice-read-less
+    add-less-2
+    mul-less-2
+    shared-slice-read-less-2
+    less-requires
     mul-to
     array-set-from-to
     add-j

@@ -1,6 +1,11 @@
 -- `smooth::is_strong` meets its contract. The code is the definition, with both rows' tests put in. Assumes nothing.
+use mathlib.Core.Path.{_≡_, refl}
+use mathlib.Core.Bool.{true}
+use Prim.Native.Nat.{ℕ}
 use borrow.Author.Needs.{needs}
 use Rattle.h265.specs.Filtering.{biIntFlag}
+use Rattle.domain.specs.Domain.{depthOk}
+use Rattle.domain.specs.Facts.{at-depth}
 use Rattle.smooth.proofs.is_strong.Statement.{statement}
 use Rattle.smooth.proofs.is_strong.Tie as tie
 
@@ -24,7 +29,10 @@ is-straight-requires-2 c κs = search needs
 
 returns : tie.Need-returns
 unfolding biIntFlag
-returns c = rw (c .is-straight2 .ensures, c .before .before .before .is-straight .ensures)
+returns c =
+    let s = c .before .before .before .before .before .before .before .before in
+    let e : depthOk (s .args .bits) ≡ true = at-depth (λ (k : ℕ). depthOk k ≡ true) refl refl refl (s .args .bits) (s .pre .0) in
+    rw (c .is-straight2 .ensures, c .before .before .before .is-straight .ensures, e)
 
 pub is-strong-spec : {M : Type 1} → statement M
 is-strong-spec =
