@@ -53,9 +53,6 @@ pub copied : (refs : List ℕ) (s f a n : ℕ) (d : List ℕ) → f ≡ 0 → ru
 copied refs s f a n d e = rw e (run-same _ _ a n d (λ j l. whole (getD refs (s + j) 0) (getD refs (s + j + 1) 0)))
 
 -- the last arm of a match of sizes
-pub last-size : (n : ℕ) → Size n → (n ≡ 4 → ⊥) → (n ≡ 8 → ⊥) → (n ≡ 16 → ⊥) → n ≡ 32
-last-size n s a b c = ⊎-elim (λ e. absurd (a e)) (λ s. ⊎-elim (λ e. absurd (b e)) (λ s. ⊎-elim (λ e. absurd (c e)) (λ e. e) s) s) s
-
 pub last-edge : (n : ℕ) → Size n → n < 32 → (n ≡ 4 → ⊥) → (n ≡ 8 → ⊥) → n ≡ 16
 last-edge n s l a b = ⊎-elim (λ e. absurd (a e)) (λ s. ⊎-elim (λ e. absurd (b e)) (λ s. ⊎-elim (λ e. e) (λ e. absurd (let q : n ≡ 32 = e in omega arith)) s) s) s
 

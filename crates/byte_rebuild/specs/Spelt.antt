@@ -9,7 +9,7 @@ use Rattle.laws.specs.Fill.{run}
 use Rattle.laws.specs.Paint.{paint}
 use Rattle.laws.specs.Choose.{served, worked}
 use Rattle.bytes.specs.Bytes.{samplesOf, bytesOf, residualsOf}
-use Rattle.bytes.specs.Laws.{AreBytes, two-bytes}
+use Rattle.bytes.specs.Laws.{AreBytes, two-bytes, Below, samples-below}
 use Rattle.domain.specs.Facts.{Depth, at-depth}
 use Rattle.helpers.specs.Ways.{clip-most}
 use Rattle.tiling.specs.declared.Block.{Block}
@@ -22,17 +22,6 @@ use Rattle.rebuild.specs.Block.{rebuilt}
 use Rattle.rebuild.specs.Ready.{Lies}
 use Rattle.byte_rebuild.specs.Door.{byteFits, rebuiltBytes}
 use Rattle.byte_rebuild.specs.Laws.{bytes-serve}
-
--- every entry is a number of 16 bits
-abbrev pub Below : List ℕ → Type 0
-Below l = (i : ℕ) → getD l i 0 < 65536
-
-pub samples-below : (b : List ℕ) → AreBytes b → Below (samplesOf b)
-unfolding samplesOf
-samples-below [] h i = omega arith
-samples-below (x ∷ []) h i = omega arith
-samples-below (x ∷ y ∷ b) h zero = let p = h 0 in let q = h 1 in omega arith
-samples-below (x ∷ y ∷ b) h (suc i) = samples-below b (λ k. h (suc (suc k))) i
 
 -- samples as bytes and back
 pub samples-back : (l : List ℕ) → Below l → samplesOf (bytesOf l) ≡ l

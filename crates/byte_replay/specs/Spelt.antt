@@ -10,7 +10,7 @@ use lib.IntN.{ℤ}
 use Rattle.laws.specs.Chain.{units}
 use Rattle.laws.specs.Choose.{worked, unserved}
 use Rattle.bytes.specs.Bytes.{samplesOf, bytesOf, residualsOf}
-use Rattle.bytes.specs.Laws.{AreBytes, length-samples, length-bytes}
+use Rattle.bytes.specs.Laws.{AreBytes, length-samples, length-bytes, Below, samples-below}
 use Rattle.domain.specs.Facts.{Depth}
 use Rattle.tiling.specs.declared.Block.{Block}
 use Rattle.plan.specs.declared.Verdict.{Verdict}
@@ -21,7 +21,7 @@ use Rattle.rebuild.specs.Block.{replayUnit}
 use Rattle.rebuild.specs.Laws.{rebuilt-length}
 use Rattle.walk.specs.declared.Progress.{Progress}
 use Rattle.walk.specs.Door.{doing, replayVerdict, replayAfter}
-use Rattle.byte_rebuild.specs.Spelt.{Below, samples-below, samples-back, are-bytes, below-rebuilt}
+use Rattle.byte_rebuild.specs.Spelt.{samples-back, are-bytes, below-rebuilt}
 use Rattle.byte_answer.specs.Door.{Lent, bytesFit, byteVerdict}
 use Rattle.byte_answer.specs.Laws.{fitting}
 use Rattle.byte_replay.specs.Door.{planeAfter}

@@ -16,6 +16,17 @@ use Rattle.bytes.specs.Bytes.{le2, residual4, byte1, byte2, byte3, sampl
 abbrev pub AreBytes : List ℕ → Type 0
 AreBytes b = (i : ℕ) → getD b i 0 < 256
 
+-- every entry is a sample
+abbrev pub Below : List ℕ → Type 0
+Below l = (i : ℕ) → getD l i 0 < 65536
+
+pub samples-below : (b : List ℕ) → AreBytes b → Below (samplesOf b)
+unfolding samplesOf
+samples-below [] h i = omega arith
+samples-below (x ∷ []) h i = omega arith
+samples-below (x ∷ y ∷ b) h zero = let p = h 0 in let q = h 1 in omega arith
+samples-below (x ∷ y ∷ b) h (suc i) = samples-below b (λ j. h (suc (suc j))) i
+
 -- samples
 pub length-samples : (b : List ℕ) → length (samplesOf b) ≡ length b / 2
 unfolding samplesOf

@@ -26,6 +26,10 @@ pub record Side (s : ℕ) : Type 0 where
   pub high : s ≤ 4096
   pub whole : s % 8 ≡ 0
 
+-- where n is none of the first three sizes
+pub last-size : (n : ℕ) → Size n → (n ≡ 4 → ⊥) → (n ≡ 8 → ⊥) → (n ≡ 16 → ⊥) → n ≡ 32
+last-size n s a b c = ⊎-elim (λ e. absurd (a e)) (λ r. ⊎-elim (λ e. absurd (b e)) (λ q. ⊎-elim (λ e. absurd (c e)) (λ e. e) q) r) s
+
 -- a test of three or four numbers
 two : (v a b : ℕ) → (eqb v a || eqb v b) ≡ true → (v ≡ a) ⊎ (v ≡ b)
 two v a b e = ⊎-elim (λ h. inl (eqb-true v a h)) (λ h. inr (eqb-true v b h)) (either-true (eqb v a) (eqb v b) e)

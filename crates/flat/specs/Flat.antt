@@ -53,10 +53,6 @@ ready-short n a l p e =
 pub wide : (n p : ℕ) → 0 < n → n * n ≤ p → n ≤ p
 wide n p h l = omega (arith, row-room 0 n h)
 
--- where n is none of the first three sizes
-pub last-size : (n : ℕ) → Size n → (n ≡ 4 → ⊥) → (n ≡ 8 → ⊥) → (n ≡ 16 → ⊥) → n ≡ 32
-last-size n s a b c = ⊎-elim (λ e. absurd (a e)) (λ r. ⊎-elim (λ e. absurd (b e)) (λ q. ⊎-elim (λ e. absurd (c e)) (λ e. e) q) r) s
-
 -- what holds at n, at the number that n was found to be
 pub as-found : (n m a l p : ℕ) → n ≡ m → Ready n a l × (n * n ≤ p) → Ready m a l × (m * m ≤ p)
 as-found n m a l p e h = subst (λ (k : ℕ). Ready k a l × (k * k ≤ p)) e h

@@ -148,12 +148,12 @@ use Rattle.angular.proofs.angular_2n.Reads as angular-angular-2n
 use Rattle.predict.proofs.predict_chroma_tb_slices.Reads as predict-predict-chroma-tb-slices
 use Rattle.predict.proofs.predict_luma_tb_slices.Reads as predict-predict-luma-tb-slices
 use Rattle.scratch.proofs.AngularScratch.new.Reads as scratch-new
-use Rattle.scratch.proofs.predict_angular_into as scratch-predict-angular-into
-use Rattle.scratch.proofs.predict_chroma_tb_into as scratch-predict-chroma-tb-into
-use Rattle.scratch.proofs.predict_luma_tb_into as scratch-predict-luma-tb-into
-use Rattle.scratch.proofs.predict_angular_fresh.Reads as scratch-predict-angular-fresh
-use Rattle.scratch.proofs.predict_chroma_tb_fresh.Reads as scratch-predict-chroma-tb-fresh
-use Rattle.scratch.proofs.predict_luma_tb_fresh.Reads as scratch-predict-luma-tb-fresh
+use Rattle.scratch_angular.proofs.predict_angular_into as scratch-angular-predict-angular-into
+use Rattle.scratch_predict.proofs.predict_chroma_tb_into as scratch-predict-predict-chroma-tb-into
+use Rattle.scratch_predict.proofs.predict_luma_tb_into as scratch-predict-predict-luma-tb-into
+use Rattle.scratch_angular.proofs.predict_angular_fresh.Reads as scratch-angular-predict-angular-fresh
+use Rattle.scratch_predict.proofs.predict_chroma_tb_fresh.Reads as scratch-predict-predict-chroma-tb-fresh
+use Rattle.scratch_predict.proofs.predict_luma_tb_fresh.Reads as scratch-predict-predict-luma-tb-fresh
 use Rattle.residual.proofs.compute_residual_i32_into.Reads as residual-compute-residual-i32-into
 use Rattle.residual.proofs.reconstruct_into.Reads as residual-reconstruct-into
 use Rattle.predict_probes.proofs.salvrunde_probe_predict_planar_into.Reads as predict-probes-salvrunde-probe-predict-planar-into
@@ -623,14 +623,14 @@ predict-predict-luma-tb-slices-once κs a x y s t p q = by-number _ _ (p .0) (q 
 scratch-new-once : Once (scratch-new.Post tt)
 scratch-new-once a x y s t p q = p ∙ sym q
 
-scratch-predict-angular-fresh-once : (κs : Lfts 3) → OnceLeft (λ s. now (s .1 .1 .1 .1 .1 .1 .1 .0)) (scratch-predict-angular-fresh.Post κs)
-scratch-predict-angular-fresh-once κs a x y s t p q = by-number _ _ (p .0) (q .0) (p .1) (q .1)
+scratch-angular-predict-angular-fresh-once : (κs : Lfts 3) → OnceLeft (λ s. now (s .1 .1 .1 .1 .1 .1 .1 .0)) (scratch-angular-predict-angular-fresh.Post κs)
+scratch-angular-predict-angular-fresh-once κs a x y s t p q = by-number _ _ (p .0) (q .0) (p .1) (q .1)
 
-scratch-predict-chroma-tb-fresh-once : (κs : Lfts 3) → OnceLeft (λ s. now (s .1 .1 .1 .1 .1 .1 .0)) (scratch-predict-chroma-tb-fresh.Post κs)
-scratch-predict-chroma-tb-fresh-once κs a x y s t p q = by-number _ _ (p .0) (q .0) (p .1) (q .1)
+scratch-predict-predict-chroma-tb-fresh-once : (κs : Lfts 3) → OnceLeft (λ s. now (s .1 .1 .1 .1 .1 .1 .0)) (scratch-predict-predict-chroma-tb-fresh.Post κs)
+scratch-predict-predict-chroma-tb-fresh-once κs a x y s t p q = by-number _ _ (p .0) (q .0) (p .1) (q .1)
 
-scratch-predict-luma-tb-fresh-once : (κs : Lfts 1) → OnceLeft (λ s. now (s .1 .1 .1 .1 .0)) (scratch-predict-luma-tb-fresh.Post κs)
-scratch-predict-luma-tb-fresh-once κs a x y s t p q = by-number _ _ (p .0) (q .0) (p .1) (q .1)
+scratch-predict-predict-luma-tb-fresh-once : (κs : Lfts 1) → OnceLeft (λ s. now (s .1 .1 .1 .1 .0)) (scratch-predict-predict-luma-tb-fresh.Post κs)
+scratch-predict-predict-luma-tb-fresh-once κs a x y s t p q = by-number _ _ (p .0) (q .0) (p .1) (q .1)
 
 -- residual
 residual-compute-residual-i32-into-once : (κs : Lfts 3) → OnceLeft (λ s. now (s .1 .1 .1 .0)) (residual-compute-residual-i32-into.Post κs)
@@ -775,14 +775,14 @@ module _ {M : Type 1} (𝓤 : URA M) (H : Heap 𝓤) (A : Atoms 𝓤) (mem : Mem
   held-both φ ψ χ f = fact-use 𝓤 φ (fst∗ 𝓤 (fact 𝓤 φ) (fact 𝓤 ψ)) (λ p. via 𝓤 (fact 𝓤 ψ) (snd∗ 𝓤 (fact 𝓤 φ) (fact 𝓤 ψ)) (fact-mono 𝓤 ψ χ (f p)))
 
   -- scratch
-  scratch-predict-angular-into-once : (κs : Lfts 4) → OnceHeld scratch-predict-angular-into.ended κs (λ s. now (s .1 .1 .1 .1 .1 .1 .1 .0)) (scratch-predict-angular-into.clauses 𝓤 H A mem run)
-  scratch-predict-angular-into-once κs a g x y s t = held-both _ _ _ (λ p q. by-number _ _ (p .0) (q .0) (p .1 .0) (q .1 .0))
+  scratch-angular-predict-angular-into-once : (κs : Lfts 4) → OnceHeld scratch-angular-predict-angular-into.ended κs (λ s. now (s .1 .1 .1 .1 .1 .1 .1 .0)) (scratch-angular-predict-angular-into.clauses 𝓤 H A mem run)
+  scratch-angular-predict-angular-into-once κs a g x y s t = held-both _ _ _ (λ p q. by-number _ _ (p .0) (q .0) (p .1 .0) (q .1 .0))
 
-  scratch-predict-chroma-tb-into-once : (κs : Lfts 4) → OnceHeld scratch-predict-chroma-tb-into.ended κs (λ s. now (s .1 .1 .1 .1 .1 .1 .0)) (scratch-predict-chroma-tb-into.clauses 𝓤 H A mem run)
-  scratch-predict-chroma-tb-into-once κs a g x y s t = held-both _ _ _ (λ p q. by-number _ _ (p .0) (q .0) (p .1 .0) (q .1 .0))
+  scratch-predict-predict-chroma-tb-into-once : (κs : Lfts 4) → OnceHeld scratch-predict-predict-chroma-tb-into.ended κs (λ s. now (s .1 .1 .1 .1 .1 .1 .0)) (scratch-predict-predict-chroma-tb-into.clauses 𝓤 H A mem run)
+  scratch-predict-predict-chroma-tb-into-once κs a g x y s t = held-both _ _ _ (λ p q. by-number _ _ (p .0) (q .0) (p .1 .0) (q .1 .0))
 
-  scratch-predict-luma-tb-into-once : (κs : Lfts 2) → OnceHeld scratch-predict-luma-tb-into.ended κs (λ s. now (s .1 .1 .1 .1 .0)) (scratch-predict-luma-tb-into.clauses 𝓤 H A mem run)
-  scratch-predict-luma-tb-into-once κs a g x y s t = held-both _ _ _ (λ p q. by-number _ _ (p .0) (q .0) (p .1 .0) (q .1 .0))
+  scratch-predict-predict-luma-tb-into-once : (κs : Lfts 2) → OnceHeld scratch-predict-predict-luma-tb-into.ended κs (λ s. now (s .1 .1 .1 .1 .0)) (scratch-predict-predict-luma-tb-into.clauses 𝓤 H A mem run)
+  scratch-predict-predict-luma-tb-into-once κs a g x y s t = held-both _ _ _ (λ p q. by-number _ _ (p .0) (q .0) (p .1 .0) (q .1 .0))
 
   -- plan
   plan-check-plan-once : (κs : Lfts 1) → OnceHeld plan-check-plan.ended κs {L = Unit {0}} (λ _. tt) (plan-check-plan.clauses 𝓤 H A mem run)

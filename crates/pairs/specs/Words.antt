@@ -1,8 +1,8 @@
 -- Two samples as one number of 32 bits: a list of samples put together in pairs and taken apart, and its bytes. Assumes nothing.
 use mathlib.Core.Path.{_≡_, refl, sym, ap, subst, _∙_}
-use mathlib.Core.List.{List, [], _∷_}
+use mathlib.Core.List.{List}
 use mathlib.Core.Logic.{⊎-elim}
-use Prim.Native.Nat.{ℕ, zero, suc, _+_, _*_, _/_, _%_, _^_, _≤_, _<_}
+use Prim.Native.Nat.{ℕ, _+_, _*_, _/_, _%_, _^_, _≤_, _<_}
 use native.Mathlib.Nat.{div-one, eq-or-lt-of-le}
 use native.Mathlib.Omega.{arith}
 use lib.ListN.{length, getD, set}
@@ -10,18 +10,7 @@ use Rattle.laws.specs.Fill.{fill}
 use Rattle.laws.specs.FillLaws.{fill-none, fill-more, fill-same, fill-at}
 use Rattle.laws.specs.Bytes.{byteOf, byte-at}
 use Rattle.bytes.specs.Bytes.{le2, byte1, byte2, byte3, samplesOf}
-use Rattle.bytes.specs.Laws.{AreBytes, sample-at}
-
--- every entry is a sample
-abbrev pub Below : List ℕ → Type 0
-Below l = (i : ℕ) → getD l i 0 < 65536
-
-pub samples-below : (b : List ℕ) → AreBytes b → Below (samplesOf b)
-unfolding samplesOf
-samples-below [] h i = omega arith
-samples-below (x ∷ []) h i = omega arith
-samples-below (x ∷ y ∷ b) h zero = let p = h 0 in let q = h 1 in omega arith
-samples-below (x ∷ y ∷ b) h (suc i) = samples-below b (λ j. h (suc (suc j))) i
+use Rattle.bytes.specs.Laws.{Below, sample-at}
 
 -- samples 2i and 2i + 1, the first in the lower half
 abbrev pub pairOf : List ℕ → ℕ → ℕ

@@ -6,8 +6,8 @@ ghost use lib.ListN.{length, getD, set};
 ghost use Rattle.laws.specs.Fill.{fill};
 ghost use Rattle.laws.specs.Bytes.{byteOf};
 ghost use Rattle.bytes.specs.Bytes.{byte1, byte2, byte3, samplesOf};
-ghost use Rattle.bytes.specs.Laws.{AreBytes};
-ghost use Rattle.pairs.specs.Words.{Below, pairOf, Paired, halfOf};
+ghost use Rattle.bytes.specs.Laws.{AreBytes, Below};
+ghost use Rattle.pairs.specs.Words.{pairOf, Paired, halfOf};
 ghost use Rattle.pairs.specs.Into.{readInto, storeInto, floodInto, put};
 
 // A byte as a wider number, and that it is one.

@@ -174,7 +174,7 @@ pub extern "C" fn salvrunde_probe_predict_angular_scratch(
 ) -> u32
     ensures { λ r. ⌜ (r ≡ angularNo bits n mode (withScratch (length (now (above .entry))) (length (now (left .entry))) (length (now (pred .entry))))) × (now (pred .exit) ≡ served r (block (λ (y x : ℕ). angular bits «filter_boundary» n mode (fromRows corner (now (above .entry)) (now (left .entry))) x y) n (now (pred .entry))) (now (pred .entry))) ⌝ }
 {
-    scratch::predict_angular_fresh(
+    scratch_angular::predict_angular_fresh(
         corner,
         above,
         left,
@@ -198,7 +198,7 @@ pub extern "C" fn salvrunde_probe_predict_chroma_tb_scratch(
 ) -> u32
     ensures { λ r. ⌜ (r ≡ predictNo bits n mode (withScratch (length (now (above .entry))) (length (now (left .entry))) (length (now (pred .entry))))) × (now (pred .exit) ≡ served r (block (λ (y x : ℕ). predSamples (chromaAt bits) (first true) n mode (fromRows corner (now (above .entry)) (now (left .entry))) x y) n (now (pred .entry))) (now (pred .entry))) ⌝ }
 {
-    scratch::predict_chroma_tb_fresh(mode, corner, above, left, n, bits, &mut *pred)
+    scratch_predict::predict_chroma_tb_fresh(mode, corner, above, left, n, bits, &mut *pred)
 }
 
 #[no_mangle]
@@ -218,5 +218,5 @@ pub extern "C" fn salvrunde_probe_predict_luma_tb_scratch(
         above: *above,
         left: *left,
     };
-    scratch::predict_luma_tb_fresh(mode, rows, n, bits, &mut *pred)
+    scratch_predict::predict_luma_tb_fresh(mode, rows, n, bits, &mut *pred)
 }

@@ -1,6 +1,7 @@
 -- What a call with the scratch struct lends: its tables have the lengths of their types, so only the rows and the block can be short. Assumes nothing.
+use mathlib.Core.Path.{_≡_, refl}
 use Prim.Native.Nat.{ℕ}
-use lib.ListN.{replicate}
+use lib.ListN.{length, replicate}
 use Rattle.numbers.specs.Numbers.{Lent}
 use Rattle.scratch.specs.declared.AngularScratch.{AngularScratch}
 
@@ -11,3 +12,8 @@ withScratch above left pred = record { above = above; left = left; pred = pred; 
 -- a new scratch
 abbrev pub zeroScratch : AngularScratch
 zeroScratch = record { refs = replicate 193 0; indices = replicate 32 0; fractions = replicate 32 0 }
+
+-- its tables are as long as that says
+pub as-long : (above left pred : ℕ) → let l = withScratch above left pred in
+    (length (zeroScratch .refs) ≡ l .refs) × ((length (zeroScratch .indices) ≡ l .indices) × (length (zeroScratch .fractions) ≡ l .fractions))
+as-long above left pred = (refl, (refl, refl))

@@ -7,11 +7,11 @@
 --   order::is_available                   is-available            flat::predict_planar_into              predict-flat
 --   order::luma_reach                     luma-reach              flat::predict_dc_into                  predict-flat
 --   order::chroma_reach                   chroma-reach            angular::predict_angular_slices        predict-angular
---   refs::substitute_refs                 substitute-refs         predict::predict_chroma_tb_slices      predict-chroma
+--   substitution::substitute_refs         substitute-refs         predict::predict_chroma_tb_slices      predict-chroma
 --   refs::get_reference_samples           luma-gather             predict::predict_luma_tb_slices        predict-luma
---   refs::get_reference_samples_bytes     luma-gather-bytes       scratch::predict_angular_into, _fresh    predict-angular-scratch
---   refs::.._chroma_pair                  chroma-gather           scratch::predict_chroma_tb_into, _fresh  predict-chroma-scratch
---   refs::.._chroma_pair_bytes            chroma-gather-bytes     scratch::predict_luma_tb_into, _fresh    predict-luma-scratch
+--   refs::get_reference_samples_bytes     luma-gather-bytes       scratch_angular::.._into, _fresh       predict-angular-scratch
+--   refs::.._chroma_pair                  chroma-gather           scratch_predict::.._chroma_tb_..       predict-chroma-scratch
+--   refs::.._chroma_pair_bytes            chroma-gather-bytes     scratch_predict::.._luma_tb_..         predict-luma-scratch
 --   residual::compute_residual_i32_into   compute-residual        residual::reconstruct_into             reconstruct
 --
 -- The plan check, walk and replay, whose numbers carry a block, are in TableWalk; the camera's entries in TableBytes; what a refused call gives back is in Refused.

@@ -1,5 +1,5 @@
 -- `angular::main_refs` meets its contract. Each arm is the size that it names. Assumes nothing.
-use Rattle.angular.specs.Reach.{last-size}
+use Rattle.domain.specs.Facts.{last-size}
 use borrow.Author.Needs.{needs}
 use Rattle.angular.proofs.main_refs.Statement.{statement}
 use Rattle.angular.proofs.main_refs.Tie as tie

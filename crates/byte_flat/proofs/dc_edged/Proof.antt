@@ -1,7 +1,6 @@
 -- An arm for each side; at 32 there is no edge. Assumes nothing.
 use mathlib.Core.Path.{_≡_, _∙_}
-use Rattle.domain.specs.Facts.{size-of}
-use Rattle.flat.specs.Flat.{last-size}
+use Rattle.domain.specs.Facts.{size-of, last-size}
 use Rattle.byte_entry.specs.Checks.{as-found}
 use Rattle.byte_flat.specs.Dc.{no-edge}
 use borrow.Author.Needs.{needs}

@@ -1,7 +1,6 @@
 -- An arm for each side. Assumes nothing.
 use mathlib.Core.Path.{_≡_}
-use Rattle.domain.specs.Facts.{size-of}
-use Rattle.flat.specs.Flat.{last-size}
+use Rattle.domain.specs.Facts.{size-of, last-size}
 use Rattle.byte_entry.specs.Checks.{as-found}
 use borrow.Author.Needs.{needs}
 use Rattle.byte_flat.proofs.dc_plain.Statement.{statement}

@@ -1,7 +1,8 @@
 -- `flat::planar_block` meets its contract. Planar at each size: an arm's call is the contract at the number that n is.
 use mathlib.Core.Path.{_≡_}
 use borrow.Author.Needs.{needs}
-use Rattle.flat.specs.Flat.{as-found, last-size}
+use Rattle.flat.specs.Flat.{as-found}
+use Rattle.domain.specs.Facts.{last-size}
 use Rattle.flat.proofs.planar_block.Statement.{statement}
 use Rattle.flat.proofs.planar_block.Tie as tie
 

@@ -1,7 +1,8 @@
 -- Four bytes are two samples. Assumes nothing.
 use mathlib.Core.Path.{_∙_}
 use native.Mathlib.Omega.{arith}
-use Rattle.pairs.specs.Words.{samples-below, four-bytes}
+use Rattle.bytes.specs.Laws.{samples-below}
+use Rattle.pairs.specs.Words.{four-bytes}
 use borrow.Author.Needs.{needs}
 use Rattle.pairs.proofs.pair_in.Statement.{statement}
 use Rattle.pairs.proofs.pair_in.Tie as tie

@@ -1,4 +1,4 @@
--- `scratch::predict_luma_tb_fresh` meets its contract: a walk of its code by hand. The scratch is made in a local, lent to `predict_luma_tb_into` and comes back (proofs/Local);
+-- `scratch_predict::predict_luma_tb_fresh` meets its contract: a walk of its code by hand. The scratch is made in a local, lent to `predict_luma_tb_into` and comes back (proofs/Local);
 -- the block is given to the callee for good. All that the proof knows of the callees is their contracts.
 use mathlib.Core.Path.{_≡_, refl}
 use mathlib.Core.Bool.{true}
@@ -48,24 +48,24 @@ use Rattle.rows.specs.declared.Rows.{Rows}
 use Rattle.rows.proofs.Rows as R
 use Rattle.rows.proofs.Rows.Laws as R′
 use Rattle.numbers.specs.Numbers.{predictNo, Lent as Lengths}
 use Rattle.scratch.specs.declared.AngularScratch.{AngularScratch}
 use Rattle.scratch.proofs.AngularScratch as T
 use Rattle.scratch.proofs.AngularScratch.Laws as T′
 use Rattle.scratch.proofs.Tables.{made, Holds}
 use Rattle.scratch.proofs.Local.{LocalLoan, Token, Lender, lend-local, local-back}
 use Rattle.scratch.proofs.Answers.{Ends}
 use Rattle.scratch.proofs.AngularScratch.new as new
 use Rattle.scratch.proofs.AngularScratch.new.Symbol as new-def
 use Rattle.scratch.proofs.AngularScratch.new.Symbol.{name as #new}
 use Rattle.scratch.proofs.AngularScratch.new.Met as new-thm
-use Rattle.scratch.proofs.predict_luma_tb_into as into
-use Rattle.scratch.proofs.predict_luma_tb_into.Symbol as into-def
-use Rattle.scratch.proofs.predict_luma_tb_into.Symbol.{name as #into}
-use Rattle.scratch.proofs.predict_luma_tb_into.Met as into-thm
-use Rattle.scratch.proofs.predict_luma_tb_fresh.Key.{name as #self}
-use Rattle.scratch.proofs.predict_luma_tb_fresh as f
-use Rattle.scratch.proofs.predict_luma_tb_fresh.Statement as stated
-use Rattle.scratch.proofs.predict_luma_tb_fresh.Code as code
+use Rattle.scratch_predict.proofs.predict_luma_tb_into as into
+use Rattle.scratch_predict.proofs.predict_luma_tb_into.Symbol as into-def
+use Rattle.scratch_predict.proofs.predict_luma_tb_into.Symbol.{name as #into}
+use Rattle.scratch_predict.proofs.predict_luma_tb_into.Met as into-thm
+use Rattle.scratch_predict.proofs.predict_luma_tb_fresh.Key.{name as #self}
+use Rattle.scratch_predict.proofs.predict_luma_tb_fresh as f
+use Rattle.scratch_predict.proofs.predict_luma_tb_fresh.Statement as stated
+use Rattle.scratch_predict.proofs.predict_luma_tb_fresh.Code as code
 
 abbrev stayed : Stays (f.ended .signature .params) (f.ended .kept)
 stayed = (stay-none (λ _. u8) yes, (stay-none (λ _. R.the-row) yes, (stay-none (λ _. usize) yes, (stay-none (λ _. u32) yes, (gave-slice (0 ∷ []) tt (plain (λ _. u16)), tt)))))

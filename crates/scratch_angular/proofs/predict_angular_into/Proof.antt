@@ -1,4 +1,4 @@
--- `scratch::predict_angular_into` meets its contract: a walk of its code by hand. The tables are lent out of the struct for the call of `angular::predict_angular_slices`
+-- `scratch_angular::predict_angular_into` meets its contract: a walk of its code by hand. The tables are lent out of the struct for the call of `angular::predict_angular_slices`
 -- and taken back (proofs/Tables). The block is given to the callee for good. All that the proof knows of the callee is its contract.
 use mathlib.Core.Path.{_≡_, refl, _∙_}
 use mathlib.Core.Bool.{Bool}
@@ -44,18 +44,18 @@ use Rattle.laws.specs.Choose.{served}
 use Rattle.h265.specs.Notation.{fromRows}
 use Rattle.h265.specs.Angular.{angular}
 use Rattle.numbers.specs.Numbers.{angularNo, Lent as Lengths}
 use Rattle.scratch.specs.declared.AngularScratch.{AngularScratch}
 use Rattle.scratch.proofs.AngularScratch as T
 use Rattle.scratch.proofs.Tables.{Long, made, Loan, tableAt, Tokens, Lent, Kept, Holds, lend, regain}
 use Rattle.scratch.proofs.Answers.{Said, Ends, ends}
 use Rattle.angular.proofs.predict_angular_slices as slices
 use Rattle.angular.proofs.predict_angular_slices.Symbol as slices-def
 use Rattle.angular.proofs.predict_angular_slices.Symbol.{name as #callee}
 use Rattle.angular.proofs.predict_angular_slices.Met as slices-thm
-use Rattle.scratch.proofs.predict_angular_into.Key.{name as #self}
-use Rattle.scratch.proofs.predict_angular_into as f
-use Rattle.scratch.proofs.predict_angular_into.Statement as stated
-use Rattle.scratch.proofs.predict_angular_into.Code as code
+use Rattle.scratch_angular.proofs.predict_angular_into.Key.{name as #self}
+use Rattle.scratch_angular.proofs.predict_angular_into as f
+use Rattle.scratch_angular.proofs.predict_angular_into.Statement as stated
+use Rattle.scratch_angular.proofs.predict_angular_into.Code as code
 
 abbrev stayed : Stays (f.ended .signature .params) (f.ended .kept)
 stayed = (stay-none (λ _. u16) yes, (stay-none-slice (0 ∷ []) tt (plain (λ _. u16)) yes, (stay-none-slice (1 ∷ []) tt (plain (λ _. u16)) yes, (stay-none (λ _. usize) yes, (stay-none (λ _. u8) yes, (stay-none (λ _. bool) yes, (stay-none (λ _. u32) yes, (gave-slice (2 ∷ []) tt (plain (λ _. u16)), (stay-ref (3 ∷ []) tt (plain (λ _. T.the-row)), tt)))))))))

@@ -1,4 +1,4 @@
--- `scratch::predict_luma_tb_into` meets its contract: a walk of its code by hand. The tables are lent out of the struct for the call of `predict::predict_luma_tb_slices`
+-- `scratch_predict::predict_luma_tb_into` meets its contract: a walk of its code by hand. The tables are lent out of the struct for the call of `predict::predict_luma_tb_slices`
 -- and taken back (proofs/Tables). The block is given to the callee for good. All that the proof knows of the callee is its contract.
 use mathlib.Core.Path.{_≡_, refl, _∙_}
 use mathlib.Core.Bool.{true}
@@ -49,18 +49,18 @@ use Rattle.rows.specs.declared.Rows.{Rows}
 use Rattle.rows.proofs.Rows as R
 use Rattle.rows.proofs.Rows.Laws as R′
 use Rattle.numbers.specs.Numbers.{predictNo, Lent as Lengths}
 use Rattle.scratch.specs.declared.AngularScratch.{AngularScratch}
 use Rattle.scratch.proofs.AngularScratch as T
 use Rattle.scratch.proofs.Tables.{Long, made, Loan, tableAt, Tokens, Lent, Kept, Holds, lend, regain}
 use Rattle.scratch.proofs.Answers.{Said, Ends, ends}
 use Rattle.predict.proofs.predict_luma_tb_slices as slices
 use Rattle.predict.proofs.predict_luma_tb_slices.Symbol as slices-def
 use Rattle.predict.proofs.predict_luma_tb_slices.Symbol.{name as #callee}
 use Rattle.predict.proofs.predict_luma_tb_slices.Met as slices-thm
-use Rattle.scratch.proofs.predict_luma_tb_into.Key.{name as #self}
-use Rattle.scratch.proofs.predict_luma_tb_into as f
-use Rattle.scratch.proofs.predict_luma_tb_into.Statement as stated
-use Rattle.scratch.proofs.predict_luma_tb_into.Code as code
+use Rattle.scratch_predict.proofs.predict_luma_tb_into.Key.{name as #self}
+use Rattle.scratch_predict.proofs.predict_luma_tb_into as f
+use Rattle.scratch_predict.proofs.predict_luma_tb_into.Statement as stated
+use Rattle.scratch_predict.proofs.predict_luma_tb_into.Code as code
 
 abbrev stayed : Stays (f.ended .signature .params) (f.ended .kept)
 stayed = (stay-none (λ _. u8) yes, (stay-none (λ _. R.the-row) yes, (stay-none (λ _. usize) yes, (stay-none (λ _. u32) yes, (gave-slice (0 ∷ []) tt (plain (λ _. u16)), (stay-ref (1 ∷ []) tt (plain (λ _. T.the-row)), tt))))))

@@ -1,4 +1,4 @@
--- `scratch::predict_angular_fresh` meets its contract: a walk of its code by hand. The scratch is made in a local, lent to `predict_angular_into` and comes back (proofs/Local);
+-- `scratch_angular::predict_angular_fresh` meets its contract: a walk of its code by hand. The scratch is made in a local, lent to `predict_angular_into` and comes back (proofs/Local);
 -- the block is given to the callee for good. All that the proof knows of the callees is their contracts.
 use mathlib.Core.Path.{_≡_, refl}
 use mathlib.Core.Bool.{Bool}
@@ -44,24 +44,24 @@ use Rattle.laws.specs.Choose.{served}
 use Rattle.h265.specs.Notation.{fromRows}
 use Rattle.h265.specs.Angular.{angular}
 use Rattle.numbers.specs.Numbers.{angularNo, Lent as Lengths}
 use Rattle.scratch.specs.declared.AngularScratch.{AngularScratch}
 use Rattle.scratch.proofs.AngularScratch as T
 use Rattle.scratch.proofs.AngularScratch.Laws as T′
 use Rattle.scratch.proofs.Tables.{made, Holds}
 use Rattle.scratch.proofs.Local.{LocalLoan, Token, Lender, lend-local, local-back}
 use Rattle.scratch.proofs.Answers.{Ends}
 use Rattle.scratch.proofs.AngularScratch.new as new
 use Rattle.scratch.proofs.AngularScratch.new.Symbol as new-def
 use Rattle.scratch.proofs.AngularScratch.new.Symbol.{name as #new}
 use Rattle.scratch.proofs.AngularScratch.new.Met as new-thm
-use Rattle.scratch.proofs.predict_angular_into as into
-use Rattle.scratch.proofs.predict_angular_into.Symbol as into-def
-use Rattle.scratch.proofs.predict_angular_into.Symbol.{name as #into}
-use Rattle.scratch.proofs.predict_angular_into.Met as into-thm
-use Rattle.scratch.proofs.predict_angular_fresh.Key.{name as #self}
-use Rattle.scratch.proofs.predict_angular_fresh as f
-use Rattle.scratch.proofs.predict_angular_fresh.Statement as stated
-use Rattle.scratch.proofs.predict_angular_fresh.Code as code
+use Rattle.scratch_angular.proofs.predict_angular_into as into
+use Rattle.scratch_angular.proofs.predict_angular_into.Symbol as into-def
+use Rattle.scratch_angular.proofs.predict_angular_into.Symbol.{name as #into}
+use Rattle.scratch_angular.proofs.predict_angular_into.Met as into-thm
+use Rattle.scratch_angular.proofs.predict_angular_fresh.Key.{name as #self}
+use Rattle.scratch_angular.proofs.predict_angular_fresh as f
+use Rattle.scratch_angular.proofs.predict_angular_fresh.Statement as stated
+use Rattle.scratch_angular.proofs.predict_angular_fresh.Code as code
 
 abbrev stayed : Stays (f.ended .signature .params) (f.ended .kept)
 stayed = (stay-none (λ _. u16) yes, (stay-none-slice (0 ∷ []) tt (plain (λ _. u16)) yes, (stay-none-slice (1 ∷ []) tt (plain (λ _. u16)) yes, (stay-none (λ _. usize) yes, (stay-none (λ _. u8) yes, (stay-none (λ _. bool) yes, (stay-none (λ _. u32) yes, (gave-slice (2 ∷ []) tt (plain (λ _. u16)), tt))))))))
