@@ -103,7 +103,7 @@ fn serve(
     let mut refs = [0u16; 193];
     let mut indices = [0u32; 32];
     let mut fractions = [0u32; 32];
-    let did = still::doing_of(plan.len() / 6, p.done, grant);
+    let did = steps::doing_of(plan.len() / 6, p.done, grant);
     replay_blocks(
         s,
         plan,

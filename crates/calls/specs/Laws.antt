@@ -1,5 +1,5 @@
--- What the verdict on a call tells, that a refused call leaves all as it was, and what a call comes to: its loop may ask what it asks, and leaves what the door
--- says. Rests on the laws of the plan and of a still's checks, and on how far a call goes.
+-- What the verdict on a call tells, that a refused call leaves all as it was, and what a call comes to: what its loop asks holds, and it leaves what the door says.
+-- Rests on the laws of the plan and of a still's checks, and on how far a call goes.
 use mathlib.Core.Path.{_≡_, refl, sym, ap, _∙_, subst}
 use mathlib.Core.Bool.{true, _&&_}
 use mathlib.Core.List.{List}
