@@ -14,7 +14,7 @@ use Rattle.plan.specs.Records.{recordsOf, wholeRecords}
 use Rattle.still.specs.declared.Still.{Still}
 use Rattle.still.specs.Checks.{every, residualOk}
 use Rattle.walk.specs.declared.Progress.{Progress}
-use Rattle.walk.specs.Door.{verdictOf}
+use Rattle.calls.specs.Door.{verdictOf}
 
 -- what a call is lent: the plan's and the residuals' bytes, and how many the plane and the result buffer have
 pub record Lent : Type 0 where
@@ -33,7 +33,7 @@ bytesFit s l = wholeBy s 2 (l .plane) && wholeBy s 4 (length (l .residuals)) && 
 -- the verdict on a call: 1, 4, 5, then 8 over every residual, then the plan's, then 11
 unfoldable pub byteVerdict : Still → Progress → Lent → Verdict
 byteVerdict s p l =
-    verdictOf s (recordsOf (l .plan)) p
+    verdictOf s (recordsOf (l .plan)) (p .done)
     (firstFail
     ((1 unless depthOk (s .bits)) ∷ (4 unless pictureOk (pictureOf (s .frame)))
     ∷ (5 unless bytesFit s l) ∷ (8 unless every residualOk (residualsOf (l .residuals))) ∷ []))

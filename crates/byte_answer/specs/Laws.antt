@@ -20,8 +20,8 @@ use Rattle.plan.specs.Records.{recordsOf, wholeRecords, bytesVerdict}
 use Rattle.still.specs.declared.Still.{Still}
 use Rattle.still.specs.Checks.{every, residualOk, callNo, settle}
 use Rattle.walk.specs.declared.Progress.{Progress}
-use Rattle.walk.specs.Door.{verdictOf}
-use Rattle.walk.specs.Listed.{settle-is}
+use Rattle.calls.specs.Door.{verdictOf}
+use Rattle.calls.specs.Laws.{settle-is}
 use Rattle.byte_answer.specs.Door.{Lent, bytesFit, byteVerdict, answered}
 
 -- a plan's verdict, where its bytes are whole records
@@ -65,9 +65,9 @@ abbrev pub byteNo : Still → Lent → ℕ
 byteNo s l = callNo s (bytesFit s l) 8 (every residualOk (residualsOf (l .residuals)))
 
 -- the verdict, from the number of the checks before the plan's
-verdict-from : (s : Still) (p : Progress) (l : Lent) (v : Verdict) (early : ℕ) → early ≡ byteNo s l → v ≡ verdictOf s (recordsOf (l .plan)) p early → v ≡ byteVerdict s p l
+verdict-from : (s : Still) (p : Progress) (l : Lent) (v : Verdict) (early : ℕ) → early ≡ byteNo s l → v ≡ verdictOf s (recordsOf (l .plan)) (p .done) early → v ≡ byteVerdict s p l
 unfolding byteVerdict
-verdict-from s p l v early e q = q ∙ ap (verdictOf s (recordsOf (l .plan)) p) e
+verdict-from s p l v early e q = q ∙ ap (verdictOf s (recordsOf (l .plan)) (p .done)) e
 
 -- number 0 of 1, 4, 5, 8: the picture is good, and the plan is whole records
 early-good : (s : Still) (l : Lent) → byteNo s l ≡ 0 → (pictureOk (pictureOf (s .frame)) ≡ true) × (wholeRecords (l .plan) ≡ true)
@@ -81,7 +81,7 @@ pub settled-bytes : (s : Still) (p : Progress) (l : Lent) (found v : Verdict) (e
     → v ≡ settle found (length (l .plan) / 6) (p .done) early → v ≡ byteVerdict s p l
 settled-bytes s p l found v early e f q =
     let good : early ≡ 0 → (pictureOk (pictureOf (s .frame)) ≡ true) × (wholeRecords (l .plan) ≡ true) = λ z. early-good s l (sym e ∙ z) in
-    verdict-from s p l v early e (q ∙ settle-is s (recordsOf (l .plan)) p early found (λ z. f ∙ whole-verdict (s .frame) (l .plan) (good z .1)) (λ z. good z .0))
+    verdict-from s p l v early e (q ∙ settle-is s (recordsOf (l .plan)) (p .done) early found (λ z. f ∙ whole-verdict (s .frame) (l .plan) (good z .1)) (λ z. good z .0))
 
 -- four stores of a number, and two numbers that answer a call
 abbrev pub wordAt : List ℕ → ℕ → ℕ → List ℕ

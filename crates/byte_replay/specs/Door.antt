@@ -8,10 +8,11 @@ use Rattle.laws.specs.Chain.{units}
 use Rattle.bytes.specs.Bytes.{samplesOf, bytesOf, residualsOf}
 use Rattle.plan.specs.Records.{recordsOf}
 use Rattle.still.specs.declared.Still.{Still}
+use Rattle.steps.specs.Steps.{doing}
 use Rattle.rebuild.specs.Block.{replayUnit}
 use Rattle.walk.specs.declared.Progress.{Progress}
 use Rattle.walk.specs.declared.Stepped.{Stepped}
-use Rattle.walk.specs.Door.{doing, steppedBy}
+use Rattle.walk.specs.Door.{steppedBy}
 use Rattle.byte_answer.specs.Door.{Lent, byteVerdict, answered}
 
 -- what a call gives: its number, the block that it is about, and the next record, or the record as given
@@ -23,7 +24,7 @@ unfoldable pub planeAfter : Still → Progress → Lent → ℕ → List ℕ →
 planeAfter s p l grant plane =
     let plan = recordsOf (l .plan) in
     served (byteVerdict s p l .no)
-    (bytesOf (units (replayUnit s (plan .block) (residualsOf (l .residuals))) (p .done) (doing plan p grant) (samplesOf plane)))
+    (bytesOf (units (replayUnit s (plan .block) (residualsOf (l .residuals))) (p .done) (doing (plan .count) (p .done) grant) (samplesOf plane)))
     plane
 
 -- the result buffer after a call: block number and progress record

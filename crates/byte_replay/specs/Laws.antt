@@ -1,5 +1,5 @@
 -- What joins the functions of the replay on bytes: it is the replay of what the bytes spell. Rests on the walk's laws and on those of bytes.
-use mathlib.Core.Path.{_≡_, refl, sym, ap, subst, _∙_}
+use mathlib.Core.Path.{_≡_, sym, ap, subst, _∙_}
 use mathlib.Core.Bool.{Bool, true}
 use mathlib.Core.List.{List}
 use Prim.Native.Nat.{ℕ, _+_, _*_, _/_, _%_, _≤_}
@@ -18,12 +18,13 @@ use Rattle.tiling.specs.Tiling.{pictureOf}
 use Rattle.plan.specs.Records.{recordsOf}
 use Rattle.still.specs.declared.Still.{Still}
 use Rattle.still.specs.Checks.{every, Tables, residualOk, callNo, replayFits}
+use Rattle.steps.specs.Steps.{doing}
 use Rattle.rebuild.specs.Block.{replayUnit}
 use Rattle.walk.specs.declared.Progress.{Progress}
 use Rattle.walk.specs.declared.Stepped.{Stepped}
-use Rattle.walk.specs.Door.{doing, verdictOf, replayVerdict}
-use Rattle.walk.specs.Ready.{Sound}
-use Rattle.walk.specs.Laws.{replay-sound, verdict-zero, refused-is, stepped-is}
+use Rattle.calls.specs.Door.{verdictOf, replayVerdict}
+use Rattle.calls.specs.Ready.{Sound}
+use Rattle.calls.specs.Laws.{replay-sound, verdict-zero}
 use Rattle.byte_answer.specs.Door.{Lent, bytesFit, byteVerdict, answered}
 use Rattle.byte_answer.specs.Laws.{fitting, byteNo}
 use Rattle.byte_replay.specs.Door.{planeAfter, resultAfter, replayed}
@@ -34,7 +35,7 @@ own = record { refs = 193; indices = 32; fractions = 32 }
 
 module _ (s : Still) (p : Progress) (l : Lent) where
   -- where the bytes fit, the verdict is that on what they spell
-  pub verdict-alike : bytesFit s l ≡ true → byteVerdict s p l ≡ replayVerdict s (recordsOf (l .plan)) own p (l .plane / 2) (residualsOf (l .residuals))
+  pub verdict-alike : bytesFit s l ≡ true → byteVerdict s p l ≡ replayVerdict s (recordsOf (l .plan)) own (p .done) (l .plane / 2) (residualsOf (l .residuals))
   unfolding byteVerdict replayVerdict
   verdict-alike e =
       let f = fitting s l e in
@@ -42,13 +43,13 @@ module _ (s : Still) (p : Progress) (l : Lent) where
       let a : eqb (l .plane / 2) area ≡ true = eq-eqb (l .plane / 2) area (omega (arith, f .plane)) in
       let b : eqb (length (residualsOf (l .residuals))) area ≡ true = eq-eqb _ area (omega (arith, length-residuals (l .residuals), f .residuals)) in
       let both : bytesFit s l ≡ replayFits s own (l .plane / 2) (length (residualsOf (l .residuals))) = e ∙ sym (rw (a, b)) in
-      ap (λ (t : Bool). verdictOf s (recordsOf (l .plan)) p (callNo s t 8 (every residualOk (residualsOf (l .residuals))))) both
+      ap (λ (t : Bool). verdictOf s (recordsOf (l .plan)) (p .done) (callNo s t 8 (every residualOk (residualsOf (l .residuals))))) both
 
   -- a call that is served fits
   pub served-fits : byteVerdict s p l .no ≡ 0 → bytesFit s l ≡ true
   unfolding byteVerdict
   served-fits z =
-      let q = verdict-zero s (recordsOf (l .plan)) p (byteNo s l) z .0 in
+      let q = verdict-zero s (recordsOf (l .plan)) (p .done) (byteNo s l) z .0 in
       let a = passed (depthOk (s .bits)) _ 1 (omega arith) q in
       let b = passed (pictureOk (pictureOf (s .frame))) _ 4 (omega arith) (a .1) in
       passed (bytesFit s l) _ 5 (omega arith) (b .1) .0
@@ -56,7 +57,7 @@ module _ (s : Still) (p : Progress) (l : Lent) where
   pub served-sound : byteVerdict s p l .no ≡ 0
       → Sound s (recordsOf (l .plan)) (l .plane / 2) (length (residualsOf (l .residuals))) own × (p .done ≤ length (l .plan) / 6)
   served-sound z =
-      replay-sound s (recordsOf (l .plan)) own p (l .plane / 2) (residualsOf (l .residuals)) (ap (λ (v : Verdict). v .no) (sym (verdict-alike (served-fits z))) ∙ z)
+      replay-sound s (recordsOf (l .plan)) own (p .done) (l .plane / 2) (residualsOf (l .residuals)) (ap (λ (v : Verdict). v .no) (sym (verdict-alike (served-fits z))) ∙ z)
 
 -- a plane of so many bytes: what its samples ask for
 pub serves : (s : Still) (p : Progress) (plan residuals plane : List ℕ) (result : ℕ)
@@ -76,21 +77,23 @@ module _ (s : Still) (p : Progress) (l : Lent) (grant : ℕ) (v : Verdict) (e : 
 
   pub result-refused : (result : List ℕ) → answered (v .block) (p .done) result ≡ resultAfter s p l grant result
   unfolding resultAfter
-  result-refused result = ap (λ (t : Stepped). answered (t .block) (t .next .done) result) (refused-is v _ (recordsOf (l .plan)) p grant e h)
+  result-refused result =
+      ap (λ (u : Verdict). answered (u .block) (p .done) result) e
+      ∙ ap (λ (t : Stepped). answered (t .block) (t .next .done) result) (unserved (byteVerdict s p l .no) _ _ (λ z. h (ap (λ (u : Verdict). u .no) e ∙ z)))
 
 -- a served call; e is what the plane holds after it, and its samples are known
 module _ (s : Still) (p : Progress) (l : Lent) (grant : ℕ) (z : byteVerdict s p l .no ≡ 0) where
   pub plane-done : (plane e : List ℕ) → length e % 2 ≡ 0 → AreBytes e
-      → samplesOf e ≡ units (replayUnit s (recordsOf (l .plan) .block) (residualsOf (l .residuals))) (p .done) (doing (recordsOf (l .plan)) p grant) (samplesOf plane)
+      → samplesOf e ≡ units (replayUnit s (recordsOf (l .plan) .block) (residualsOf (l .residuals))) (p .done) (doing (recordsOf (l .plan) .count) (p .done) grant) (samplesOf plane)
       → e ≡ planeAfter s p l grant plane
   unfolding planeAfter
   plane-done plane e even small q = sym (bytes-back e even small) ∙ ap bytesOf q ∙ worked (byteVerdict s p l .no) _ plane z
 
-  pub result-served : (next : Progress) (result : List ℕ) → next ≡ record { done = p .done + doing (recordsOf (l .plan)) p grant } → answered 0 (next .done) result ≡ resultAfter s p l grant result
+  pub result-served : (next : Progress) (result : List ℕ) → next ≡ record { done = p .done + doing (recordsOf (l .plan) .count) (p .done) grant } → answered 0 (next .done) result ≡ resultAfter s p l grant result
   unfolding resultAfter
   result-served next result q =
       ap (λ (n : Progress). answered 0 (n .done) result) q
-      ∙ ap (λ (t : Stepped). answered (t .block) (t .next .done) result) (stepped-is (byteVerdict s p l) (recordsOf (l .plan)) p grant _ z refl)
+      ∙ ap (λ (t : Stepped). answered (t .block) (t .next .done) result) (worked (byteVerdict s p l .no) _ _ z)
 
 -- number, plane and result buffer of a call together
 pub all-three : (s : Still) (p : Progress) (plan residuals : List ℕ) (grant : ℕ) (plane result : List ℕ) {k : ℕ} {d e : List ℕ}

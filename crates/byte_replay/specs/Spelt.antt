@@ -17,10 +17,11 @@ use Rattle.plan.specs.declared.Verdict.{Verdict}
 use Rattle.tiling.specs.Tiling.{place}
 use Rattle.plan.specs.Records.{recordsOf}
 use Rattle.still.specs.declared.Still.{Still}
+use Rattle.steps.specs.Steps.{doing}
 use Rattle.rebuild.specs.Block.{replayUnit}
 use Rattle.rebuild.specs.Laws.{rebuilt-length}
 use Rattle.walk.specs.declared.Progress.{Progress}
-use Rattle.walk.specs.Door.{doing, replayVerdict, replayAfter}
+use Rattle.calls.specs.Door.{replayVerdict, replayAfter}
 use Rattle.byte_rebuild.specs.Spelt.{samples-back, are-bytes, below-rebuilt}
 use Rattle.byte_answer.specs.Door.{Lent, bytesFit, byteVerdict}
 use Rattle.byte_answer.specs.Laws.{fitting}
@@ -44,19 +45,19 @@ module _ (s : Still) (depth : Depth (s .bits)) (plan : ℕ → Block) (v : List 
 -- a call on a plane of bytes that all fit
 module _ (s : Still) (p : Progress) (l : Lent) (grant : ℕ) (plane : List ℕ) (same : l .plane ≡ length plane) (fit : bytesFit s l ≡ true) (bytes : AreBytes plane) where
   abbrev work : List ℕ
-  work = units (replayUnit s (recordsOf (l .plan) .block) (residualsOf (l .residuals))) (p .done) (doing (recordsOf (l .plan)) p grant) (samplesOf plane)
+  work = units (replayUnit s (recordsOf (l .plan) .block) (residualsOf (l .residuals))) (p .done) (doing (recordsOf (l .plan) .count) (p .done) grant) (samplesOf plane)
 
   -- its verdict is that on what the bytes spell
-  pub spelt-verdict : byteVerdict s p l ≡ replayVerdict s (recordsOf (l .plan)) own p (length (samplesOf plane)) (residualsOf (l .residuals))
+  pub spelt-verdict : byteVerdict s p l ≡ replayVerdict s (recordsOf (l .plan)) own (p .done) (length (samplesOf plane)) (residualsOf (l .residuals))
   spelt-verdict =
       verdict-alike s p l fit
-      ∙ ap (λ (k : ℕ). replayVerdict s (recordsOf (l .plan)) own p k (residualsOf (l .residuals))) (ap (λ (k : ℕ). k / 2) same ∙ sym (length-samples plane))
+      ∙ ap (λ (k : ℕ). replayVerdict s (recordsOf (l .plan)) own (p .done) k (residualsOf (l .residuals))) (ap (λ (k : ℕ). k / 2) same ∙ sym (length-samples plane))
 
-  number : byteVerdict s p l .no ≡ replayVerdict s (recordsOf (l .plan)) own p (length (samplesOf plane)) (residualsOf (l .residuals)) .no
+  number : byteVerdict s p l .no ≡ replayVerdict s (recordsOf (l .plan)) own (p .done) (length (samplesOf plane)) (residualsOf (l .residuals)) .no
   number = ap (λ (v : Verdict). v .no) spelt-verdict
 
   pub record Left : Type 0 where
-    pub spells : samplesOf (planeAfter s p l grant plane) ≡ replayAfter s (recordsOf (l .plan)) own p grant (residualsOf (l .residuals)) (samplesOf plane)
+    pub spells : samplesOf (planeAfter s p l grant plane) ≡ replayAfter s (recordsOf (l .plan)) own (p .done) grant (residualsOf (l .residuals)) (samplesOf plane)
     pub are : AreBytes (planeAfter s p l grant plane)
     pub long : length (planeAfter s p l grant plane) ≡ length plane
 
@@ -68,10 +69,10 @@ module _ (s : Still) (p : Progress) (l : Lent) (grant : ℕ) (plane : List ℕ) 
       go : Dec (byteVerdict s p l .no ≡ 0) → Left
       go (yes z) =
           let a = worked (byteVerdict s p l .no) (bytesOf work) plane z in
-          let b = worked (replayVerdict s (recordsOf (l .plan)) own p (length (samplesOf plane)) (residualsOf (l .residuals)) .no) work (samplesOf plane) (sym number ∙ z) in
+          let b = worked (replayVerdict s (recordsOf (l .plan)) own (p .done) (length (samplesOf plane)) (residualsOf (l .residuals)) .no) work (samplesOf plane) (sym number ∙ z) in
           let q = served-sound s p l z .0 in
-          let small = below-units s (q .depth) (recordsOf (l .plan) .block) (residualsOf (l .residuals)) (p .done) (doing (recordsOf (l .plan)) p grant) (samplesOf plane) (samples-below plane bytes) in
-          let n = length-units s (q .depth) (recordsOf (l .plan) .block) (residualsOf (l .residuals)) (p .done) (doing (recordsOf (l .plan)) p grant) (samplesOf plane) in
+          let small = below-units s (q .depth) (recordsOf (l .plan) .block) (residualsOf (l .residuals)) (p .done) (doing (recordsOf (l .plan) .count) (p .done) grant) (samplesOf plane) (samples-below plane bytes) in
+          let n = length-units s (q .depth) (recordsOf (l .plan) .block) (residualsOf (l .residuals)) (p .done) (doing (recordsOf (l .plan) .count) (p .done) grant) (samplesOf plane) in
           let f = fitting s l fit .plane in
           record {
             spells = ap samplesOf (sym a) ∙ samples-back work small ∙ b;
@@ -80,5 +81,5 @@ module _ (s : Still) (p : Progress) (l : Lent) (grant : ℕ) (plane : List ℕ) 
           }
       go (no z) =
           let a = unserved (byteVerdict s p l .no) (bytesOf work) plane z in
-          let b = unserved (replayVerdict s (recordsOf (l .plan)) own p (length (samplesOf plane)) (residualsOf (l .residuals)) .no) work (samplesOf plane) (λ e. z (number ∙ e)) in
+          let b = unserved (replayVerdict s (recordsOf (l .plan)) own (p .done) (length (samplesOf plane)) (residualsOf (l .residuals)) .no) work (samplesOf plane) (λ e. z (number ∙ e)) in
           record { spells = ap samplesOf (sym a) ∙ b; are = λ i. rw (sym a) (bytes i); long = ap length (sym a) }

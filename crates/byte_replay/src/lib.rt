@@ -11,8 +11,8 @@ ghost use Rattle.plan.specs.Records.{recordsOf};
 ghost use Rattle.block.specs.Ready.{Ready};
 ghost use Rattle.rebuild.specs.Block.{rebuilt, replayUnit};
 ghost use Rattle.rebuild.specs.Ready.{Lies};
-ghost use Rattle.walk.specs.Door.{doing};
-ghost use Rattle.walk.specs.Ready.{Sound};
+ghost use Rattle.steps.specs.Steps.{doing};
+ghost use Rattle.calls.specs.Ready.{Sound};
 ghost use Rattle.byte_replay.specs.Door.{replayed};
 ghost use Rattle.byte_replay.specs.Laws.{own};
 use still::Still;
@@ -98,12 +98,12 @@ fn serve(
     grant: u32,
 ) -> Progress
     requires { ⌜ Sound s (recordsOf (now plan)) (length (samplesOf (now plane))) (length (residualsOf (now residuals))) own × ((p .done ≤ length (now plan) / 6) × ((length (now plane) % 2 ≡ 0) × (length (now residuals) % 4 ≡ 0))) ⌝ }
-    ensures { λ r. ⌜ (r ≡ record { done = p .done + doing (recordsOf (now (plan .entry))) p grant }) × (samplesOf (now (plane .exit)) ≡ units (replayUnit s (recordsOf (now (plan .entry)) .block) (residualsOf (now (residuals .entry)))) (p .done) (doing (recordsOf (now (plan .entry))) p grant) (samplesOf (now (plane .entry)))) ⌝ }
+    ensures { λ r. ⌜ (r ≡ record { done = p .done + doing (recordsOf (now (plan .entry)) .count) (p .done) grant }) × (samplesOf (now (plane .exit)) ≡ units (replayUnit s (recordsOf (now (plan .entry)) .block) (residualsOf (now (residuals .entry)))) (p .done) (doing (recordsOf (now (plan .entry)) .count) (p .done) grant) (samplesOf (now (plane .entry)))) ⌝ }
 {
     let mut refs = [0u16; 193];
     let mut indices = [0u32; 32];
     let mut fractions = [0u32; 32];
-    let did = still::doing_of(plan.len() / 6, p.done, grant);
+    let did = steps::doing_of(plan.len() / 6, p.done, grant);
     replay_blocks(
         s,
         plan,

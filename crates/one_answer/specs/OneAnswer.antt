@@ -106,6 +106,7 @@ use Rattle.records.proofs.record_at.Reads as records-record-at
 use Rattle.plan.proofs.check_plan_bytes.Reads as plan-check-plan-bytes
 use Rattle.plan.proofs.check_plan_numbers.Reads as plan-check-plan-numbers
 use Rattle.plan.proofs.check_plan as plan-check-plan
+use Rattle.steps.proofs.doing_of.Reads as steps-doing-of
 use Rattle.steps.proofs.step_of.Reads as steps-step-of
 use Rattle.walk.proofs.Progress.fresh.Reads as walk-fresh
 use Rattle.still.proofs.picture_ok.Reads as still-picture-ok
@@ -116,7 +117,6 @@ use Rattle.still.proofs.residual_ok.Reads as still-residual-ok
 use Rattle.still.proofs.replay_no.Reads as still-replay-no
 use Rattle.still.proofs.walk_no.Reads as still-walk-no
 use Rattle.still.proofs.settled.Reads as still-settled
-use Rattle.still.proofs.doing_of.Reads as still-doing-of
 use Rattle.block.proofs.restored.Reads as block-restored
 use Rattle.block.proofs.geometry.Reads as block-geometry
 use Rattle.block.proofs.base_of.Reads as block-base-of
@@ -487,6 +487,9 @@ plan-check-plan-bytes-once : (κs : Lfts 1) → Once (plan-check-plan-bytes.Post
 plan-check-plan-bytes-once κs a x y s t p q = p ∙ sym q
 
 -- steps
+steps-doing-of-once : Once (steps-doing-of.Post tt)
+steps-doing-of-once a x y s t p q = p ∙ sym q
+
 steps-step-of-once : Once (steps-step-of.Post tt)
 steps-step-of-once a x y s t p q = p ∙ sym q
 
@@ -518,9 +521,6 @@ still-walk-no-once κs a x y s t p q = p ∙ sym q
 
 still-settled-once : Once (still-settled.Post tt)
 still-settled-once a x y s t p q = p ∙ sym q
-
-still-doing-of-once : Once (still-doing-of.Post tt)
-still-doing-of-once a x y s t p q = p ∙ sym q
 
 -- block
 block-restored-once : Once (block-restored.Post tt)

@@ -7,7 +7,7 @@ use native.Mathlib.Omega.{arith}
 use lib.Dec.{leb, eqb}
 use lib.IntN.{ℤ}
 use lib.ListN.{length}
-use borrow.Author.Tests.{leb-true, le-leb, eqb-true, eqb-false, eq-eqb}
+use borrow.Author.Tests.{le-leb, eqb-true, eq-eqb}
 use Rattle.laws.specs.Choose.{passed, both-true}
 use Rattle.domain.specs.Domain.{depthOk}
 use Rattle.domain.specs.Facts.{Depth, depth-of, at-depth}
@@ -17,14 +17,14 @@ use Rattle.tiling.specs.Tiling.{pictureOf, place}
 use Rattle.plan.specs.Plan.{Plan}
 use Rattle.plan.specs.Check.{blocksVerdict, planVerdict}
 use Rattle.tiling.specs.Tests.{good-picture}
-use Rattle.plan.specs.Verdict.{Accepted, verdict-good, good-verdict}
+use Rattle.plan.specs.Verdict.{Accepted, good-verdict}
 use Rattle.still.specs.declared.Still.{Still}
-use Rattle.walk.specs.declared.Progress.{Progress}
 use Rattle.walk.specs.declared.Stepped.{Stepped}
-use Rattle.still.specs.Checks.{largestOf, every, whole, roomy, residualOk}
+use Rattle.still.specs.Checks.{largestOf, every, whole, roomy, residualOk, settle}
 use Rattle.rebuild.specs.Block.{replayUnit}
 use Rattle.coded.specs.Block.{World, walked, walkUnit}
-use Rattle.walk.specs.Door.{verdictOf, replayVerdict, replayAfter, walkVerdict, walkAfter}
+use Rattle.calls.specs.Door.{verdictOf, replayVerdict, replayAfter, walkVerdict, walkAfter}
+use Rattle.calls.specs.Laws.{blocks-accepted, verdict-zero}
 use Rattle.rebuild.specs.Laws.{rebuilt-length}
 use Rattle.coded.specs.Laws.{stored-length}
 use Rattle.lossless.specs.Picture.{Whole}
@@ -32,31 +32,11 @@ use Rattle.lossless.specs.Replay.{units-kept}
 use Rattle.promises.specs.Calls.{Job, Held, blocks, count, walkNo, walkCall, replayNo, replayCall}
 use Rattle.promises.specs.Chains.{next, Steps}
 
--- the verdict: the checks before the blocks, the plan's, and the record's
-module _ (s : Still) (plan : Plan) (p : Progress) (early : ℕ) where
-  verdict-told : verdictOf s plan p early .no ≡ 0 → (early ≡ 0) × (blocksVerdict (s .frame) plan .no ≡ 0) × (p .done ≤ plan .count)
-  unfolding verdictOf
-  verdict-told = go (eqb early 0) (eqb (v .no) 0) (leb (p .done) (plan .count)) refl refl refl
-    where
-      v : Verdict
-      v = blocksVerdict (s .frame) plan
-
-      go : (a b d : Bool) → eqb early 0 ≡ a → eqb (v .no) 0 ≡ b → leb (p .done) (plan .count) ≡ d
-          → cond a (cond b (record { no = cond d 0 11; block = 0 }) v) (record { no = early; block = 0 }) .no ≡ 0
-          → (early ≡ 0) × (v .no ≡ 0) × (p .done ≤ plan .count)
-      go true true true x y z e = (eqb-true early 0 x, eqb-true (v .no) 0 y, leb-true (p .done) (plan .count) z)
-      go true true false x y z e = absurd (omega (arith, e))
-      go true false d x y z e = absurd (eqb-false (v .no) 0 y e)
-      go false b d x y z e = absurd (eqb-false early 0 x e)
-
-  verdict-fine : early ≡ 0 → blocksVerdict (s .frame) plan .no ≡ 0 → p .done ≤ plan .count → verdictOf s plan p early .no ≡ 0
-  unfolding verdictOf
-  verdict-fine x y z = simp (eq-eqb early 0 x, eq-eqb (blocksVerdict (s .frame) plan .no) 0 y, le-leb (p .done) (plan .count) z)
-
+-- the verdict, where the checks before the blocks, the plan's and the record's all hold
 module _ (s : Still) (plan : Plan) where
-  blocks-told : pictureOk (pictureOf (s .frame)) ≡ true → blocksVerdict (s .frame) plan .no ≡ 0 → Accepted (s .frame) (plan .block) (plan .count)
-  unfolding planVerdict
-  blocks-told p e = verdict-good (s .frame) plan (rw p e)
+  verdict-fine : (done early : ℕ) → early ≡ 0 → blocksVerdict (s .frame) plan .no ≡ 0 → done ≤ plan .count → verdictOf s plan done early .no ≡ 0
+  unfolding verdictOf settle
+  verdict-fine done early x y z = simp (eq-eqb early 0 x, eq-eqb (blocksVerdict (s .frame) plan .no) 0 y, le-leb done (plan .count) z)
 
   blocks-fine : Accepted (s .frame) (plan .block) (plan .count) → blocksVerdict (s .frame) plan .no ≡ 0
   unfolding planVerdict
@@ -95,7 +75,7 @@ module _ (j : Job) where
   pub walk-told : (source : List ℕ) (x : Held World) → walkNo j source x .no ≡ 0 → Walking j source x
   unfolding walkVerdict
   walk-told source x e =
-      let v = verdict-told s (j .plan) (x .progress) _ e in
+      let v = verdict-zero s (j .plan) (x .progress .done) _ e in
       let depth = passed (depthOk (s .bits)) _ 1 (omega arith) (v .0) in
       let picture = passed (pictureOk (pictureOf (s .frame))) _ 4 (omega arith) (depth .1) in
       let long = passed (whole s (length source) && whole s (length (x .world .work)) && whole s (length (x .world .residuals)) && roomy (j .tables)) _ 5 (omega arith) (picture .1) in
@@ -104,7 +84,7 @@ module _ (j : Job) where
       let b = both-true (whole s (length source) && whole s (length (x .world .work))) (whole s (length (x .world .residuals))) (c .0) in
       let a = both-true (whole s (length source)) (whole s (length (x .world .work))) (b .0) in
       record {
-        asked = record { depth = depth-of (s .bits) (depth .0); plan-ok = blocks-told s (j .plan) (picture .0) (v .1); room = c .1; few = v .2 };
+        asked = record { depth = depth-of (s .bits) (depth .0); plan-ok = blocks-accepted s (j .plan) (picture .0) (v .1 .0); room = c .1; few = v .1 .1 };
         source-whole = eqb-true (length source) size (a .0);
         work-whole = eqb-true (length (x .world .work)) size (a .1);
         residuals-whole = eqb-true (length (x .world .residuals)) size (b .1);
@@ -114,7 +94,7 @@ module _ (j : Job) where
   pub walk-fine : (source : List ℕ) (x : Held World) → Walking j source x → walkNo j source x .no ≡ 0
   unfolding walkVerdict
   walk-fine source x w =
-      verdict-fine s (j .plan) (x .progress) _
+      verdict-fine s (j .plan) (x .progress .done) _
       (simp (
         depth-fine (w .asked .depth),
         good-picture (s .frame) (w .asked .plan-ok .picture),
@@ -129,7 +109,7 @@ module _ (j : Job) where
   pub replay-told : (residuals : List ℤ) (x : Held (List ℕ)) → replayNo j residuals x .no ≡ 0 → Replaying j residuals x
   unfolding replayVerdict
   replay-told residuals x e =
-      let v = verdict-told s (j .plan) (x .progress) _ e in
+      let v = verdict-zero s (j .plan) (x .progress .done) _ e in
       let depth = passed (depthOk (s .bits)) _ 1 (omega arith) (v .0) in
       let picture = passed (pictureOk (pictureOf (s .frame))) _ 4 (omega arith) (depth .1) in
       let long = passed (whole s (length (x .world)) && whole s (length residuals) && roomy (j .tables)) _ 5 (omega arith) (picture .1) in
@@ -137,7 +117,7 @@ module _ (j : Job) where
       let b = both-true (whole s (length (x .world)) && whole s (length residuals)) (roomy (j .tables)) (long .0) in
       let a = both-true (whole s (length (x .world))) (whole s (length residuals)) (b .0) in
       record {
-        asked = record { depth = depth-of (s .bits) (depth .0); plan-ok = blocks-told s (j .plan) (picture .0) (v .1); room = b .1; few = v .2 };
+        asked = record { depth = depth-of (s .bits) (depth .0); plan-ok = blocks-accepted s (j .plan) (picture .0) (v .1 .0); room = b .1; few = v .1 .1 };
         plane-whole = eqb-true (length (x .world)) size (a .0);
         residuals-whole = eqb-true (length residuals) size (a .1);
         in-range = most .0;
@@ -146,7 +126,7 @@ module _ (j : Job) where
   pub replay-fine : (residuals : List ℤ) (x : Held (List ℕ)) → Replaying j residuals x → replayNo j residuals x .no ≡ 0
   unfolding replayVerdict
   replay-fine residuals x w =
-      verdict-fine s (j .plan) (x .progress) _
+      verdict-fine s (j .plan) (x .progress .done) _
       (simp (
         depth-fine (w .asked .depth),
         good-picture (s .frame) (w .asked .plan-ok .picture),

@@ -12,7 +12,8 @@ use Rattle.still.specs.declared.Still.{Still}
 use Rattle.walk.specs.declared.Progress.{Progress}
 use Rattle.coded.specs.Block.{World}
 use Rattle.still.specs.Checks.{Tables}
-use Rattle.walk.specs.Door.{steppedBy, walkVerdict, walkAfter, replayVerdict, replayAfter}
+use Rattle.calls.specs.Door.{walkVerdict, walkAfter, replayVerdict, replayAfter}
+use Rattle.walk.specs.Door.{steppedBy}
 
 -- what all calls share: the still, its plan, and how long the lent scratch tables are
 pub record Job : Type 0 where
@@ -42,24 +43,24 @@ fresh w = record { progress = record { done = 0 }; world = w }
 
 -- a call of walk: the record that it hands back, the work plane and the residuals that it leaves
 abbrev pub walkNo : Job → List ℕ → Held World → Verdict
-walkNo j source x = walkVerdict (j .still) (j .plan) (j .tables) (x .progress) source (x .world)
+walkNo j source x = walkVerdict (j .still) (j .plan) (j .tables) (x .progress .done) source (x .world)
 
 abbrev pub walkCall : Job → List ℕ → Held World → ℕ → Held World
 walkCall j source x grant =
     record {
       progress = steppedBy (walkNo j source x) (j .plan) (x .progress) grant .next;
-      world = walkAfter (j .still) (j .plan) (j .tables) (x .progress) grant source (x .world);
+      world = walkAfter (j .still) (j .plan) (j .tables) (x .progress .done) grant source (x .world);
     }
 
 -- a call of replay: the record that it hands back, the plane that it leaves
 abbrev pub replayNo : Job → List ℤ → Held (List ℕ) → Verdict
-replayNo j residuals x = replayVerdict (j .still) (j .plan) (j .tables) (x .progress) (length (x .world)) residuals
+replayNo j residuals x = replayVerdict (j .still) (j .plan) (j .tables) (x .progress .done) (length (x .world)) residuals
 
 abbrev pub replayCall : Job → List ℤ → Held (List ℕ) → ℕ → Held (List ℕ)
 replayCall j residuals x grant =
     record {
       progress = steppedBy (replayNo j residuals x) (j .plan) (x .progress) grant .next;
-      world = replayAfter (j .still) (j .plan) (j .tables) (x .progress) grant residuals (x .world);
+      world = replayAfter (j .still) (j .plan) (j .tables) (x .progress .done) grant residuals (x .world);
     }
 
 -- a call that is not refused

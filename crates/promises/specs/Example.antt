@@ -11,8 +11,8 @@ use Rattle.tiling.specs.Check.{aheadBy, ahead, blockNo}
 use Rattle.plan.specs.Check.{verdictFrom}
 use Rattle.h265.specs.Notation.{halvings}
 use Rattle.coded.specs.Block.{World}
-use Rattle.still.specs.Checks.{every}
-use Rattle.walk.specs.Door.{verdictOf, walkVerdict}
+use Rattle.still.specs.Checks.{every, settle}
+use Rattle.calls.specs.Door.{verdictOf, walkVerdict}
 use Rattle.promises.specs.Calls.{Job, Served, count, fresh, calls, walkNo, walkCall, replayCall}
 use Rattle.promises.specs.Chains.{sum-none, sum-more}
 use Rattle.promises.specs.Proof3.{demand-3}
@@ -32,7 +32,7 @@ abbrev blank : World
 blank = record { work = replicate 128 0; residuals = replicate 128 (pos 0) }
 
 served : Served (walkNo two source (fresh blank))
-unfolding walkVerdict verdictOf every verdictFrom blockNo ahead aheadBy halvings
+unfolding walkVerdict verdictOf settle every verdictFrom blockNo ahead aheadBy halvings
 served = refl
 
 -- block by block, both ways, over zeros

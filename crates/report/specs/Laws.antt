@@ -19,7 +19,8 @@ use Rattle.tiling.specs.Tiling.{place}
 use Rattle.plan.specs.Plan.{Plan}
 use Rattle.walk.specs.declared.Stepped.{Stepped}
 use Rattle.coded.specs.Block.{World}
-use Rattle.walk.specs.Door.{steppedBy, walkVerdict, walkAfter}
+use Rattle.calls.specs.Door.{walkVerdict, walkAfter}
+use Rattle.walk.specs.Door.{steppedBy}
 use Rattle.rebuild.specs.Places.{place-in}
 use Rattle.report.specs.Text.{spell, laid}
 use Rattle.report.specs.Told.{Job, tables, fresh, agree, absolutes, line, lines}
@@ -182,8 +183,8 @@ agree-more a b i e = rw (add-one, e)
 
 -- what the walk gives: its number, the block of a refusal, and the residuals
 pub record Walked (j : Job) (w x : World) (r : Stepped) : Type 0 where
-  pub gives : r ≡ steppedBy (walkVerdict (j .still) (j .plan) tables fresh (j .source) w) (j .plan) fresh (j .plan .count)
-  pub leaves : x ≡ walkAfter (j .still) (j .plan) tables fresh (j .plan .count) (j .source) w
+  pub gives : r ≡ steppedBy (walkVerdict (j .still) (j .plan) tables 0 (j .source) w) (j .plan) fresh (j .plan .count)
+  pub leaves : x ≡ walkAfter (j .still) (j .plan) tables 0 (j .plan .count) (j .source) w
 
 -- the first k of n entries, in a buffer of m
 fill-front : {A : Type 0} (f : ℕ → A) (k : ℕ) (d r : List A) → k ≤ length d → fill f k (d ++ r) ≡ fill f k d ++ r

@@ -13,7 +13,7 @@ use Rattle.still.specs.declared.Still.{Still}
 use Rattle.walk.specs.declared.Progress.{Progress}
 use Rattle.coded.specs.Block.{World}
 use Rattle.still.specs.Checks.{Tables}
-use Rattle.walk.specs.Door.{walkVerdict, walkAfter, replayAfter}
+use Rattle.calls.specs.Door.{walkVerdict, walkAfter, replayAfter}
 use Rattle.report.specs.declared.Printout.{Printout}
 use Rattle.file.specs.declared.Trailer.{Trailer}
 use Rattle.file.specs.File.{trailerOf, fileOk, sourceOf, recordsOf}
@@ -47,14 +47,14 @@ blank s = record { work = zeros s; residuals = replicate (s .frame .height * s .
 
 -- the walk's verdict and its residuals
 abbrev pub verdict : Job → Verdict
-verdict j = walkVerdict (j .still) (j .plan) tables fresh (j .source) (blank (j .still))
+verdict j = walkVerdict (j .still) (j .plan) tables 0 (j .source) (blank (j .still))
 
 abbrev pub residuals : Job → List ℤ
-residuals j = walkAfter (j .still) (j .plan) tables fresh (j .plan .count) (j .source) (blank (j .still)) .residuals
+residuals j = walkAfter (j .still) (j .plan) tables 0 (j .plan .count) (j .source) (blank (j .still)) .residuals
 
 -- the replay over zeros
 abbrev pub replayed : Job → List ℕ
-replayed j = replayAfter (j .still) (j .plan) tables fresh (j .plan .count) (residuals j) (zeros (j .still))
+replayed j = replayAfter (j .still) (j .plan) tables 0 (j .plan .count) (residuals j) (zeros (j .still))
 
 -- whether the first k entries are the same
 unfoldable pub agree : List ℕ → List ℕ → ℕ → Bool

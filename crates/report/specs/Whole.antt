@@ -23,9 +23,10 @@ use Rattle.still.specs.declared.Still.{Still}
 use Rattle.walk.specs.declared.Progress.{Progress}
 use Rattle.walk.specs.declared.Stepped.{Stepped}
 use Rattle.coded.specs.Block.{World}
-use Rattle.walk.specs.Door.{steppedBy, walkVerdict, walkAfter, replayAfter}
-use Rattle.walk.specs.Ready.{Sound}
-use Rattle.walk.specs.Laws.{walk-sound}
+use Rattle.calls.specs.Door.{walkVerdict, walkAfter, replayAfter}
+use Rattle.calls.specs.Ready.{Sound}
+use Rattle.calls.specs.Laws.{walk-sound}
+use Rattle.walk.specs.Door.{steppedBy}
 use Rattle.report.specs.declared.Printout.{Printout}
 use Rattle.report.specs.Told.{Job, stillOf, jobOf, tables, fresh, zeros, blank, verdict, residuals, replayed, agree, lines, refusal, ending, told, printed, reportOf}
 use Rattle.report.specs.Text.{laid}
@@ -51,7 +52,7 @@ stepped-block v plan p grant h = ap (λ (a : Stepped). a .block) (sym (unserved 
 
 module _ {j : Job} {w x : World} {r : Stepped} (h : Walked j w x r) (b : w ≡ blank (j .still)) where
   given : r ≡ steppedBy (verdict j) (j .plan) fresh (j .plan .count)
-  given = h .gives ∙ ap (λ (u : World). steppedBy (walkVerdict (j .still) (j .plan) tables fresh (j .source) u) (j .plan) fresh (j .plan .count)) b
+  given = h .gives ∙ ap (λ (u : World). steppedBy (walkVerdict (j .still) (j .plan) tables 0 (j .source) u) (j .plan) fresh (j .plan .count)) b
 
   number-is : r .no ≡ verdict j .no
   number-is = ap (λ (u : Stepped). u .no) given ∙ stepped-no (verdict j) (j .plan) fresh (j .plan .count)
@@ -64,13 +65,13 @@ module _ {j : Job} {w x : World} {r : Stepped} (h : Walked j w x r) (b : w ≡ b
       ∙ if-no (eqb (verdict j .no) 0) _ _ _ (ne-eqb (verdict j .no) 0 k) refl
 
   pub residuals-are : x .residuals ≡ residuals j
-  residuals-are = ap (λ (u : World). u .residuals) (h .leaves) ∙ ap (λ (u : World). walkAfter (j .still) (j .plan) tables fresh (j .plan .count) (j .source) u .residuals) b
+  residuals-are = ap (λ (u : World). u .residuals) (h .leaves) ∙ ap (λ (u : World). walkAfter (j .still) (j .plan) tables 0 (j .plan .count) (j .source) u .residuals) b
 
   module _ (z : r .no ≡ 0) where
     sound : Sound (j .still) (j .plan) (length (w .work)) (length (w .residuals)) tables × ((length (j .source) ≡ length (w .work)) × (0 ≤ j .plan .count))
     sound =
-        walk-sound (j .still) (j .plan) tables fresh (j .source) w
-        (ap (λ (u : World). walkVerdict (j .still) (j .plan) tables fresh (j .source) u .no) b ∙ sym number-is ∙ z)
+        walk-sound (j .still) (j .plan) tables 0 (j .source) w
+        (ap (λ (u : World). walkVerdict (j .still) (j .plan) tables 0 (j .source) u .no) b ∙ sym number-is ∙ z)
 
     pub listed-all : (n : ℕ) → n ≡ length (w .residuals) → j .plan .count ≤ 512 → Listed (j .plan) n
     listed-all n e few =
@@ -87,12 +88,12 @@ module _ {j : Job} {w x : World} {r : Stepped} (h : Walked j w x r) (b : w ≡ b
         ap length e ∙ length-replicate n 0 ∙ sym (length-replicate n 0) ∙ sym (ap (λ (u : World). length (u .work)) b) ∙ sym (sound .1 .0)
 
     pub served-told : (plane back : List ℕ) (same : Bool) → plane ≡ zeros (j .still)
-        → back ≡ replayAfter (j .still) (j .plan) tables fresh (j .plan .count) (x .residuals) plane → same ≡ agree back (j .source) (length (j .source))
+        → back ≡ replayAfter (j .still) (j .plan) tables 0 (j .plan .count) (x .residuals) plane → same ≡ agree back (j .source) (length (j .source))
         → lines (j .plan .block) (x .residuals) (j .plan .count) ++ ending (j .plan .count) same ≡ told j
     unfolding told
     served-told plane back same e q s =
         let v = residuals-are in
-        let f : back ≡ replayed j = q ∙ ap₂ (λ (u : List ℤ) (d : List ℕ). replayAfter (j .still) (j .plan) tables fresh (j .plan .count) u d) v e in
+        let f : back ≡ replayed j = q ∙ ap₂ (λ (u : List ℤ) (d : List ℕ). replayAfter (j .still) (j .plan) tables 0 (j .plan .count) u d) v e in
         ap₂ (λ (u : List ℤ) (t : Bool). lines (j .plan .block) u (j .plan .count) ++ ending (j .plan .count) t) v (s ∙ ap (λ (d : List ℕ). agree d (j .source) (length (j .source))) f)
         ∙ if-yes (eqb (verdict j .no) 0) _ _ _ (eq-eqb (verdict j .no) 0 (sym number-is ∙ z)) refl
 

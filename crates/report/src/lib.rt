@@ -7,8 +7,8 @@ ghost use lib.ListN.{length as count};
 ghost use lib.IntN.{pos, natAbs};
 ghost use Rattle.report.specs.Text.{number};
 ghost use Rattle.plan.specs.Plan.{planOf};
-ghost use Rattle.walk.specs.Door.{replayAfter};
-ghost use Rattle.report.specs.Told.{stillOf, tables, fresh, agree, line, lines, absolutes, refusal, ending, told, jobOf, printed, reportOf};
+ghost use Rattle.calls.specs.Door.{replayAfter};
+ghost use Rattle.report.specs.Told.{stillOf, tables, agree, line, lines, absolutes, refusal, ending, told, jobOf, printed, reportOf};
 ghost use Rattle.report.specs.Laws.{Laid, Listed, Walked};
 ghost use Rattle.report.specs.Whole.{Blank, Held};
 use file::Trailer;
@@ -198,7 +198,7 @@ fn walk_all(
 // The whole replay.
 fn replay_all(still: Still, plan: &[[u32; 4]], residuals: &[i32], plane: &mut [u16])
     requires { ⌜ count (now plan) ≤ 512 ⌝ }
-    ensures { λ _. ⌜ now (plane .exit) ≡ replayAfter still (planOf (now (plan .entry))) tables fresh (count (now (plan .entry))) (now (residuals .entry)) (now (plane .entry)) ⌝ }
+    ensures { λ _. ⌜ now (plane .exit) ≡ replayAfter still (planOf (now (plan .entry))) tables 0 (count (now (plan .entry))) (now (residuals .entry)) (now (plane .entry)) ⌝ }
 {
     let mut refs = [0u16; 193];
     let mut indices = [0u32; 32];

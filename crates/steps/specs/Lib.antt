@@ -1,2 +1,2 @@
--- Steps: what a call comes to before its first write.
+-- Steps: how many blocks a call does, and what it comes to before its first write.
 pub mod Steps

@@ -6,10 +6,14 @@ use Rattle.laws.specs.Choose.{served, worked, unserved}
 use Rattle.plan.specs.declared.Verdict.{Verdict}
 use Rattle.steps.specs.declared.Step.{Step}
 
--- the lesser of the grant and what remains; none where the call is refused
+-- what a call that is served does: the lesser of the grant and what remains
+abbrev pub doing : ℕ → ℕ → ℕ → ℕ
+doing count done grant = min grant (count - done)
+
+-- so many; none where the call is refused
 unfoldable pub stepBy : Verdict → ℕ → ℕ → ℕ → Step
 stepBy v count done grant =
-    let did = min grant (count - done) in
+    let did = doing count done grant in
     served (v .no) (record { no = 0; block = 0; did = did; upto = done + did }) (record { no = v .no; block = v .block; did = 0; upto = 0 })
 
 -- its two ways
@@ -18,10 +22,10 @@ module _ (v : Verdict) (count done grant : ℕ) where
   unfolding stepBy
   refused-step d = unserved (v .no) _ _ d
 
-  pub granted-step : v .no ≡ 0 → {did : ℕ} → did ≡ min grant (count - done) → record { no = 0; block = 0; did = did; upto = done + did } ≡ stepBy v count done grant
+  pub granted-step : v .no ≡ 0 → {did : ℕ} → did ≡ doing count done grant → record { no = 0; block = 0; did = did; upto = done + did } ≡ stepBy v count done grant
   unfolding stepBy
   granted-step z e = ap (λ (k : ℕ). record { no = 0; block = 0; did = k; upto = done + k }) e ∙ worked (v .no) _ _ z
 
   -- a call goes up to no more blocks than there are
   pub upto-few : v .no ≡ 0 → done ≤ count → {t : Step} → t ≡ stepBy v count done grant → t .upto ≤ count
-  upto-few z few {t} e = let q : t .upto ≡ done + min grant (count - done) = ap (λ (x : Step). x .upto) (e ∙ sym (granted-step z {did = min grant (count - done)} refl)) in omega (arith, q)
+  upto-few z few {t} e = let q : t .upto ≡ done + doing count done grant = ap (λ (x : Step). x .upto) (e ∙ sym (granted-step z {did = doing count done grant} refl)) in omega (arith, q)

@@ -1,6 +1,7 @@
-// What a call of walk or replay comes to before its first write, by numbers alone. Rests on how many blocks a call does, of crate still.
+// What a call of walk or replay comes to before its first write, by numbers alone: how many blocks it does, and up to which it goes. Rests on what a verdict is.
 ghost use mathlib.Core.Path.{_≡_};
-ghost use Rattle.steps.specs.Steps.{stepBy};
+ghost use Prim.Native.Nat.{min, _-_};
+ghost use Rattle.steps.specs.Steps.{doing, stepBy};
 use plan::Verdict;
 
 // A call's number and the block that it is about, how many blocks it does, and the block that it goes up to; refused, it does none.
@@ -9,6 +10,28 @@ pub struct Step {
     pub block: u32,
     pub did: u32,
     pub upto: usize,
+}
+
+// How many blocks remain, as far as a u32 can count them.
+fn rest_of(count: usize, done: u32) -> u32
+    ensures { λ r. ⌜ r ≡ min (count - done) 4294967295 ⌝ }
+{
+    let before = done as usize;
+    if count < before {
+        return 0;
+    }
+    let rest = count - before;
+    if rest > 4294967295 {
+        return 4294967295;
+    }
+    rest as u32
+}
+
+// The lesser of the grant and what remains.
+pub fn doing_of(count: usize, done: u32, grant: u32) -> u32
+    ensures { λ r. ⌜ r ≡ doing count done grant ⌝ }
+{
+    helpers::min(grant, rest_of(count, done))
 }
 
 // The step of a call, of which so many blocks are done and whose plan has `count`.
@@ -23,7 +46,7 @@ pub fn step_of(done: u32, v: Verdict, count: usize, grant: u32) -> Step
             upto: 0,
         };
     }
-    let did = still::doing_of(count, done, grant);
+    let did = doing_of(count, done, grant);
     Step {
         no: 0,
         block: 0,

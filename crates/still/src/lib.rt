@@ -1,7 +1,7 @@
-// A still, and what a call on it checks before it looks at blocks: numbers 1, 4, 5, then 7 or 8; how the plan's verdict and number 11
-// follow, and how many blocks a call does. Rests on the domain's tests and on what a plan's verdict is.
+// A still, and what a call on it checks before it looks at blocks: numbers 1, 4, 5, then 7 or 8; and how the plan's verdict and number 11
+// follow. Rests on the domain's tests and on what a plan's verdict is.
 ghost use mathlib.Core.Path.{_≡_};
-ghost use Prim.Native.Nat.{ℕ, min, _-_};
+ghost use Prim.Native.Nat.{ℕ};
 ghost use lib.Dec.{leb};
 ghost use Rattle.order.specs.Order.{pictureOk};
 ghost use Rattle.tiling.specs.Tiling.{pictureOf};
@@ -145,26 +145,4 @@ pub fn settled(done: u32, count: usize, found: Verdict, early: u32) -> Verdict
     }
     let no = if (done as usize) <= count { 0 } else { 11 };
     Verdict { no, block: 0 }
-}
-
-// How many blocks remain, as far as a u32 can count them.
-fn rest_of(count: usize, done: u32) -> u32
-    ensures { λ r. ⌜ r ≡ min (count - done) 4294967295 ⌝ }
-{
-    let before = done as usize;
-    if count < before {
-        return 0;
-    }
-    let rest = count - before;
-    if rest > 4294967295 {
-        return 4294967295;
-    }
-    rest as u32
-}
-
-// The lesser of the grant and what remains.
-pub fn doing_of(count: usize, done: u32, grant: u32) -> u32
-    ensures { λ r. ⌜ r ≡ min grant (count - done) ⌝ }
-{
-    helpers::min(grant, rest_of(count, done))
 }

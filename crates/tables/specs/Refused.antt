@@ -35,7 +35,9 @@ use Rattle.walk.specs.declared.Progress.{Progress}
 use Rattle.walk.specs.declared.Stepped.{Stepped}
 use Rattle.coded.specs.Block.{World}
 use Rattle.still.specs.Checks.{Tables}
-use Rattle.walk.specs.Door.{steppedBy, replayVerdict, replayAfter, walkVerdict, walkAfter}
+use Rattle.calls.specs.Door.{replayVerdict, replayAfter, walkVerdict, walkAfter}
+use Rattle.calls.specs.Laws.{replay-refused, walk-refused}
+use Rattle.walk.specs.Door.{steppedBy}
 use Rattle.byte_answer.specs.Door.{Lent, byteVerdict, answered}
 use Rattle.byte_replay.specs.Door.{planeAfter, resultAfter}
 use Rattle.byte_entry.specs.Entries.{entry}
@@ -126,13 +128,11 @@ pub stepped : (v : Verdict) (plan : Plan) (p : Progress) (grant : ℕ) → ¬ (v
 stepped v plan p grant h = kept (v .no) _ (record { no = v .no; block = v .block; did = 0; next = p }) h
 
 module _ (s : Still) (plan : Plan) (t : Tables) (p : Progress) (grant : ℕ) where
-  pub walk : (source : List ℕ) (w : World) → ¬ (walkVerdict s plan t p source w .no ≡ 0) → walkAfter s plan t p grant source w ≡ w
-  unfolding walkAfter
-  walk source w h = kept _ _ w h
+  pub walk : (source : List ℕ) (w : World) → ¬ (walkVerdict s plan t (p .done) source w .no ≡ 0) → walkAfter s plan t (p .done) grant source w ≡ w
+  walk = walk-refused s plan t (p .done) grant
 
-  pub replay : (residuals : List ℤ) (plane : List ℕ) → ¬ (replayVerdict s plan t p (length plane) residuals .no ≡ 0) → replayAfter s plan t p grant residuals plane ≡ plane
-  unfolding replayAfter
-  replay residuals plane h = kept _ _ plane h
+  pub replay : (residuals : List ℤ) (plane : List ℕ) → ¬ (replayVerdict s plan t (p .done) (length plane) residuals .no ≡ 0) → replayAfter s plan t (p .done) grant residuals plane ≡ plane
+  replay = replay-refused s plan t (p .done) grant
 
 -- the camera's entries: a refused gather or prediction, each an `entry`, leaves its buffer; a refused replay leaves the plane, and writes the block number and
 -- the record as given, unless the result buffer is short

@@ -33,9 +33,11 @@ use Rattle.plan.specs.Verdict.{Fine, Broken, bad-size, bad-mode, bad-place, bad
 use Rattle.still.specs.declared.Still.{Still}
 use Rattle.walk.specs.declared.Progress.{Progress}
 use Rattle.walk.specs.declared.Stepped.{Stepped}
-use Rattle.still.specs.Checks.{largestOf, every, whole, Tables, roomy}
+use Rattle.still.specs.Checks.{largestOf, every, whole, Tables, roomy, settle}
+use Rattle.steps.specs.Steps.{doing}
 use Rattle.coded.specs.Block.{World}
-use Rattle.walk.specs.Door.{doing, verdictOf, steppedBy, replayVerdict, walkVerdict}
+use Rattle.calls.specs.Door.{verdictOf, replayVerdict, walkVerdict}
+use Rattle.walk.specs.Door.{steppedBy}
 use Rattle.tables.specs.Exact.{Row, _when_, _or_, First, ExactFirst, FirstBy, Tells, first-exact, first-test, first-row, all-of, at-most, same}
 use Rattle.tables.specs.Table.{BadPicture, BadPlace, depth, picture, placed}
 
@@ -234,8 +236,8 @@ module _ (s : Still) (plan : Plan) (p : Progress) where
       eleven = first-row (at-most (p .done) (plan .count)) (λ e. record { first = refl })
 
   -- a verdict of number 0 names no block, so the answer holds the verdict
-  names-none : (early : ℕ) → verdictOf s plan p early .no ≡ 0 → done ≡ verdictOf s plan p early
-  unfolding verdictOf
+  names-none : (early : ℕ) → verdictOf s plan (p .done) early .no ≡ 0 → done ≡ verdictOf s plan (p .done) early
+  unfolding verdictOf settle
   names-none early = go (eqb early 0) (eqb (v .no) 0) (leb (p .done) (plan .count)) refl refl
     where
       v : Verdict
@@ -250,22 +252,22 @@ module _ (s : Still) (plan : Plan) (p : Progress) where
   holds-verdict : (w : Verdict) → (w .no ≡ 0 → done ≡ w) → (grant : ℕ) → verdictIn (steppedBy w plan p grant) ≡ w
   holds-verdict w h grant = go (eqb (w .no) 0) refl
     where
-      go : (b : Bool) → eqb (w .no) 0 ≡ b → verdictIn (cond b (record { no = 0; block = 0; did = doing plan p grant; next = record { done = p .done + doing plan p grant } }) (record { no = w .no; block = w .block; did = 0; next = p })) ≡ w
+      go : (b : Bool) → eqb (w .no) 0 ≡ b → verdictIn (cond b (record { no = 0; block = 0; did = doing (plan .count) (p .done) grant; next = record { done = p .done + doing (plan .count) (p .done) grant } }) (record { no = w .no; block = w .block; did = 0; next = p })) ≡ w
       go true e = h (eqb-true (w .no) 0 e)
       go false e = refl
 
-  given-by : (early : ℕ) (a : Verdict) (rows : List (Row Verdict)) → a ≡ verdictOf s plan p early → FirstBy done from early rows → ExactFirst done a rows
-  unfolding verdictOf
+  given-by : (early : ℕ) (a : Verdict) (rows : List (Row Verdict)) → a ≡ verdictOf s plan (p .done) early → FirstBy done from early rows → ExactFirst done a rows
+  unfolding verdictOf settle
   given-by early a rows e h = first-exact done a rows (subst (λ (w : Verdict). First done w rows) (sym e) (h .first))
 
   -- the number and the block of an answer, and a number beside the block of an answer
-  answer-exact : (early grant : ℕ) (rows : List (Row Verdict)) → FirstBy done from early rows → ExactFirst done (verdictIn (steppedBy (verdictOf s plan p early) plan p grant)) rows
-  answer-exact early grant rows h = given-by early _ rows (holds-verdict (verdictOf s plan p early) (names-none early) grant) h
+  answer-exact : (early grant : ℕ) (rows : List (Row Verdict)) → FirstBy done from early rows → ExactFirst done (verdictIn (steppedBy (verdictOf s plan (p .done) early) plan p grant)) rows
+  answer-exact early grant rows h = given-by early _ rows (holds-verdict (verdictOf s plan (p .done) early) (names-none early) grant) h
 
   pub number-exact : (early grant : ℕ) (rows : List (Row Verdict)) → FirstBy done from early rows
-      → ExactFirst done (about (verdictOf s plan p early .no) (steppedBy (verdictOf s plan p early) plan p grant .block)) rows
+      → ExactFirst done (about (verdictOf s plan (p .done) early .no) (steppedBy (verdictOf s plan (p .done) early) plan p grant .block)) rows
   number-exact early grant rows h =
-      let w = verdictOf s plan p early in
+      let w = verdictOf s plan (p .done) early in
       given-by early _ rows (ap (λ (v : Verdict). about (w .no) (v .block)) (holds-verdict w (names-none early) grant)) h
 
   whole-plane : (len : ℕ) → Tells (whole s len) (BadPlane s len)
@@ -275,7 +277,7 @@ module _ (s : Still) (plan : Plan) (p : Progress) where
   tables t = all-of (all-of (at-most 193 (t .refs)) (at-most 32 (t .indices))) (at-most 32 (t .fractions))
 
   pub walk : (t : Tables) (grant : ℕ) (source : List ℕ) (w : World)
-      → ExactFirst done (verdictIn (steppedBy (walkVerdict s plan t p source w) plan p grant))
+      → ExactFirst done (verdictIn (steppedBy (walkVerdict s plan t (p .done) source w) plan p grant))
       ((about 1 0 when ¬ Depth (s .bits)) ∷ (about 4 0 when BadPicture (pictureOf (s .frame)))
       ∷ (about 5 0 when BadPlane s (length source) or BadPlane s (length (w .work)) or BadPlane s (length (w .residuals)) or BadTables t)
       ∷ (about 7 0 when Some 0 (λ v. largestOf s < v) source)
@@ -289,7 +291,7 @@ module _ (s : Still) (plan : Plan) (p : Progress) where
       (λ e. first-row (every-one 0 (λ v. at-most v (largestOf s)) source) (λ e. last-first ok)))))
 
   pub replay : (t : Tables) (grant : ℕ) (residuals : List ℤ) (plane : List ℕ)
-      → ExactFirst done (verdictIn (steppedBy (replayVerdict s plan t p (length plane) residuals) plan p grant))
+      → ExactFirst done (verdictIn (steppedBy (replayVerdict s plan t (p .done) (length plane) residuals) plan p grant))
       ((about 1 0 when ¬ Depth (s .bits)) ∷ (about 4 0 when BadPicture (pictureOf (s .frame)))
       ∷ (about 5 0 when BadPlane s (length plane) or BadPlane s (length residuals) or BadTables t)
       ∷ (about 8 0 when Some (pos 0) (λ r. 65535 < natAbs r) residuals)

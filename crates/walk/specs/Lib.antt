@@ -1,7 +1,4 @@
--- Door: what a call refuses, gives and leaves behind.
+-- Door: what a call gives.
 pub mod Door
--- Ready: what the loops ask. Laws: what joins the functions.
-pub mod Ready
-pub mod Laws
--- Listed: what a call comes to, and the turns of its loop.
+-- Listed: what a call comes to before its first write.
 pub mod Listed

@@ -12,8 +12,9 @@ ghost use Rattle.rebuild.specs.Block.{rebuilt, replayUnit};
 ghost use Rattle.coded.specs.Block.{walked, walkUnit};
 ghost use Rattle.block.specs.Ready.{Ready};
 ghost use Rattle.rebuild.specs.Ready.{Lies};
-ghost use Rattle.walk.specs.Door.{steppedBy, replayVerdict, replayAfter, walkVerdict, walkAfter};
-ghost use Rattle.walk.specs.Ready.{ReplayReady, WalkReady};
+ghost use Rattle.calls.specs.Door.{replayVerdict, replayAfter, walkVerdict, walkAfter};
+ghost use Rattle.calls.specs.Ready.{ReplayReady, WalkReady};
+ghost use Rattle.walk.specs.Door.{steppedBy};
 ghost use Rattle.walk.specs.Listed.{scratchTables, bare, callOf};
 use plan::Verdict;
 use scratch::AngularScratch;
@@ -345,7 +346,7 @@ impl Progress {
         fractions: &mut [u32],
         grant: u32,
     ) -> Stepped
-        ensures { λ r. ⌜ (r ≡ steppedBy (replayVerdict still (planOf (now (plan .entry))) (record { refs = length (now (refs .entry)); indices = length (now (indices .entry)); fractions = length (now (fractions .entry)) }) self (length (now (plane .entry))) (now (residuals .entry))) (planOf (now (plan .entry))) self grant) × ((now (plane .exit) ≡ replayAfter still (planOf (now (plan .entry))) (record { refs = length (now (refs .entry)); indices = length (now (indices .entry)); fractions = length (now (fractions .entry)) }) self grant (now (residuals .entry)) (now (plane .entry))) × ((r .no ≡ 0 → ⊥) → (now (refs .exit) ≡ now (refs .entry)) × ((now (indices .exit) ≡ now (indices .entry)) × (now (fractions .exit) ≡ now (fractions .entry))))) ⌝ }
+        ensures { λ r. ⌜ (r ≡ steppedBy (replayVerdict still (planOf (now (plan .entry))) (record { refs = length (now (refs .entry)); indices = length (now (indices .entry)); fractions = length (now (fractions .entry)) }) (self .done) (length (now (plane .entry))) (now (residuals .entry))) (planOf (now (plan .entry))) self grant) × ((now (plane .exit) ≡ replayAfter still (planOf (now (plan .entry))) (record { refs = length (now (refs .entry)); indices = length (now (indices .entry)); fractions = length (now (fractions .entry)) }) (self .done) grant (now (residuals .entry)) (now (plane .entry))) × ((r .no ≡ 0 → ⊥) → (now (refs .exit) ≡ now (refs .entry)) × ((now (indices .exit) ≡ now (indices .entry)) × (now (fractions .exit) ≡ now (fractions .entry))))) ⌝ }
     {
         let found = plan::check_plan_numbers(still.frame, plan);
         let early = still::replay_no(
@@ -385,7 +386,7 @@ impl Progress {
         fractions: &mut [u32],
         grant: u32,
     ) -> Stepped
-        ensures { λ r. ⌜ (r ≡ steppedBy (walkVerdict still (planOf (now (plan .entry))) (record { refs = length (now (refs .entry)); indices = length (now (indices .entry)); fractions = length (now (fractions .entry)) }) self (now (source .entry)) (record { work = now (work .entry); residuals = now (residuals .entry) })) (planOf (now (plan .entry))) self grant) × ((record { work = now (work .exit); residuals = now (residuals .exit) } ≡ walkAfter still (planOf (now (plan .entry))) (record { refs = length (now (refs .entry)); indices = length (now (indices .entry)); fractions = length (now (fractions .entry)) }) self grant (now (source .entry)) (record { work = now (work .entry); residuals = now (residuals .entry) })) × ((r .no ≡ 0 → ⊥) → (now (refs .exit) ≡ now (refs .entry)) × ((now (indices .exit) ≡ now (indices .entry)) × (now (fractions .exit) ≡ now (fractions .entry))))) ⌝ }
+        ensures { λ r. ⌜ (r ≡ steppedBy (walkVerdict still (planOf (now (plan .entry))) (record { refs = length (now (refs .entry)); indices = length (now (indices .entry)); fractions = length (now (fractions .entry)) }) (self .done) (now (source .entry)) (record { work = now (work .entry); residuals = now (residuals .entry) })) (planOf (now (plan .entry))) self grant) × ((record { work = now (work .exit); residuals = now (residuals .exit) } ≡ walkAfter still (planOf (now (plan .entry))) (record { refs = length (now (refs .entry)); indices = length (now (indices .entry)); fractions = length (now (fractions .entry)) }) (self .done) grant (now (source .entry)) (record { work = now (work .entry); residuals = now (residuals .entry) })) × ((r .no ≡ 0 → ⊥) → (now (refs .exit) ≡ now (refs .entry)) × ((now (indices .exit) ≡ now (indices .entry)) × (now (fractions .exit) ≡ now (fractions .entry))))) ⌝ }
     {
         let found = plan::check_plan_numbers(still.frame, plan);
         let early = still::walk_no(
@@ -424,7 +425,7 @@ impl Progress {
         scratch: &mut AngularScratch,
         grant: u32,
     ) -> Stepped
-        ensures { λ r. ⌜ (r ≡ steppedBy (replayVerdict still (listed (now (plan .entry))) scratchTables self (length (now (plane .entry))) (now (residuals .entry))) (listed (now (plan .entry))) self grant) × ((now (plane .exit) ≡ replayAfter still (listed (now (plan .entry))) scratchTables self grant (now (residuals .entry)) (now (plane .entry))) × ((r .no ≡ 0 → ⊥) → now (scratch .exit) ≡ now (scratch .entry))) ⌝ }
+        ensures { λ r. ⌜ (r ≡ steppedBy (replayVerdict still (listed (now (plan .entry))) scratchTables (self .done) (length (now (plane .entry))) (now (residuals .entry))) (listed (now (plan .entry))) self grant) × ((now (plane .exit) ≡ replayAfter still (listed (now (plan .entry))) scratchTables (self .done) grant (now (residuals .entry)) (now (plane .entry))) × ((r .no ≡ 0 → ⊥) → now (scratch .exit) ≡ now (scratch .entry))) ⌝ }
     {
         let found = plan::check_plan(still.frame, plan);
         let call = replay_call(
@@ -451,7 +452,7 @@ impl Progress {
         scratch: &mut AngularScratch,
         grant: u32,
     ) -> Stepped
-        ensures { λ r. ⌜ (r ≡ steppedBy (walkVerdict still (listed (now (plan .entry))) scratchTables self (now (source .entry)) (record { work = now (work .entry); residuals = now (residuals .entry) })) (listed (now (plan .entry))) self grant) × ((record { work = now (work .exit); residuals = now (residuals .exit) } ≡ walkAfter still (listed (now (plan .entry))) scratchTables self grant (now (source .entry)) (record { work = now (work .entry); residuals = now (residuals .entry) })) × ((r .no ≡ 0 → ⊥) → now (scratch .exit) ≡ now (scratch .entry))) ⌝ }
+        ensures { λ r. ⌜ (r ≡ steppedBy (walkVerdict still (listed (now (plan .entry))) scratchTables (self .done) (now (source .entry)) (record { work = now (work .entry); residuals = now (residuals .entry) })) (listed (now (plan .entry))) self grant) × ((record { work = now (work .exit); residuals = now (residuals .exit) } ≡ walkAfter still (listed (now (plan .entry))) scratchTables (self .done) grant (now (source .entry)) (record { work = now (work .entry); residuals = now (residuals .entry) })) × ((r .no ≡ 0 → ⊥) → now (scratch .exit) ≡ now (scratch .entry))) ⌝ }
     {
         let found = plan::check_plan(still.frame, plan);
         let call = walk_call(

@@ -4,7 +4,8 @@ ghost use mathlib.Core.Path.{_≡_};
 ghost use lib.ListN.{length};
 ghost use Rattle.plan.specs.Plan.{planOf, listed};
 ghost use Rattle.walk.specs.Listed.{scratchTables};
-ghost use Rattle.walk.specs.Door.{steppedBy, walkVerdict, walkAfter, replayVerdict, replayAfter};
+ghost use Rattle.calls.specs.Door.{walkVerdict, walkAfter, replayVerdict, replayAfter};
+ghost use Rattle.walk.specs.Door.{steppedBy};
 ghost use Rattle.walk_probes.specs.Probes.{planAnswer, stillOf, stepOf};
 use scratch::AngularScratch;
 use still::Still;
@@ -61,7 +62,7 @@ pub extern "C" fn salvrunde_probe_walk(
     fractions: &mut [u32],
     grant: u32,
 ) -> StepAnswer
-    ensures { λ r. ⌜ (r ≡ stepOf (steppedBy (walkVerdict (stillOf bits width height ctu) (planOf (now (plan .entry))) (record { refs = length (now (refs .entry)); indices = length (now (indices .entry)); fractions = length (now (fractions .entry)) }) (record { done = done }) (now (source .entry)) (record { work = now (work .entry); residuals = now (residuals .entry) })) (planOf (now (plan .entry))) (record { done = done }) grant)) × ((record { work = now (work .exit); residuals = now (residuals .exit) } ≡ walkAfter (stillOf bits width height ctu) (planOf (now (plan .entry))) (record { refs = length (now (refs .entry)); indices = length (now (indices .entry)); fractions = length (now (fractions .entry)) }) (record { done = done }) grant (now (source .entry)) (record { work = now (work .entry); residuals = now (residuals .entry) })) × ((r .no ≡ 0 → ⊥) → (now (refs .exit) ≡ now (refs .entry)) × ((now (indices .exit) ≡ now (indices .entry)) × (now (fractions .exit) ≡ now (fractions .entry))))) ⌝ }
+    ensures { λ r. ⌜ (r ≡ stepOf (steppedBy (walkVerdict (stillOf bits width height ctu) (planOf (now (plan .entry))) (record { refs = length (now (refs .entry)); indices = length (now (indices .entry)); fractions = length (now (fractions .entry)) }) done (now (source .entry)) (record { work = now (work .entry); residuals = now (residuals .entry) })) (planOf (now (plan .entry))) (record { done = done }) grant)) × ((record { work = now (work .exit); residuals = now (residuals .exit) } ≡ walkAfter (stillOf bits width height ctu) (planOf (now (plan .entry))) (record { refs = length (now (refs .entry)); indices = length (now (indices .entry)); fractions = length (now (fractions .entry)) }) done grant (now (source .entry)) (record { work = now (work .entry); residuals = now (residuals .entry) })) × ((r .no ≡ 0 → ⊥) → (now (refs .exit) ≡ now (refs .entry)) × ((now (indices .exit) ≡ now (indices .entry)) × (now (fractions .exit) ≡ now (fractions .entry))))) ⌝ }
 {
     let frame = Frame { width, height, ctu };
     let p = Progress { done };
@@ -99,7 +100,7 @@ pub extern "C" fn salvrunde_probe_replay(
     fractions: &mut [u32],
     grant: u32,
 ) -> StepAnswer
-    ensures { λ r. ⌜ (r ≡ stepOf (steppedBy (replayVerdict (stillOf bits width height ctu) (planOf (now (plan .entry))) (record { refs = length (now (refs .entry)); indices = length (now (indices .entry)); fractions = length (now (fractions .entry)) }) (record { done = done }) (length (now (plane .entry))) (now (residuals .entry))) (planOf (now (plan .entry))) (record { done = done }) grant)) × ((now (plane .exit) ≡ replayAfter (stillOf bits width height ctu) (planOf (now (plan .entry))) (record { refs = length (now (refs .entry)); indices = length (now (indices .entry)); fractions = length (now (fractions .entry)) }) (record { done = done }) grant (now (residuals .entry)) (now (plane .entry))) × ((r .no ≡ 0 → ⊥) → (now (refs .exit) ≡ now (refs .entry)) × ((now (indices .exit) ≡ now (indices .entry)) × (now (fractions .exit) ≡ now (fractions .entry))))) ⌝ }
+    ensures { λ r. ⌜ (r ≡ stepOf (steppedBy (replayVerdict (stillOf bits width height ctu) (planOf (now (plan .entry))) (record { refs = length (now (refs .entry)); indices = length (now (indices .entry)); fractions = length (now (fractions .entry)) }) done (length (now (plane .entry))) (now (residuals .entry))) (planOf (now (plan .entry))) (record { done = done }) grant)) × ((now (plane .exit) ≡ replayAfter (stillOf bits width height ctu) (planOf (now (plan .entry))) (record { refs = length (now (refs .entry)); indices = length (now (indices .entry)); fractions = length (now (fractions .entry)) }) done grant (now (residuals .entry)) (now (plane .entry))) × ((r .no ≡ 0 → ⊥) → (now (refs .exit) ≡ now (refs .entry)) × ((now (indices .exit) ≡ now (indices .entry)) × (now (fractions .exit) ≡ now (fractions .entry))))) ⌝ }
 {
     let frame = Frame { width, height, ctu };
     let p = Progress { done };
@@ -159,7 +160,7 @@ pub extern "C" fn salvrunde_probe_replay_records(
     scratch: &mut AngularScratch,
     grant: u32,
 ) -> StepAnswer
-    ensures { λ r. ⌜ (r ≡ stepOf (steppedBy (replayVerdict (stillOf bits width height ctu) (listed (now (plan .entry))) scratchTables (record { done = done }) (length (now (plane .entry))) (now (residuals .entry))) (listed (now (plan .entry))) (record { done = done }) grant)) × ((now (plane .exit) ≡ replayAfter (stillOf bits width height ctu) (listed (now (plan .entry))) scratchTables (record { done = done }) grant (now (residuals .entry)) (now (plane .entry))) × ((r .no ≡ 0 → ⊥) → now (scratch .exit) ≡ now (scratch .entry))) ⌝ }
+    ensures { λ r. ⌜ (r ≡ stepOf (steppedBy (replayVerdict (stillOf bits width height ctu) (listed (now (plan .entry))) scratchTables done (length (now (plane .entry))) (now (residuals .entry))) (listed (now (plan .entry))) (record { done = done }) grant)) × ((now (plane .exit) ≡ replayAfter (stillOf bits width height ctu) (listed (now (plan .entry))) scratchTables done grant (now (residuals .entry)) (now (plane .entry))) × ((r .no ≡ 0 → ⊥) → now (scratch .exit) ≡ now (scratch .entry))) ⌝ }
 {
     let p = progress_of(done);
     let s = still_of(bits, width, height, ctu);
@@ -181,7 +182,7 @@ pub extern "C" fn salvrunde_probe_walk_records(
     scratch: &mut AngularScratch,
     grant: u32,
 ) -> StepAnswer
-    ensures { λ r. ⌜ (r ≡ stepOf (steppedBy (walkVerdict (stillOf bits width height ctu) (listed (now (plan .entry))) scratchTables (record { done = done }) (now (source .entry)) (record { work = now (work .entry); residuals = now (residuals .entry) })) (listed (now (plan .entry))) (record { done = done }) grant)) × ((record { work = now (work .exit); residuals = now (residuals .exit) } ≡ walkAfter (stillOf bits width height ctu) (listed (now (plan .entry))) scratchTables (record { done = done }) grant (now (source .entry)) (record { work = now (work .entry); residuals = now (residuals .entry) })) × ((r .no ≡ 0 → ⊥) → now (scratch .exit) ≡ now (scratch .entry))) ⌝ }
+    ensures { λ r. ⌜ (r ≡ stepOf (steppedBy (walkVerdict (stillOf bits width height ctu) (listed (now (plan .entry))) scratchTables done (now (source .entry)) (record { work = now (work .entry); residuals = now (residuals .entry) })) (listed (now (plan .entry))) (record { done = done }) grant)) × ((record { work = now (work .exit); residuals = now (residuals .exit) } ≡ walkAfter (stillOf bits width height ctu) (listed (now (plan .entry))) scratchTables done grant (now (source .entry)) (record { work = now (work .entry); residuals = now (residuals .entry) })) × ((r .no ≡ 0 → ⊥) → now (scratch .exit) ≡ now (scratch .entry))) ⌝ }
 {
     let p = progress_of(done);
     let s = still_of(bits, width, height, ctu);

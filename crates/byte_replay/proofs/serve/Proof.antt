@@ -6,7 +6,7 @@ use Rattle.laws.specs.Chain.{units}
 use Rattle.bytes.specs.Bytes.{samplesOf, residualsOf}
 use Rattle.plan.specs.Records.{recordsOf}
 use Rattle.rebuild.specs.Block.{replayUnit}
-use Rattle.walk.specs.Laws.{accepted-small}
+use Rattle.calls.specs.Laws.{accepted-small}
 use borrow.Author.Needs.{needs}
 use Rattle.byte_replay.proofs.serve.Statement.{statement}
 use Rattle.byte_replay.proofs.serve.Tie as tie

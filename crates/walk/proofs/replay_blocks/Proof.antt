@@ -12,8 +12,8 @@ use Rattle.plan.specs.Plan.{planOf}
 use Rattle.tiling.specs.Tiling.{place}
 use Rattle.rebuild.specs.Block.{rebuilt, replayUnit}
 use Rattle.rebuild.specs.Places.{place-none, place-more}
-use Rattle.walk.specs.Laws.{lies, ready}
-use Rattle.walk.specs.Listed.{turn-none, turn-more, turn-done}
+use Rattle.calls.specs.Laws.{lies, ready}
+use Rattle.calls.specs.Turns.{turn-none, turn-more, turn-done}
 use borrow.Author.Needs.{needs}
 use Rattle.walk.proofs.replay_blocks.Statement.{statement}
 use Rattle.walk.proofs.replay_blocks.Tie as tie

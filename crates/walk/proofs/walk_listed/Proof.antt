@@ -62,9 +62,10 @@ use Rattle.coded.specs.Block.{World, walked as doneBlock, walkUnit}
 use Rattle.block.specs.Ready.{Ready}
 use Rattle.rebuild.specs.Ready.{Lies}
 use Rattle.rebuild.specs.Places.{place-none, place-more}
-use Rattle.walk.specs.Ready.{Sound, WalkReady}
-use Rattle.walk.specs.Laws.{lies, ready}
-use Rattle.walk.specs.Listed.{scratchTables, turn-none, turn-more}
+use Rattle.calls.specs.Ready.{Sound, WalkReady}
+use Rattle.calls.specs.Laws.{lies, ready}
+use Rattle.calls.specs.Turns.{turn-none, turn-more}
+use Rattle.walk.specs.Listed.{scratchTables}
 use Rattle.walk.proofs.Again.{LentAgain, lends-at, back-at}
 use Rattle.still.proofs.Still as Z
 use Rattle.still.proofs.Still.Laws as Z′

@@ -45,7 +45,8 @@ use Rattle.scratch.proofs.AngularScratch as G
 use Rattle.walk.specs.declared.Progress.{Progress}
 use Rattle.still.specs.declared.Still.{Still}
 use Rattle.walk.specs.declared.Stepped.{Stepped}
-use Rattle.walk.specs.Door.{steppedBy, replayVerdict, replayAfter}
+use Rattle.calls.specs.Door.{replayVerdict, replayAfter}
+use Rattle.walk.specs.Door.{steppedBy}
 use Rattle.walk.specs.Listed.{scratchTables}
 use Rattle.walk.proofs.Progress as O
 use Rattle.walk.proofs.Progress.Laws as O′
@@ -148,9 +149,9 @@ module _ {M : Type 1} (𝓤 : URA M) (H : Heap 𝓤) (A : Atoms 𝓤) (W : Given
 
   -- what the door says, and what the entry says
   abbrev Said : Progress → Still → Stepped → List ℕ → AngularScratch → Type 0
-  Said pr st x z g = (x ≡ steppedBy (replayVerdict st (listed ys) scratchTables pr (length ws) src) (listed ys) pr grant) × ((z ≡ replayAfter st (listed ys) scratchTables pr grant src ws) × ((x .no ≡ 0 → ⊥) → g ≡ h₀))
+  Said pr st x z g = (x ≡ steppedBy (replayVerdict st (listed ys) scratchTables (pr .done) (length ws) src) (listed ys) pr grant) × ((z ≡ replayAfter st (listed ys) scratchTables (pr .done) grant src ws) × ((x .no ≡ 0 → ⊥) → g ≡ h₀))
 
-  ends : (pr : Progress) (st : Still) (x : Stepped) (r : StepAnswer) (z : List ℕ) (g : AngularScratch) → pr ≡ (record { done = done }) → st ≡ (stillOf bits width height ctu) → Said pr st x z g → r ≡ stepOf x → (r ≡ stepOf (steppedBy (replayVerdict (stillOf bits width height ctu) (listed ys) scratchTables (record { done = done }) (length ws) src) (listed ys) (record { done = done }) grant)) × ((z ≡ replayAfter (stillOf bits width height ctu) (listed ys) scratchTables (record { done = done }) grant src ws) × ((r .no ≡ 0 → ⊥) → g ≡ h₀))
+  ends : (pr : Progress) (st : Still) (x : Stepped) (r : StepAnswer) (z : List ℕ) (g : AngularScratch) → pr ≡ (record { done = done }) → st ≡ (stillOf bits width height ctu) → Said pr st x z g → r ≡ stepOf x → (r ≡ stepOf (steppedBy (replayVerdict (stillOf bits width height ctu) (listed ys) scratchTables done (length ws) src) (listed ys) (record { done = done }) grant)) × ((z ≡ replayAfter (stillOf bits width height ctu) (listed ys) scratchTables done grant src ws) × ((r .no ≡ 0 → ⊥) → g ≡ h₀))
   ends pr st x r z g e₁ e₂ s q =
       let y = subst (λ (u : Progress). Said u (stillOf bits width height ctu) x z g) e₁ (subst (λ (v : Still). Said pr v x z g) e₂ s) in
       (q ∙ ap stepOf (y .0), (y .1 .0, λ d. y .1 .1 (λ k. d (ap (λ (u : StepAnswer). u .no) q ∙ k))))
@@ -159,7 +160,7 @@ module _ {M : Type 1} (𝓤 : URA M) (H : Heap 𝓤) (A : Atoms 𝓤) (W : Given
   abbrev Left : StepAnswer → Val → List ℕ → AngularScratch → List (Item 𝓤)
   Left r w z g = Toks ∷ ‵ (finally u16 γ₂ z) ∷ ‵ (fres γ (G.the-row .coded .code g)) ∷ ‵ (ShrSlice (named 1) κ₁ i32 .own c (vc ∷ [])) ∷ ‵ (ShrSlice (named 0) κ₀ T.the-row .own p (vp ∷ [])) ∷ ‵ (Y.the-row .own r (w ∷ [])) ∷ []
 
-  exits : (r : StepAnswer) (w : Val) (z : List ℕ) (g : AngularScratch) → (r ≡ stepOf (steppedBy (replayVerdict (stillOf bits width height ctu) (listed ys) scratchTables (record { done = done }) (length ws) src) (listed ys) (record { done = done }) grant)) × ((z ≡ replayAfter (stillOf bits width height ctu) (listed ys) scratchTables (record { done = done }) grant src ws) × ((r .no ≡ 0 → ⊥) → g ≡ h₀)) → length z ≡ length ws → ent 𝓤 (⋆ 𝓤 H A (Left r w z g)) (Post w)
+  exits : (r : StepAnswer) (w : Val) (z : List ℕ) (g : AngularScratch) → (r ≡ stepOf (steppedBy (replayVerdict (stillOf bits width height ctu) (listed ys) scratchTables done (length ws) src) (listed ys) (record { done = done }) grant)) × ((z ≡ replayAfter (stillOf bits width height ctu) (listed ys) scratchTables done grant src ws) × ((r .no ≡ 0 → ⊥) → g ≡ h₀)) → length z ≡ length ws → ent 𝓤 (⋆ 𝓤 H A (Left r w z g)) (Post w)
   exits r w z g e e₂ =
       qed W (Left r w z g) ∵ suffices ! _ (ends-at 𝓤 H A f.ended stayed (f.clauses 𝓤 H A mem run) W (((κ₀, (κ₁, (κ₂, (κₛ, tt)))), (q₀, (q₁, (q₂, (qₛ, tt)))), tt, a, vals), tt) w r (tt, (tt, (tt, (tt, (tt, (tt, (tt, (z, (g, (tt, tt)))))))))) (tt, (tt, (tt, (tt, (tt, (tt, (tt, (e₂, (tt, (tt, tt))))))))))) $ says ! e $
       frame ! $ nothing ! $ owned ! u32 (Is u32) (uint-makes 𝓤 H A W w32) grant _ (refl, grant-fits) $ fjoin ! $ move ! (2 ∷ 0 ∷ []) $ fjoin ! $ move ! (1 ∷ 0 ∷ []) $ fjoin ! $ move ! (1 ∷ 0 ∷ []) $ fjoin ! $ move ! (1 ∷ 0 ∷ []) $ fjoin ! $ owned ! u32 (Is u32) (uint-makes 𝓤 H A W w32) ctu _ (refl, ctu-fits) $ fjoin ! $ owned ! u32 (Is u32) (uint-makes 𝓤 H A W w32) height _ (refl, height-fits) $ fjoin ! $ owned ! u32 (Is u32) (uint-makes 𝓤 H A W w32) width _ (refl, width-fits) $ fjoin ! $ owned ! u32 (Is u32) (uint-makes 𝓤 H A W w32) bits _ (refl, bits-fits) $ fjoin ! $ owned ! u32 (Is u32) (uint-makes 𝓤 H A W w32) done _ (refl, done-fits) $ fjoin ! $ frame ! $ shut !

@@ -46,7 +46,8 @@ use Rattle.walk.specs.declared.Progress.{Progress}
 use Rattle.still.specs.declared.Still.{Still}
 use Rattle.walk.specs.declared.Stepped.{Stepped}
 use Rattle.coded.specs.Block.{World}
-use Rattle.walk.specs.Door.{steppedBy, walkVerdict, walkAfter}
+use Rattle.calls.specs.Door.{walkVerdict, walkAfter}
+use Rattle.walk.specs.Door.{steppedBy}
 use Rattle.walk.specs.Listed.{scratchTables}
 use Rattle.walk.proofs.Progress as O
 use Rattle.walk.proofs.Progress.Laws as O′
@@ -155,9 +156,9 @@ module _ {M : Type 1} (𝓤 : URA M) (H : Heap 𝓤) (A : Atoms 𝓤) (W : Given
 
   -- what the door says, and what the entry says
   abbrev Said : Progress → Still → Stepped → World → AngularScratch → Type 0
-  Said pr st x z g = (x ≡ steppedBy (walkVerdict st (listed ys) scratchTables pr src (record { work = ws; residuals = rs })) (listed ys) pr grant) × ((z ≡ walkAfter st (listed ys) scratchTables pr grant src (record { work = ws; residuals = rs })) × ((x .no ≡ 0 → ⊥) → g ≡ h₀))
+  Said pr st x z g = (x ≡ steppedBy (walkVerdict st (listed ys) scratchTables (pr .done) src (record { work = ws; residuals = rs })) (listed ys) pr grant) × ((z ≡ walkAfter st (listed ys) scratchTables (pr .done) grant src (record { work = ws; residuals = rs })) × ((x .no ≡ 0 → ⊥) → g ≡ h₀))
 
-  ends : (pr : Progress) (st : Still) (x : Stepped) (r : StepAnswer) (z : World) (g : AngularScratch) → pr ≡ (record { done = done }) → st ≡ (stillOf bits width height ctu) → Said pr st x z g → r ≡ stepOf x → (r ≡ stepOf (steppedBy (walkVerdict (stillOf bits width height ctu) (listed ys) scratchTables (record { done = done }) src (record { work = ws; residuals = rs })) (listed ys) (record { done = done }) grant)) × ((z ≡ walkAfter (stillOf bits width height ctu) (listed ys) scratchTables (record { done = done }) grant src (record { work = ws; residuals = rs })) × ((r .no ≡ 0 → ⊥) → g ≡ h₀))
+  ends : (pr : Progress) (st : Still) (x : Stepped) (r : StepAnswer) (z : World) (g : AngularScratch) → pr ≡ (record { done = done }) → st ≡ (stillOf bits width height ctu) → Said pr st x z g → r ≡ stepOf x → (r ≡ stepOf (steppedBy (walkVerdict (stillOf bits width height ctu) (listed ys) scratchTables done src (record { work = ws; residuals = rs })) (listed ys) (record { done = done }) grant)) × ((z ≡ walkAfter (stillOf bits width height ctu) (listed ys) scratchTables done grant src (record { work = ws; residuals = rs })) × ((r .no ≡ 0 → ⊥) → g ≡ h₀))
   ends pr st x r z g e₁ e₂ s q =
       let y = subst (λ (u : Progress). Said u (stillOf bits width height ctu) x z g) e₁ (subst (λ (v : Still). Said pr v x z g) e₂ s) in
       (q ∙ ap stepOf (y .0), (y .1 .0, λ d. y .1 .1 (λ k. d (ap (λ (u : StepAnswer). u .no) q ∙ k))))
@@ -166,7 +167,7 @@ module _ {M : Type 1} (𝓤 : URA M) (H : Heap 𝓤) (A : Atoms 𝓤) (W : Given
   abbrev Left : StepAnswer → Val → World → AngularScratch → List (Item 𝓤)
   Left r w z g = Toks ∷ ‵ (finally u16 γ₂ (z .work)) ∷ ‵ (finally i32 γ₃ (z .residuals)) ∷ ‵ (fres γ (G.the-row .coded .code g)) ∷ ‵ (ShrSlice (named 1) κ₁ u16 .own c (vc ∷ [])) ∷ ‵ (ShrSlice (named 0) κ₀ T.the-row .own p (vp ∷ [])) ∷ ‵ (Y.the-row .own r (w ∷ [])) ∷ []
 
-  exits : (r : StepAnswer) (w : Val) (z : World) (g : AngularScratch) → (r ≡ stepOf (steppedBy (walkVerdict (stillOf bits width height ctu) (listed ys) scratchTables (record { done = done }) src (record { work = ws; residuals = rs })) (listed ys) (record { done = done }) grant)) × ((z ≡ walkAfter (stillOf bits width height ctu) (listed ys) scratchTables (record { done = done }) grant src (record { work = ws; residuals = rs })) × ((r .no ≡ 0 → ⊥) → g ≡ h₀)) → length (z .work) ≡ length ws → length (z .residuals) ≡ length rs → ent 𝓤 (⋆ 𝓤 H A (Left r w z g)) (Post w)
+  exits : (r : StepAnswer) (w : Val) (z : World) (g : AngularScratch) → (r ≡ stepOf (steppedBy (walkVerdict (stillOf bits width height ctu) (listed ys) scratchTables done src (record { work = ws; residuals = rs })) (listed ys) (record { done = done }) grant)) × ((z ≡ walkAfter (stillOf bits width height ctu) (listed ys) scratchTables done grant src (record { work = ws; residuals = rs })) × ((r .no ≡ 0 → ⊥) → g ≡ h₀)) → length (z .work) ≡ length ws → length (z .residuals) ≡ length rs → ent 𝓤 (⋆ 𝓤 H A (Left r w z g)) (Post w)
   exits r w z g e e₂ e₃ =
       qed W (Left r w z g) ∵ suffices ! _ (ends-at 𝓤 H A f.ended stayed (f.clauses 𝓤 H A mem run) W (((κ₀, (κ₁, (κ₂, (κ₃, (κₛ, tt))))), (q₀, (q₁, (q₂, (q₃, (qₛ, tt))))), tt, a, vals), tt) w r (tt, (tt, (tt, (tt, (tt, (tt, (tt, ((z .work), ((z .residuals), (g, (tt, tt))))))))))) (tt, (tt, (tt, (tt, (tt, (tt, (tt, (e₂, (e₃, (tt, (tt, tt)))))))))))) $ says ! e $
       frame ! $ nothing ! $ owned ! u32 (Is u32) (uint-makes 𝓤 H A W w32) grant _ (refl, grant-fits) $ fjoin ! $ move ! (3 ∷ 0 ∷ []) $ fjoin ! $ move ! (2 ∷ 0 ∷ []) $ fjoin ! $ move ! (1 ∷ 0 ∷ []) $ fjoin ! $ move ! (1 ∷ 0 ∷ []) $ fjoin ! $ move ! (1 ∷ 0 ∷ []) $ fjoin ! $ owned ! u32 (Is u32) (uint-makes 𝓤 H A W w32) ctu _ (refl, ctu-fits) $ fjoin ! $ owned ! u32 (Is u32) (uint-makes 𝓤 H A W w32) height _ (refl, height-fits) $ fjoin ! $ owned ! u32 (Is u32) (uint-makes 𝓤 H A W w32) width _ (refl, width-fits) $ fjoin ! $ owned ! u32 (Is u32) (uint-makes 𝓤 H A W w32) bits _ (refl, bits-fits) $ fjoin ! $ owned ! u32 (Is u32) (uint-makes 𝓤 H A W w32) done _ (refl, done-fits) $ fjoin ! $ frame ! $ shut !

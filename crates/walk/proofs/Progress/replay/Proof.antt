@@ -61,10 +61,12 @@ use Rattle.still.specs.declared.Still.{Still}
 use Rattle.walk.specs.declared.Stepped.{Stepped}
 use Rattle.walk.specs.declared.Call.{Call}
 use Rattle.rebuild.specs.Block.{replayUnit}
-use Rattle.walk.specs.Door.{steppedBy, replayVerdict, replayAfter}
+use Rattle.calls.specs.Door.{replayVerdict, replayAfter}
+use Rattle.walk.specs.Door.{steppedBy}
 use Rattle.still.specs.Checks.{replayNo, settle}
-use Rattle.walk.specs.Ready.{ReplayReady}
-use Rattle.walk.specs.Listed.{scratchTables, bare, callOf, found-small, replay-asks, replay-ends}
+use Rattle.calls.specs.Ready.{ReplayReady}
+use Rattle.calls.specs.Laws.{found-small}
+use Rattle.walk.specs.Listed.{scratchTables, bare, callOf, replay-asks, replay-ends}
 use Rattle.walk.proofs.Progress as O
 use Rattle.walk.proofs.Progress.Laws as O′
 use Rattle.still.proofs.Still as Z
@@ -171,7 +173,7 @@ module _ {M : Type 1} (𝓤 : URA M) (H : Heap 𝓤) (A : Atoms 𝓤) (W : Given
   abbrev Left : List ℕ → AngularScratch → List (Item 𝓤)
   Left z g = Toks ∷ ‵ (finally u16 γ₂ z) ∷ ‵ (fres γ (G.the-row .coded .code g)) ∷ ‵ (ShrSlice (named 1) κ₁ i32 .own c (vc ∷ [])) ∷ ‵ (ShrSlice (named 0) κ₀ T.the-row .own p (vp ∷ [])) ∷ []
 
-  exits : (r : Stepped) (z : List ℕ) (g : AngularScratch) → Is E.the-row r (mE r ∷ []) → (r ≡ steppedBy (replayVerdict st (listed ys) scratchTables pr (length ws) src) (listed ys) pr grant) × ((z ≡ replayAfter st (listed ys) scratchTables pr grant src ws) × ((r .no ≡ 0 → ⊥) → g ≡ h₀)) → length z ≡ length ws → ent 𝓤 (⋆ 𝓤 H A (Left z g)) (Post (mE r))
+  exits : (r : Stepped) (z : List ℕ) (g : AngularScratch) → Is E.the-row r (mE r ∷ []) → (r ≡ steppedBy (replayVerdict st (listed ys) scratchTables (pr .done) (length ws) src) (listed ys) pr grant) × ((z ≡ replayAfter st (listed ys) scratchTables (pr .done) grant src ws) × ((r .no ≡ 0 → ⊥) → g ≡ h₀)) → length z ≡ length ws → ent 𝓤 (⋆ 𝓤 H A (Left z g)) (Post (mE r))
   exits r z g is-r e e₂ =
       qed W (Left z g) ∵ suffices ! _ (ends-at 𝓤 H A f.ended stayed (f.clauses 𝓤 H A mem run) W (((κ₀, (κ₁, (κ₂, (κₛ, tt)))), (q₀, (q₁, (q₂, (qₛ, tt)))), tt, a, vals), tt) (mE r) r (tt, (tt, (tt, (tt, (z, (g, (tt, tt))))))) (tt, (tt, (tt, (tt, (e₂, (tt, (tt, tt)))))))) $ says ! e $
       frame ! $ nothing ! $ owned ! u32 (Is u32) (uint-makes 𝓤 H A W w32) grant _ (refl, grant-fits) $ fjoin ! $ move ! (2 ∷ 0 ∷ []) $ fjoin ! $ move ! (1 ∷ 0 ∷ []) $ fjoin ! $ move ! (1 ∷ 0 ∷ []) $ fjoin ! $ move ! (1 ∷ 0 ∷ []) $ fjoin ! $ owned ! Z.the-row (Is Z.the-row) ((LL.makes Z.the-type Z′.the-plain) 𝓤 H A) st _ is-st $ fjoin ! $ owned ! O.the-row (Is O.the-row) ((LL.makes O.the-type O′.the-plain) 𝓤 H A) pr _ is-pr $ fjoin ! $ frame ! $ owned ! E.the-row (Is E.the-row) ((LL.makes E.the-type E′.the-plain) 𝓤 H A) r _ is-r $ done !

@@ -5,7 +5,8 @@ use Rattle.plan.specs.declared.Verdict.{Verdict}
 use Rattle.plan.specs.Plan.{planOf}
 use Rattle.still.specs.Checks.{settle}
 use Rattle.still.specs.Laws.{settle-zero}
-use Rattle.walk.specs.Listed.{bare, callOf, found-small, replay-asks, replay-ends}
+use Rattle.calls.specs.Laws.{found-small}
+use Rattle.walk.specs.Listed.{bare, callOf, replay-asks, replay-ends}
 use borrow.Author.Needs.{needs}
 use Rattle.walk.proofs.Progress.replay_numbers.Statement.{statement}
 use Rattle.walk.proofs.Progress.replay_numbers.Tie as tie

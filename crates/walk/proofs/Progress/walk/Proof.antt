@@ -61,10 +61,12 @@ use Rattle.still.specs.declared.Still.{Still}
 use Rattle.walk.specs.declared.Stepped.{Stepped}
 use Rattle.walk.specs.declared.Call.{Call}
 use Rattle.coded.specs.Block.{World, walkUnit}
-use Rattle.walk.specs.Door.{steppedBy, walkVerdict, walkAfter}
+use Rattle.calls.specs.Door.{walkVerdict, walkAfter}
+use Rattle.walk.specs.Door.{steppedBy}
 use Rattle.still.specs.Checks.{walkNo, settle}
-use Rattle.walk.specs.Ready.{WalkReady}
-use Rattle.walk.specs.Listed.{scratchTables, bare, callOf, found-small, walk-asks, walk-ends}
+use Rattle.calls.specs.Ready.{WalkReady}
+use Rattle.calls.specs.Laws.{found-small}
+use Rattle.walk.specs.Listed.{scratchTables, bare, callOf, walk-asks, walk-ends}
 use Rattle.walk.proofs.Progress as O
 use Rattle.walk.proofs.Progress.Laws as O′
 use Rattle.still.proofs.Still as Z
@@ -177,7 +179,7 @@ module _ {M : Type 1} (𝓤 : URA M) (H : Heap 𝓤) (A : Atoms 𝓤) (W : Given
   abbrev Left : World → AngularScratch → List (Item 𝓤)
   Left z g = Toks ∷ ‵ (finally u16 γ₂ (z .work)) ∷ ‵ (finally i32 γ₃ (z .residuals)) ∷ ‵ (fres γ (G.the-row .coded .code g)) ∷ ‵ (ShrSlice (named 1) κ₁ u16 .own c (vc ∷ [])) ∷ ‵ (ShrSlice (named 0) κ₀ T.the-row .own p (vp ∷ [])) ∷ []
 
-  exits : (r : Stepped) (z : World) (g : AngularScratch) → Is E.the-row r (mE r ∷ []) → (r ≡ steppedBy (walkVerdict st (listed ys) scratchTables pr src (record { work = ws; residuals = rs })) (listed ys) pr grant) × ((z ≡ walkAfter st (listed ys) scratchTables pr grant src (record { work = ws; residuals = rs })) × ((r .no ≡ 0 → ⊥) → g ≡ h₀)) → length (z .work) ≡ length ws → length (z .residuals) ≡ length rs → ent 𝓤 (⋆ 𝓤 H A (Left z g)) (Post (mE r))
+  exits : (r : Stepped) (z : World) (g : AngularScratch) → Is E.the-row r (mE r ∷ []) → (r ≡ steppedBy (walkVerdict st (listed ys) scratchTables (pr .done) src (record { work = ws; residuals = rs })) (listed ys) pr grant) × ((z ≡ walkAfter st (listed ys) scratchTables (pr .done) grant src (record { work = ws; residuals = rs })) × ((r .no ≡ 0 → ⊥) → g ≡ h₀)) → length (z .work) ≡ length ws → length (z .residuals) ≡ length rs → ent 𝓤 (⋆ 𝓤 H A (Left z g)) (Post (mE r))
   exits r z g is-r e e₂ e₃ =
       qed W (Left z g) ∵ suffices ! _ (ends-at 𝓤 H A f.ended stayed (f.clauses 𝓤 H A mem run) W (((κ₀, (κ₁, (κ₂, (κ₃, (κₛ, tt))))), (q₀, (q₁, (q₂, (q₃, (qₛ, tt))))), tt, a, vals), tt) (mE r) r (tt, (tt, (tt, (tt, ((z .work), ((z .residuals), (g, (tt, tt)))))))) (tt, (tt, (tt, (tt, (e₂, (e₃, (tt, (tt, tt))))))))) $ says ! e $
       frame ! $ nothing ! $ owned ! u32 (Is u32) (uint-makes 𝓤 H A W w32) grant _ (refl, grant-fits) $ fjoin ! $ move ! (3 ∷ 0 ∷ []) $ fjoin ! $ move ! (2 ∷ 0 ∷ []) $ fjoin ! $ move ! (1 ∷ 0 ∷ []) $ fjoin ! $ move ! (1 ∷ 0 ∷ []) $ fjoin ! $ move ! (1 ∷ 0 ∷ []) $ fjoin ! $ owned ! Z.the-row (Is Z.the-row) ((LL.makes Z.the-type Z′.the-plain) 𝓤 H A) st _ is-st $ fjoin ! $ owned ! O.the-row (Is O.the-row) ((LL.makes O.the-type O′.the-plain) 𝓤 H A) pr _ is-pr $ fjoin ! $ frame ! $ owned ! E.the-row (Is E.the-row) ((LL.makes E.the-type E′.the-plain) 𝓤 H A) r _ is-r $ done !
