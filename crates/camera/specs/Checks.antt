@@ -13,6 +13,7 @@ use Rattle.domain.specs.Domain.{depthOk, sizeOk}
 use Rattle.order.specs.Order.{pictureOk}
 use Rattle.order.specs.Reach.{lumaPlaceOk, chromaPlaceOk}
 use Rattle.bytes.specs.Bytes.{samplesOf}
+use Rattle.byte_rows.specs.Line.{roomNo}
 use Rattle.camera.specs.Entries.{lumaEntryNo, chromaEntryNo}
 use Rattle.refs.specs.declared.LumaRefGeometry.{LumaRefGeometry}
 use Rattle.refs.specs.declared.ChromaRefGeometry.{ChromaRefGeometry}
@@ -21,10 +22,6 @@ use Rattle.refs.specs.declared.GatheredPair.{GatheredPair}
 use Rattle.substitution.specs.Substitution.{levelRows}
 use Rattle.substitution.specs.Line.{told}
 use Rattle.refs.specs.Door.{lumaBlock, lumaLength, lumaNumber, lumaRows, lumaBytesNo, lumaBytesDoor, chromaPicture, chromaBlock, chromaLength, chromaNumber, chromaRows, chromaBytesNo, chromaBytesDoor}
-
--- a gather's number, told whether its buffer is long enough
-abbrev pub roomNo : Bool → ℕ → ℕ
-roomNo roomy k = cond (eqb k 0 || eqb k 6) (cond roomy k 5) k
 
 -- depth, size, picture, plane, place; the buffer
 same : (d s p w q r : Bool) → cond d (cond s (cond p (cond (w && r) (cond q 0 6) 5) 4) 2) 1 ≡ roomNo r (cond d (cond s (cond p (cond w (cond q 0 6) 5) 4) 2) 1)

@@ -1,29 +1,15 @@
 -- Document 01, 'use from C': what each gathering entry gives back and writes, in bytes. Numbers count bytes. Assumes nothing.
 use Prim.Native.Nat.{ℕ, _*_}
 use mathlib.Core.Bool.{_&&_}
-use mathlib.Core.List.{List, _∷_, _++_}
+use mathlib.Core.List.{List}
 use lib.Dec.{leb, eqb}
-use lib.ListN.{length, getD}
-use Rattle.laws.specs.Fill.{run}
-use Rattle.laws.specs.Bytes.{byteOf}
+use lib.ListN.{length}
 use Rattle.bytes.specs.Bytes.{samplesOf}
-use Rattle.rows.specs.declared.Rows.{Rows}
 use Rattle.refs.specs.declared.LumaRefGeometry.{LumaRefGeometry}
 use Rattle.refs.specs.declared.ChromaRefGeometry.{ChromaRefGeometry}
 use Rattle.refs.specs.Door.{lumaLength, lumaNumber, lumaRows, chromaLength, chromaNumber, chromaRows}
+use Rattle.byte_rows.specs.Line.{rowsAt}
 use Rattle.byte_entry.specs.Entries.{Written, entry}
-
--- byte j of a list of samples, two bytes each
-abbrev pub sampleByte : List ℕ → ℕ → ℕ
-sampleByte l = byteOf 2 (λ i. getD l i 0)
-
--- Gathering: the corner, the row above, the left column, 131 samples in 262 bytes.
-abbrev pub inLine : Rows → List ℕ
-inLine r = r .corner ∷ (r .above ++ r .left)
-
--- a buffer after rows were written into it, from byte at on
-unfoldable pub rowsAt : ℕ → Rows → List ℕ → List ℕ
-rowsAt at r d = run (sampleByte (inLine r)) at 262 d
 
 -- number 5 is given for a short buffer too, in its place
 abbrev pub lumaEntryNo : ℕ → ℕ → LumaRefGeometry → ℕ

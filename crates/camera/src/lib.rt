@@ -1,16 +1,11 @@
 // What the camera's C firmware calls: gathering, prediction and replay on numbers and byte slices, samples of two bytes, the lower first.
-// Each entry gives back its number, and writes nothing where it refuses. Rests on the doors' contracts and on crate bytes.
+// Each entry gives back its number, and writes nothing where it refuses. Rests on the doors' contracts and on how rows are stored.
 ghost use mathlib.Core.Path.{_≡_};
-ghost use Prim.Native.Nat.{ℕ, _+_, _*_, _%_, _≤_, _<_};
-ghost use lib.ListN.{length, set};
-ghost use Rattle.laws.specs.Fill.{run};
-ghost use Rattle.bytes.specs.Bytes.{byte1};
 ghost use Rattle.byte_replay.specs.Door.{replayed};
 ghost use Rattle.byte_entry.specs.Entries.{wrote};
 ghost use Rattle.byte_flat.specs.Entries.{planarEntry, dcEntry};
 ghost use Rattle.byte_predict.specs.Entries.{angularEntry, chromaBlockEntry};
-ghost use Rattle.camera.specs.Entries.{sampleByte, rowsAt, lumaEntry, chromaEntry};
-ghost use Rattle.camera.specs.Checks.{roomNo};
+ghost use Rattle.camera.specs.Entries.{lumaEntry, chromaEntry};
 use fmt::ChromaCol;
 use fmt::ChromaRow;
 use fmt::LumaCol;
@@ -18,63 +13,9 @@ use fmt::LumaRow;
 use order::Picture;
 use refs::ChromaRefGeometry;
 use refs::LumaRefGeometry;
-use rows::Rows;
 use still::Still;
 use tiling::Frame;
 use walk::Progress;
-
-// Stores the sample at a place of a buffer, counted in samples.
-fn put(out: &mut [u8], at: usize, v: u16)
-    requires { ⌜ 2 * at + 1 < length (now out) ⌝ }
-    ensures { λ _. ⌜ now (out .exit) ≡ set (set (now (out .entry)) (2 * at) (v % 256)) (2 * at + 1) (byte1 v) ⌝ }
-{
-    let low = 2 * at;
-    out[low] = bytes::byte_0(v as u32);
-    out[low + 1] = bytes::byte_1(v as u32);
-}
-
-// Stores the first `count` samples of a list, the first one at a place of the buffer.
-fn store(from: &[u16], count: usize, out: &mut [u8], at: usize)
-    requires { ⌜ (count ≤ length (now from)) × (2 * (at + count) ≤ length (now out)) ⌝ }
-    ensures { λ _. ⌜ now (out .exit) ≡ run (sampleByte (now (from .entry))) (2 * at) (2 * count) (now (out .entry)) ⌝ }
-{
-    let mut i = 0;
-    while i < count {
-        put(&mut *out, at + i, from[i]);
-        i += 1;
-    }
-}
-
-// Stores the 65 samples of a row: 64 of them are 128 bytes, a copy that the compiler makes in place, then the last.
-fn store_row(from: &[u16], out: &mut [u8], at: usize)
-    requires { ⌜ (65 ≤ length (now from)) × (2 * (at + 65) ≤ length (now out)) ⌝ }
-    ensures { λ _. ⌜ now (out .exit) ≡ run (sampleByte (now (from .entry))) (2 * at) (2 * 65) (now (out .entry)) ⌝ }
-{
-    store(from, 64, &mut *out, at);
-    put(&mut *out, at + 64, from[64]);
-}
-
-// Stores the corner, the row above and the left column.
-fn store_rows(rows: Rows, out: &mut [u8], at: usize)
-    requires { ⌜ 2 * (at + 131) ≤ length (now out) ⌝ }
-    ensures { λ _. ⌜ now (out .exit) ≡ rowsAt (2 * at) rows (now (out .entry)) ⌝ }
-{
-    let above = rows.above;
-    let left = rows.left;
-    put(&mut *out, at, rows.corner);
-    store_row(&above, &mut *out, at + 1);
-    store_row(&left, &mut *out, at + 66);
-}
-
-// A gather's number where its buffer may be short: 5 comes before 6 and 0, and after the others.
-fn room_no(no: u32, roomy: bool) -> u32
-    ensures { λ r. ⌜ r ≡ roomNo roomy no ⌝ }
-{
-    if (no == 0) | (no == 6) {
-        return if roomy { no } else { 5 };
-    }
-    no
-}
 
 // The reference rows of a luma block, out of a plane of exactly 2 · width · height bytes: the corner, 65 samples above, 65 samples left,
 // in the first 262 bytes of `out`. Numbers 1, 2, 4, 5, 6.
@@ -107,9 +48,9 @@ pub extern "C" fn salvrunde_luma_refs(
         n: n as usize,
     };
     let a = refs::get_reference_samples_bytes(plane, geo);
-    let no = room_no(a.no, out.len() >= 262);
+    let no = byte_rows::room_no(a.no, 1, out.len());
     if no == 0 {
-        store_rows(a.rows, &mut *out, 0);
+        byte_rows::store_rows(a.rows, &mut *out, 0);
     }
     no
 }
@@ -147,10 +88,10 @@ pub extern "C" fn salvrunde_chroma_refs(
         cur_luma_col: LumaCol(cur_luma_col),
     };
     let a = refs::get_reference_samples_chroma_pair_bytes(cb, cr, geo);
-    let no = room_no(a.no, out.len() >= 524);
+    let no = byte_rows::room_no(a.no, 2, out.len());
     if no == 0 {
-        store_rows(a.planes[0], &mut *out, 0);
-        store_rows(a.planes[1], &mut *out, 131);
+        byte_rows::store_rows(a.planes[0], &mut *out, 0);
+        byte_rows::store_rows(a.planes[1], &mut *out, 131);
     }
     no
 }

@@ -170,6 +170,8 @@ use Rattle.walk_probes.proofs.salvrunde_probe_walk.Reads as walk-probes-salvrun
 use Rattle.walk_probes.proofs.salvrunde_probe_replay.Reads as walk-probes-salvrunde-probe-replay
 use Rattle.walk_probes.proofs.salvrunde_probe_walk_records as walk-probes-salvrunde-probe-walk-records
 use Rattle.walk_probes.proofs.salvrunde_probe_replay_records as walk-probes-salvrunde-probe-replay-records
+use Rattle.byte_rows.proofs.store_rows.Reads as byte-rows-store-rows
+use Rattle.byte_rows.proofs.room_no.Reads as byte-rows-room-no
 use Rattle.pairs.proofs.read.Reads as pairs-read
 use Rattle.pairs.proofs.store.Reads as pairs-store
 use Rattle.pairs.proofs.flood.Reads as pairs-flood
@@ -697,6 +699,13 @@ by-after p q = (ap (λ (v : After). v .number) (p ∙ sym q), ap (λ (v : After)
 
 byte-replay-replay-once : (κs : Lfts 4) → OnceLeft {L = List ℕ × List ℕ} (λ s. (now (s .1 .1 .1 .1 .0), now (s .1 .1 .1 .1 .1 .0))) (byte-replay-replay.Post κs)
 byte-replay-replay-once κs a x y s t p q = by-after p q
+
+-- byte_rows
+byte-rows-store-rows-once : (κs : Lfts 1) → OnceLeft (λ s. now (s .1 .0)) (byte-rows-store-rows.Post κs)
+byte-rows-store-rows-once κs a x y s t p q = (refl, p ∙ sym q)
+
+byte-rows-room-no-once : Once (byte-rows-room-no.Post tt)
+byte-rows-room-no-once a x y s t p q = p ∙ sym q
 
 -- pairs
 pairs-read-once : (κs : Lfts 2) → OnceLeft (λ s. now (s .1 .1 .0)) (pairs-read.Post κs)

@@ -4,7 +4,9 @@ use mathlib.Core.List.{List, []}
 use native.Mathlib.Omega.{arith}
 use lib.ListN.{length, getD}
 use Rattle.rows.specs.declared.Rows.{Rows}
-use Rattle.camera.specs.Entries.{rowsAt, chromaEntry}
+use Rattle.byte_rows.specs.Line.{rowsAt}
+use Rattle.byte_rows.specs.Stored.{stored}
+use Rattle.camera.specs.Entries.{chromaEntry}
 use Rattle.byte_entry.specs.Checks.{done, refused}
 use Rattle.camera.specs.Checks.{chroma-entry-no, chroma-entry-rows}
 use borrow.Author.Needs.{needs}
@@ -26,13 +28,13 @@ element-copy-out-store-rows : tie.Need-element-copy-out-store-rows
 element-copy-out-store-rows c = search needs
 
 store-rows-requires : tie.Need-store-rows-requires
-store-rows-requires c κs = let a = c .before .before .before .before .before .before .before .before .args in omega (arith, chroma-entry-rows (a .cb .now) (a .cr .now) (length (a .out .now)) (record { bits = a .bits; format = a .format; «luma_w» = a .luma-width; «luma_h» = a .luma-height; «min_luma_pu» = a .unit; «block_row» = record { 0 = a .row }; «block_col» = record { 0 = a .col }; n = a .n; «cur_luma_row» = record { 0 = a .cur-luma-row }; «cur_luma_col» = record { 0 = a .cur-luma-col } }) (c .before .before .before .before .get-reference-samples-chroma-pair-bytes .ensures) (c .before .before .before .room-no .ensures) (c .before .before .if1 .taken) .0)
+store-rows-requires c κs = search needs
 
 element-copy-out-store-rows-2 : tie.Need-element-copy-out-store-rows-2
 element-copy-out-store-rows-2 c = search needs
 
 store-rows-requires-2 : tie.Need-store-rows-requires-2
-store-rows-requires-2 c κs = let a = c .before .before .before .before .before .before .before .before .before .before .before .before .before .args in omega (arith, c .before .before .before .before .store-rows .kept .1 .0, chroma-entry-rows (a .cb .now) (a .cr .now) (length (a .out .now)) (record { bits = a .bits; format = a .format; «luma_w» = a .luma-width; «luma_h» = a .luma-height; «min_luma_pu» = a .unit; «block_row» = record { 0 = a .row }; «block_col» = record { 0 = a .col }; n = a .n; «cur_luma_row» = record { 0 = a .cur-luma-row }; «cur_luma_col» = record { 0 = a .cur-luma-col } }) (c .before .before .before .before .before .before .before .before .before .get-reference-samples-chroma-pair-bytes .ensures) (c .before .before .before .before .before .before .before .before .room-no .ensures) (c .before .before .before .before .before .before .before .if1 .taken) .0)
+store-rows-requires-2 c κs = search needs
 
 same-length : tie.Need-same-length
 same-length c = search needs
@@ -41,9 +43,9 @@ returns : tie.Need-returns
 unfolding chromaEntry
 returns c =
     let a = c .before .before .before .before .before .before .before .before .before .before .before .before .before .before .before .before .args in
-    let p = chroma-entry-rows (a .cb .now) (a .cr .now) (length (a .out .now)) (record { bits = a .bits; format = a .format; «luma_w» = a .luma-width; «luma_h» = a .luma-height; «min_luma_pu» = a .unit; «block_row» = record { 0 = a .row }; «block_col» = record { 0 = a .col }; n = a .n; «cur_luma_row» = record { 0 = a .cur-luma-row }; «cur_luma_col» = record { 0 = a .cur-luma-col } }) (c .before .before .before .before .before .before .before .before .before .before .before .before .get-reference-samples-chroma-pair-bytes .ensures) (c .before .before .before .before .before .before .before .before .before .before .before .room-no .ensures) (c .before .before .before .before .before .before .before .before .before .before .if1 .taken) .1 in
+    let p = chroma-entry-rows (a .cb .now) (a .cr .now) (length (a .out .now)) (record { bits = a .bits; format = a .format; «luma_w» = a .luma-width; «luma_h» = a .luma-height; «min_luma_pu» = a .unit; «block_row» = record { 0 = a .row }; «block_col» = record { 0 = a .col }; n = a .n; «cur_luma_row» = record { 0 = a .cur-luma-row }; «cur_luma_col» = record { 0 = a .cur-luma-col } }) (c .before .before .before .before .before .before .before .before .before .before .before .before .get-reference-samples-chroma-pair-bytes .ensures) (c .before .before .before .before .before .before .before .before .before .before .before .room-no .ensures) (c .before .before .before .before .before .before .before .before .before .before .if1 .taken) in
     done _ _ _ (chroma-entry-no (a .cb .now) (a .cr .now) (length (a .out .now)) (record { bits = a .bits; format = a .format; «luma_w» = a .luma-width; «luma_h» = a .luma-height; «min_luma_pu» = a .unit; «block_row» = record { 0 = a .row }; «block_col» = record { 0 = a .col }; n = a .n; «cur_luma_row» = record { 0 = a .cur-luma-row }; «cur_luma_col» = record { 0 = a .cur-luma-col } }) (c .before .before .before .before .before .before .before .before .before .before .before .before .get-reference-samples-chroma-pair-bytes .ensures) (c .before .before .before .before .before .before .before .before .before .before .before .room-no .ensures)) (c .before .before .before .before .before .before .before .before .before .before .if1 .taken)
-    (c .before .before .store-rows2 .ensures ∙ ap (rowsAt 262 _) (c .before .before .before .before .before .before .before .store-rows .ensures) ∙ ap (λ (l : List Rows). rowsAt 262 (getD l 1 none) (rowsAt 0 (getD l 0 none) (a .out .now))) p)
+    (c .before .before .store-rows2 .ensures ∙ stored 131 _ _ (omega (arith, p .0, c .before .before .before .before .before .before .before .store-rows .kept .1 .0)) ∙ ap (rowsAt 262 _) (c .before .before .before .before .before .before .before .store-rows .ensures ∙ stored 0 _ (a .out .now) (omega (arith, p .0))) ∙ ap (λ (l : List Rows). rowsAt 262 (getD l 1 none) (rowsAt 0 (getD l 0 none) (a .out .now))) (p .1))
 
 returns-2 : tie.Need-returns-2
 unfolding chromaEntry

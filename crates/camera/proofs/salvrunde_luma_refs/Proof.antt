@@ -4,7 +4,9 @@ use mathlib.Core.List.{List}
 use native.Mathlib.Omega.{arith}
 use lib.ListN.{length}
 use Rattle.rows.specs.declared.Rows.{Rows}
-use Rattle.camera.specs.Entries.{rowsAt, lumaEntry}
+use Rattle.byte_rows.specs.Line.{rowsAt}
+use Rattle.byte_rows.specs.Stored.{stored}
+use Rattle.camera.specs.Entries.{lumaEntry}
 use Rattle.byte_entry.specs.Checks.{done, refused}
 use Rattle.camera.specs.Checks.{luma-entry-no, luma-entry-rows}
 use borrow.Author.Needs.{needs}
@@ -18,7 +20,7 @@ room-no-requires : tie.Need-room-no-requires
 room-no-requires c κs = search needs
 
 store-rows-requires : tie.Need-store-rows-requires
-store-rows-requires c κs = let a = c .before .before .before .before .before .before .args in omega (arith, luma-entry-rows (a .plane .now) (length (a .out .now)) (record { bits = a .bits; picture = record { width = a .width; height = a .height; ctu = a .ctu; unit = a .unit }; «block_row» = record { 0 = a .row }; «block_col» = record { 0 = a .col }; n = a .n }) (c .before .before .before .get-reference-samples-bytes .ensures) (c .before .before .room-no .ensures) (c .before .if1 .taken) .0)
+store-rows-requires c κs = search needs
 
 same-length : tie.Need-same-length
 same-length c = search needs
@@ -27,7 +29,8 @@ returns : tie.Need-returns
 unfolding lumaEntry
 returns c =
     let a = c .before .before .before .before .before .before .before .before .before .args in
-    done _ _ _ (luma-entry-no (a .plane .now) (length (a .out .now)) (record { bits = a .bits; picture = record { width = a .width; height = a .height; ctu = a .ctu; unit = a .unit }; «block_row» = record { 0 = a .row }; «block_col» = record { 0 = a .col }; n = a .n }) (c .before .before .before .before .before .before .get-reference-samples-bytes .ensures) (c .before .before .before .before .before .room-no .ensures)) (c .before .before .before .before .if1 .taken) (c .before .before .store-rows .ensures ∙ ap (λ (v : Rows). rowsAt 0 v (a .out .now)) (luma-entry-rows (a .plane .now) (length (a .out .now)) (record { bits = a .bits; picture = record { width = a .width; height = a .height; ctu = a .ctu; unit = a .unit }; «block_row» = record { 0 = a .row }; «block_col» = record { 0 = a .col }; n = a .n }) (c .before .before .before .before .before .before .get-reference-samples-bytes .ensures) (c .before .before .before .before .before .room-no .ensures) (c .before .before .before .before .if1 .taken) .1))
+    let p = luma-entry-rows (a .plane .now) (length (a .out .now)) (record { bits = a .bits; picture = record { width = a .width; height = a .height; ctu = a .ctu; unit = a .unit }; «block_row» = record { 0 = a .row }; «block_col» = record { 0 = a .col }; n = a .n }) (c .before .before .before .before .before .before .get-reference-samples-bytes .ensures) (c .before .before .before .before .before .room-no .ensures) (c .before .before .before .before .if1 .taken) in
+    done _ _ _ (luma-entry-no (a .plane .now) (length (a .out .now)) (record { bits = a .bits; picture = record { width = a .width; height = a .height; ctu = a .ctu; unit = a .unit }; «block_row» = record { 0 = a .row }; «block_col» = record { 0 = a .col }; n = a .n }) (c .before .before .before .before .before .before .get-reference-samples-bytes .ensures) (c .before .before .before .before .before .room-no .ensures)) (c .before .before .before .before .if1 .taken) (c .before .before .store-rows .ensures ∙ stored 0 _ (a .out .now) (omega (arith, p .0)) ∙ ap (λ (v : Rows). rowsAt 0 v (a .out .now)) (p .1))
 
 returns-2 : tie.Need-returns-2
 unfolding lumaEntry

@@ -6,10 +6,10 @@ use borrow.Author.Needs.{needs}
 use lib.ListN.{length, getD}
 use Rattle.laws.specs.Fill.{run}
 use Rattle.laws.specs.FillLaws.{run-none, run-done}
-use Rattle.camera.specs.Entries.{sampleByte}
-use Rattle.camera.specs.Stored.{sample-more}
-use Rattle.camera.proofs.store.Statement.{statement}
-use Rattle.camera.proofs.store.Tie as tie
+use Rattle.byte_rows.specs.Line.{sampleByte}
+use Rattle.byte_rows.specs.Stored.{sample-more}
+use Rattle.byte_rows.proofs.store.Statement.{statement}
+use Rattle.byte_rows.proofs.store.Tie as tie
 
 abbrev Inv-loop : tie.InvT-loop
 Inv-loop from count out₀ at i₀ out i = (i ≤ count) × ((length out ≡ length out₀) × (out ≡ run (sampleByte from) (2 * at) (2 * i) out₀))

@@ -1,17 +1,20 @@
 -- Samples stored as bytes: one more, a list after another, and rows. Assumes nothing.
 use mathlib.Core.Path.{_≡_, refl, sym, ap, ap₂, _∙_}
 use mathlib.Core.List.{List, [], _∷_, _++_}
-use Prim.Native.Nat.{ℕ, zero, suc, _+_, _*_, _/_, _%_, _^_, _<_}
+use Prim.Native.Nat.{ℕ, zero, suc, _+_, _*_, _/_, _%_, _^_, _≤_, _<_}
 use native.Mathlib.Nat.{div-one, add-zero, add-suc, add-assoc}
 use native.Mathlib.Omega.{arith}
+use borrow.Author.Tests.{le-leb}
+use lib.Dec.{leb}
 use lib.ListN.{length, getD, set, List·getD-append}
 use lib.Seq.{getD-append-add}
+use Rattle.laws.specs.Choose.{if-yes}
 use Rattle.laws.specs.Fill.{run}
 use Rattle.laws.specs.FillLaws.{run-none, run-more}
 use Rattle.laws.specs.Bytes.{byteOf, byte-at}
 use Rattle.bytes.specs.Bytes.{byte1}
 use Rattle.rows.specs.declared.Rows.{Rows}
-use Rattle.camera.specs.Entries.{sampleByte, inLine, rowsAt}
+use Rattle.byte_rows.specs.Line.{sampleByte, inLine, rowsAt, storedAt}
 
 -- the two bytes of sample i
 low-byte : (f : ℕ → ℕ) (i : ℕ) → f i % 256 ≡ byteOf 2 f (2 * i)
@@ -64,3 +67,8 @@ module _ (r : Rows) (at : ℕ) (d : List ℕ) (long : length (r .above) ≡ 65) 
       let one = p ∙ ap (λ (k : ℕ). set (set d (2 * k) (r .corner % 256)) (2 * k + 1) (byte1 (r .corner))) (sym (add-zero at)) ∙ sample-more line at 0 d (run-none (byteOf 2 line) (2 * at) d) refl in
       let two = q ∙ ap (run (sampleByte (r .above)) (2 * (at + 1)) (2 * 65)) one ∙ list-more line (r .above) at 1 65 d above-on in
       w ∙ ap (run (sampleByte (r .left)) (2 * (at + 66)) (2 * 65)) two ∙ list-more line (r .left) at 66 65 d (λ i h. left-on i)
+
+-- where there is room they are stored
+pub stored : (at : ℕ) (r : Rows) (d : List ℕ) → 2 * (at + 131) ≤ length d → storedAt at r d ≡ rowsAt (2 * at) r d
+unfolding storedAt
+stored at r d h = sym (if-yes (leb (2 * (at + 131)) (length d)) _ _ _ (le-leb (2 * (at + 131)) (length d) h) refl)

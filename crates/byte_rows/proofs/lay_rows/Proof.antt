@@ -2,10 +2,10 @@
 use mathlib.Core.Path.{_≡_}
 use native.Mathlib.Omega.{arith}
 use lib.ListN.{length}
-use Rattle.camera.specs.Stored.{rows-stored}
+use Rattle.byte_rows.specs.Stored.{rows-stored}
 use borrow.Author.Needs.{needs}
-use Rattle.camera.proofs.store_rows.Statement.{statement}
-use Rattle.camera.proofs.store_rows.Tie as tie
+use Rattle.byte_rows.proofs.lay_rows.Statement.{statement}
+use Rattle.byte_rows.proofs.lay_rows.Tie as tie
 
 put-requires : tie.Need-put-requires
 put-requires c κs = search needs
@@ -34,8 +34,8 @@ same-length c = search needs
 returns : tie.Need-returns
 returns c = let a = c .before .before .before .before .before .before .before .before .before .before .before .before .before .before .before .before .before .args in rows-stored (a .rows) (a .at) (a .out .now) (search needs) (c .before .before .before .before .before .before .before .before .before .before .before .before .put .ensures) (c .before .before .before .before .before .before .before .store-row .ensures) (c .before .before .store-row2 .ensures)
 
-pub store-rows-spec : {M : Type 1} → statement M
-store-rows-spec =
+pub lay-rows-spec : {M : Type 1} → statement M
+lay-rows-spec =
     tie.close
     (tie.spec
     put-requires

@@ -2,10 +2,10 @@
 use mathlib.Core.Path.{refl, _∙_}
 use Prim.Native.Nat.{ℕ}
 use lib.ListN.{getD}
-use Rattle.camera.specs.Stored.{sample-more}
+use Rattle.byte_rows.specs.Stored.{sample-more}
 use borrow.Author.Needs.{needs}
-use Rattle.camera.proofs.store_row.Statement.{statement}
-use Rattle.camera.proofs.store_row.Tie as tie
+use Rattle.byte_rows.proofs.store_row.Statement.{statement}
+use Rattle.byte_rows.proofs.store_row.Tie as tie
 
 store-requires : tie.Need-store-requires
 store-requires c κs = search needs
