@@ -45,9 +45,13 @@ total-more nb i s t a l = record { is = let e = t .is in rw add-one (omega arith
 pub total-done : (nb : Neighbours) {i k s : ℕ} → i ≤ k → k ≤ i → Total nb i s → Total nb k s
 total-done nb {i} {k} {s} p q t = subst (λ (m : ℕ). Total nb m s) (let e : i ≡ k = omega arith in e) t
 
-pub dc-mean : (n : ℕ) → Size n → (nb : Neighbours) (s : ℕ) → Total nb n s → meanOf n s ≡ dcVal n nb
+-- the DC value as a quotient, and as the code's mean
+pub dc-quotient : (n : ℕ) → Size n → (nb : Neighbours) (s : ℕ) → s ≡ sum (nb .above) n + sum (nb .left) n → (s + n) / (2 * n) ≡ dcVal n nb
 unfolding dcVal
-dc-mean n s nb all t = mean-is n all s (t .most) ∙ rw (t .is, halves n s)
+dc-quotient n s nb all e = rw (e, halves n s)
+
+pub dc-mean : (n : ℕ) → Size n → (nb : Neighbours) (s : ℕ) → Total nb n s → meanOf n s ≡ dcVal n nb
+dc-mean n s nb all t = mean-is n all s (t .most) ∙ dc-quotient n s nb all (t .is)
 
 -- the DC value of two lists, where n is a side and each has n entries
 unfoldable pub valueOf : ℕ → List ℕ → List ℕ → ℕ

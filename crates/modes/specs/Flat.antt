@@ -12,7 +12,7 @@ use Rattle.h265.specs.Planar.{planar}
 use Rattle.h265.specs.Dc.{sum, dcVal, dc}
 use Rattle.taps.specs.Taps.{blended, cornered}
 use Rattle.flat.specs.Flat.{planarMix}
-use Rattle.flat.specs.Text.{planar-mix, dc-mean}
+use Rattle.flat.specs.Text.{planar-mix, dc-quotient}
 use Rattle.h265.specs.Mean.{Under, even, Mean, Agree, between, alone}
 
 -- a total weight w of one value
@@ -72,12 +72,12 @@ mean-value n s = record {
       let h = size-small n s in
       let p = sum-rises (a .above) (b .above) n (λ i l. u .above i (omega arith)) in
       let q = sum-rises (a .left) (b .left) n (λ i l. u .left i (omega arith)) in
-      rw (← dc-mean n s a _ refl, ← dc-mean n s b _ refl) (fewer (2 * n) _ _ (omega arith) (omega arith));
+      rw (← dc-quotient n s a _ refl, ← dc-quotient n s b _ refl) (fewer (2 * n) _ _ (omega arith) (omega arith));
   flat = λ v.
       let h = size-small n s in
       let t = twice n v in
       let p = sum-flat v n in
-      rw (← dc-mean n s (even v) _ refl)
+      rw (← dc-quotient n s (even v) _ refl)
       (ap (λ (k : ℕ). k / (2 * n)) (let e : sum (λ (i : ℕ). v) n + sum (λ (i : ℕ). v) n + n ≡ 2 * n * v + n = omega arith in e) ∙ weighed (2 * n) v n (omega arith));
 }
 
