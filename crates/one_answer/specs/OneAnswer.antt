@@ -103,7 +103,9 @@ use Rattle.still.proofs.replay_no.Reads as still-replay-no
 use Rattle.still.proofs.walk_no.Reads as still-walk-no
 use Rattle.still.proofs.settled.Reads as still-settled
 use Rattle.still.proofs.doing_of.Reads as still-doing-of
-use Rattle.block.proofs.restored.Reads as block-restored
+use Rattle.block_rows.proofs.restored.Reads as block-rows-restored
+use Rattle.block_rows.proofs.lies.Reads as block-rows-lies
+use Rattle.block_rows.proofs.walk_rows.Reads as block-rows-walk-rows
 use Rattle.block.proofs.geometry.Reads as block-geometry
 use Rattle.block.proofs.base_of.Reads as block-base-of
 use Rattle.block.proofs.early_no.Reads as block-early-no
@@ -462,10 +464,17 @@ still-settled-once a x y s t p q = p ∙ sym q
 still-doing-of-once : Once (still-doing-of.Post tt)
 still-doing-of-once a x y s t p q = p ∙ sym q
 
--- block
-block-restored-once : Once (block-restored.Post tt)
-block-restored-once a x y s t p q = p ∙ sym q
+-- block_rows
+block-rows-restored-once : Once (block-rows-restored.Post tt)
+block-rows-restored-once a x y s t p q = p ∙ sym q
 
+block-rows-lies-once : Once (block-rows-lies.Post tt)
+block-rows-lies-once a x y s t p q = p ∙ sym q
+
+block-rows-walk-rows-once : (κs : Lfts 4) → OnceLeft {L = World} (λ s. record { work = now (s .0); residuals = now (s .1 .0) }) (block-rows-walk-rows.Post κs)
+block-rows-walk-rows-once κs a x y s t p q = (refl, λ i. record { work = (p .1 ∙ sym (q .1)) i; residuals = (p .0 ∙ sym (q .0)) i })
+
+-- block
 block-geometry-once : Once (block-geometry.Post tt)
 block-geometry-once a x y s t p q = p ∙ sym q
 

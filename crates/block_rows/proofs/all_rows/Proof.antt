@@ -1,15 +1,15 @@
--- `coded::walk_rows` meets its contract. The loop's invariant: the rows passed are stored. Rests on `walk_row`.
+-- `block_rows::all_rows` meets its contract. The loop's invariant: the rows passed are stored. Rests on `walk_row`.
 use Prim.Native.Nat.{ℕ, _+_, _*_, _-_, _≤_}
 use mathlib.Core.Path.{_≡_, sym, _∙_}
 use lib.ListN.{length}
 use native.Mathlib.Omega.{arith}
 use Rattle.laws.specs.Paint.{paint, paint-none, paint-more, paint-done}
-use Rattle.rebuild.specs.Ready.{RowIn}
-use Rattle.rebuild.specs.Laws.{row-in}
-use Rattle.coded.specs.Laws.{lessAt, backAt}
+use Rattle.block_rows.specs.Ready.{RowIn}
+use Rattle.block_rows.specs.Laws.{row-in}
+use Rattle.block_rows.specs.Rows.{lessAt, backAt}
 use borrow.Author.Needs.{needs}
-use Rattle.coded.proofs.walk_rows.Statement.{statement}
-use Rattle.coded.proofs.walk_rows.Tie as tie
+use Rattle.block_rows.proofs.all_rows.Statement.{statement}
+use Rattle.block_rows.proofs.all_rows.Tie as tie
 
 abbrev Inv-loop : tie.InvT-loop
 Inv-loop work₀ residuals₀ source pred n base width at largest r₀ work residuals r =
@@ -77,8 +77,8 @@ same-length-2 c = search needs
 returns : tie.Need-returns Inv-loop μ-loop
 returns c = let l = c .before .loop in (paint-done _ _ _ _ _ (l .inv .0) (c .loop-test .left) (l .inv .1 .1 .1 .0), paint-done _ _ _ _ _ (l .inv .0) (c .loop-test .left) (l .inv .1 .1 .1 .1))
 
-pub walk-rows-spec : {M : Type 1} → statement M
-walk-rows-spec = tie.close (tie.spec
+pub all-rows-spec : {M : Type 1} → statement M
+all-rows-spec = tie.close (tie.spec
     Inv-loop
     μ-loop
     loop-holds

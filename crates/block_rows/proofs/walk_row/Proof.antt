@@ -1,15 +1,15 @@
--- `coded::walk_row` meets its contract. The loop's invariant: the residuals and the samples passed are stored. Rests on `less` and `restored`.
+-- `block_rows::walk_row` meets its contract. The loop's invariant: the residuals and the samples passed are stored. Rests on `less` and `restored`.
 use Prim.Native.Nat.{ℕ, _+_, _-_, _≤_}
 use mathlib.Core.Path.{_≡_, refl, _∙_}
 use lib.ListN.{length}
 use Rattle.laws.specs.Fill.{run}
 use Rattle.laws.specs.FillLaws.{run-none, run-more, run-done}
 use Rattle.laws.specs.Signed.{held}
-use Rattle.rebuild.specs.Laws.{restored-at}
-use Rattle.coded.specs.Laws.{lessAt, backAt}
+use Rattle.block_rows.specs.Laws.{restored-at}
+use Rattle.block_rows.specs.Rows.{lessAt, backAt}
 use borrow.Author.Needs.{needs}
-use Rattle.coded.proofs.walk_row.Statement.{statement}
-use Rattle.coded.proofs.walk_row.Tie as tie
+use Rattle.block_rows.proofs.walk_row.Statement.{statement}
+use Rattle.block_rows.proofs.walk_row.Tie as tie
 
 abbrev Inv-loop : tie.InvT-loop
 Inv-loop work₀ residuals₀ source pred n base from at largest c₀ work residuals c =

@@ -1,9 +1,9 @@
--- `coded::less` meets its contract. Two samples fit an i32, and so does their difference. Assumes nothing.
+-- `block_rows::less` meets its contract. Two samples fit an i32, and so does their difference. Assumes nothing.
 use native.Mathlib.Omega.{arith}
 use Rattle.laws.specs.Signed.{sample-i32, sub-asks, sub-gives}
 use borrow.Author.Needs.{needs}
-use Rattle.coded.proofs.less.Statement.{statement}
-use Rattle.coded.proofs.less.Tie as tie
+use Rattle.block_rows.proofs.less.Statement.{statement}
+use Rattle.block_rows.proofs.less.Tie as tie
 
 cast-result : tie.Need-cast-result
 cast-result c = search needs

@@ -1,8 +1,8 @@
--- `block::brought` meets its contract, on either side of 65535. Assumes nothing.
+-- `block_rows::brought` meets its contract, on either side of 65535. Assumes nothing.
 use mir.Facts.{toZ-ofZ}
-use Rattle.block.specs.Laws.{brought-down, brought-as-is}
-use Rattle.block.proofs.brought.Statement.{statement}
-use Rattle.block.proofs.brought.Tie as tie
+use Rattle.block_rows.specs.Laws.{brought-down, brought-as-is}
+use Rattle.block_rows.proofs.brought.Statement.{statement}
+use Rattle.block_rows.proofs.brought.Tie as tie
 
 returns : tie.Need-returns
 returns c = let e = toZ-ofZ (c .before .fits .r) in brought-down (c .before .args .r) (rw e at (c .if1 .taken))

@@ -1,4 +1,4 @@
--- `block::restored` meets its contract. A sample and a residual of at most 65535 have a sum that fits. Assumes nothing.
+-- `block_rows::restored` meets its contract. A sample and a residual of at most 65535 have a sum that fits. Assumes nothing.
 use mathlib.Core.Path.{ap, _∙_}
 use Prim.Native.Nat.{_<_}
 use native.Mathlib.Omega.{arith}
@@ -7,8 +7,8 @@ use mir.Facts.{toZ-ofZ}
 use Rattle.h265.specs.Notation.{clipTo}
 use borrow.Author.Needs.{needs}
 use Rattle.laws.specs.Signed.{sample-i32, held}
-use Rattle.block.proofs.restored.Statement.{statement}
-use Rattle.block.proofs.restored.Tie as tie
+use Rattle.block_rows.proofs.restored.Statement.{statement}
+use Rattle.block_rows.proofs.restored.Tie as tie
 
 cast-clamp : tie.Need-cast-clamp
 cast-clamp c = search needs

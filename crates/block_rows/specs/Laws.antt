@@ -1,0 +1,102 @@
+-- What joins the functions that store a block's rows. Rests on the laws of the domain.
+use mathlib.Core.Path.{_≡_, refl, sym, ap₂, _∙_}
+use mathlib.Core.Bool.{Bool, true, false, cond, _&&_, false≢true}
+use Prim.Native.Nat.{ℕ, suc, _+_, _-_, _*_, _≤_, _<_}
+use native.Mathlib.Nat.{mul-le-mul, mul-le-mul-right}
+use native.Mathlib.Omega.{arith}
+use lib.Dec.{leb, ltb, eqb}
+use lib.IntN.{ℤ, pos, negsuc, subℕ, _+ℤ_}
+use lib.Signed.{mag, ltZ}
+use borrow.Author.Tests.{leb-true, leb-false, le-leb, lt-leb, eqb-true, eq-eqb, ltb-true, ltb-false}
+use Rattle.laws.specs.Choose.{both-true}
+use Rattle.h265.specs.Notation.{clipTo}
+use Rattle.domain.specs.Domain.{sizeOk}
+use Rattle.domain.specs.Facts.{Size, at-size, size-of, size-small}
+use Rattle.block_rows.specs.Rows.{Lent, rowsFit}
+use Rattle.block_rows.specs.Ready.{RowIn, RowsIn}
+
+-- a sum that fits, and is clipped as the sum with r is: t is r, but no more than 65535
+pub record Brought (r t : ℤ) : Type 0 where
+  pub fits : (p : ℕ) → p < 65536 → mag (pos p +ℤ t) < 2147483648
+  pub same : (p m : ℕ) → m < 65536 → clipTo m (pos p +ℤ t) ≡ clipTo m (pos p +ℤ r)
+
+pub brought-down : (r : ℤ) → ltZ (pos 65535) r ≡ true → Brought r (pos 65535)
+brought-down (pos k) e = let l = ltb-true 65535 k e in record { fits = λ p h. omega arith; same = λ p m h. omega arith }
+brought-down (negsuc k) e = absurd (false≢true e)
+
+pub brought-as-is : (r : ℤ) → mag r < 2147483648 → ltZ (pos 65535) r ≡ false → Brought r r
+brought-as-is (pos k) f e = let l = ltb-false 65535 k e in record { fits = λ p h. omega arith; same = λ p m h. refl }
+brought-as-is (negsuc k) f e = record { fits = λ p h. under p h; same = λ p m h. refl }
+  where
+    under : (p : ℕ) → p < 65536 → mag (subℕ p (suc k)) < 2147483648
+    under p h = go (ltb p (suc k))
+      where
+        go : (b : Bool) → mag (cond b (negsuc (suc k - suc p)) (pos (p - suc k))) < 2147483648
+        go true = omega arith
+        go false = omega arith
+
+-- a sample and a residual as read are those that the definition names
+pub restored-at : (largest p q : ℕ) (y z : ℤ) {v : ℕ} → v ≡ clipTo largest (pos p +ℤ y) → p ≡ q → y ≡ z → v ≡ clipTo largest (pos q +ℤ z)
+restored-at largest p q y z h a b = h ∙ ap₂ (λ (u : ℕ) (x : ℤ). clipTo largest (pos u +ℤ x)) a b
+
+-- row r of a block
+pub row-in : (plane pred residuals n base width at r : ℕ) → RowsIn plane pred residuals n base width at → r < n → RowIn plane pred residuals n (base + r * width) (r * n) (at + r * n)
+row-in plane pred residuals n base width at r h l =
+    let m : (r + 1) * n ≤ n * n = mul-le-mul-right n (omega arith) in
+    record { size = h .size; plane-in = h .plane-in r l; pred-in = omega (arith, h .pred-in); resid-in = omega (arith, h .resid-in) }
+
+-- what is left of so many from `at` on
+pub left-over : (at n len : ℕ) → at ≤ len → leb n (len - at) ≡ leb (at + n) len
+left-over at n len h = go (leb n (len - at)) refl
+  where
+    go : (t : Bool) → leb n (len - at) ≡ t → t ≡ leb (at + n) len
+    go true e = sym (le-leb (at + n) len (omega (arith, leb-true n (len - at) e)))
+    go false e = sym (lt-leb (at + n) len (omega (arith, leb-false n (len - at) e)))
+
+-- what a side of the domain keeps small
+module _ (n : ℕ) (e : sizeOk n ≡ true) where
+  pub side : (4 ≤ n) × (n ≤ 32)
+  side = size-small n (size-of n e)
+
+  pub square : n * n ≤ 1024
+  square = mul-le-mul (side .1) (side .1)
+
+  pub last-row : (width : ℕ) → width < 4294967296 → (n - 1) * width ≤ 133143986145
+  last-row width h =
+      let k : n - 1 ≤ 31 = omega (arith, side .1) in
+      let l : width ≤ 4294967295 = omega arith in
+      mul-le-mul k l
+
+-- a block lies in what is lent where the test holds, and only there
+module _ (l : Lent) (n base width at : ℕ) where
+  abbrev In : Type 0
+  In = RowsIn (l .work) (l .pred) (l .residuals) n base width at × (l .source ≡ l .work)
+
+  pub lies-in : rowsFit l n base width at ≡ true → In
+  unfolding rowsFit
+  lies-in e =
+      let a = both-true (sizeOk n) _ e in
+      let b = both-true (eqb (l .source) (l .work) && leb (base + ((n - 1) * width + n)) (l .work) && leb (n * n) (l .pred)) (leb (at + n * n) (l .residuals)) (a .1) in
+      let c = both-true (eqb (l .source) (l .work) && leb (base + ((n - 1) * width + n)) (l .work)) (leb (n * n) (l .pred)) (b .0) in
+      let d = both-true (eqb (l .source) (l .work)) (leb (base + ((n - 1) * width + n)) (l .work)) (c .0) in
+      let last = leb-true (base + ((n - 1) * width + n)) (l .work) (d .1) in (
+        record {
+          size = side n (a .0) .1;
+          plane-in = λ r h. let m : r * width ≤ (n - 1) * width = mul-le-mul-right width (omega arith) in omega arith;
+          pred-in = leb-true (n * n) (l .pred) (c .1);
+          resid-in = leb-true (at + n * n) (l .residuals) (b .1);
+        },
+        eqb-true (l .source) (l .work) (d .0),
+      )
+
+  pub fits-in : Size n → In → rowsFit l n base width at ≡ true
+  unfolding rowsFit
+  fits-in s h =
+      let last = h .0 .plane-in (n - 1) (omega (arith, size-small n s)) in
+      rw (
+        at-size (λ (k : ℕ). sizeOk k ≡ true) refl refl refl refl n s,
+        eq-eqb (l .source) (l .work) (h .1),
+        le-leb (base + ((n - 1) * width + n)) (l .work) (omega (arith, last)),
+        le-leb (n * n) (l .pred) (h .0 .pred-in),
+        le-leb (at + n * n) (l .residuals) (h .0 .resid-in),
+      )
