@@ -69,7 +69,7 @@ fn lies_in(b: Block, at: usize, len: usize) -> bool
     ensures { λ r. ⌜ r ≡ leb (at + b .side * b .side) len ⌝ }
 {
     let n = b.side as usize;
-    block_rows::lies(at, n * n, len)
+    spans::lies(at, n * n, len)
 }
 
 // Number 5: a plane that is the picture's, a block's entries from `at` on among so many, and the tables.

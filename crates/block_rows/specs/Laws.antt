@@ -1,5 +1,5 @@
 -- What joins the functions that store a block's rows. Rests on the laws of the domain.
-use mathlib.Core.Path.{_≡_, refl, sym, ap₂, _∙_}
+use mathlib.Core.Path.{_≡_, refl, ap₂, _∙_}
 use mathlib.Core.Bool.{Bool, true, false, cond, _&&_, false≢true}
 use Prim.Native.Nat.{ℕ, suc, _+_, _-_, _*_, _≤_, _<_}
 use native.Mathlib.Nat.{mul-le-mul, mul-le-mul-right}
@@ -7,7 +7,7 @@ use native.Mathlib.Omega.{arith}
 use lib.Dec.{leb, ltb, eqb}
 use lib.IntN.{ℤ, pos, negsuc, subℕ, _+ℤ_}
 use lib.Signed.{mag, ltZ}
-use borrow.Author.Tests.{leb-true, leb-false, le-leb, lt-leb, eqb-true, eq-eqb, ltb-true, ltb-false}
+use borrow.Author.Tests.{leb-true, le-leb, eqb-true, eq-eqb, ltb-true, ltb-false}
 use Rattle.laws.specs.Choose.{both-true}
 use Rattle.h265.specs.Notation.{clipTo}
 use Rattle.domain.specs.Domain.{sizeOk}
@@ -44,14 +44,6 @@ pub row-in : (plane pred residuals n base width at r : ℕ) → RowsIn plane pre
 row-in plane pred residuals n base width at r h l =
     let m : (r + 1) * n ≤ n * n = mul-le-mul-right n (omega arith) in
     record { size = h .size; plane-in = h .plane-in r l; pred-in = omega (arith, h .pred-in); resid-in = omega (arith, h .resid-in) }
-
--- what is left of so many from `at` on
-pub left-over : (at n len : ℕ) → at ≤ len → leb n (len - at) ≡ leb (at + n) len
-left-over at n len h = go (leb n (len - at)) refl
-  where
-    go : (t : Bool) → leb n (len - at) ≡ t → t ≡ leb (at + n) len
-    go true e = sym (le-leb (at + n) len (omega (arith, leb-true n (len - at) e)))
-    go false e = sym (lt-leb (at + n) len (omega (arith, leb-false n (len - at) e)))
 
 -- what a side of the domain keeps small
 module _ (n : ℕ) (e : sizeOk n ≡ true) where

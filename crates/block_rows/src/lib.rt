@@ -3,7 +3,6 @@
 ghost use mathlib.Core.Path.{_≡_};
 ghost use mathlib.Core.Bool.{cond};
 ghost use Prim.Native.Nat.{ℕ, _+_};
-ghost use lib.Dec.{leb};
 ghost use lib.ListN.{length};
 ghost use lib.IntN.{pos, _+ℤ_, _-ℤ_};
 ghost use Rattle.laws.specs.Fill.{run};
@@ -93,16 +92,6 @@ fn all_rows(
     }
 }
 
-// Whether k entries from `at` on lie among so many.
-pub fn lies(at: usize, k: usize, len: usize) -> bool
-    ensures { λ r. ⌜ r ≡ leb (at + k) len ⌝ }
-{
-    if at > len {
-        return false;
-    }
-    k <= len - at
-}
-
 // Whether a block lies in what is lent.
 fn rows_fit(
     n: usize,
@@ -120,7 +109,10 @@ fn rows_fit(
         return false;
     }
     let last = (n - 1) * (width as usize) + n;
-    (source == work) & lies(base, last, work) & (n * n <= pred) & lies(at, n * n, residuals)
+    (source == work)
+        & spans::lies(base, last, work)
+        & (n * n <= pred)
+        & spans::lies(at, n * n, residuals)
 }
 
 // Walk: a block's residuals, in rows from `at` on, and its samples from them, in rows `width` apart from base on. Nothing is stored where the block does not lie in what is lent.

@@ -8,7 +8,7 @@ use native.Mathlib.Omega.{arith}
 use lib.ListN.{length, getD}
 use lib.IntN.{ℤ, pos, _+ℤ_, _-ℤ_}
 use borrow.Author.Tests.{eqb-true, eq-eqb}
-use Rattle.laws.specs.Paint.{paint, paint-in, paint-same, length-paint}
+use Rattle.laws.specs.Paint.{paint, paint-in, paint-same}
 use Rattle.laws.specs.Choose.{both-true, both-same}
 use Rattle.h265.specs.Notation.{clipTo}
 use Rattle.domain.specs.Facts.{size-of}
@@ -24,7 +24,7 @@ use Rattle.block.specs.Laws.{early-passed, parts}
 use Rattle.rebuild.specs.Block.{rebuilt}
 use Rattle.rebuild.specs.Ready.{Lies, Predicted}
 use Rattle.rebuild.specs.Laws.{serves, there}
-use Rattle.coded.specs.Block.{stored, World, walked}
+use Rattle.walked.specs.Block.{stored, World, walked}
 
 -- a block that is ready is served, beside a source
 pub walk-serves : (s : Still) (b : Block) (plane : ℕ) (t : Tables) (h : Ready s b plane t) (at len source k : ℕ) → source ≡ plane → Lies b len at → k ≡ numberOf s b (fits s b t plane at len && whole s source) → k ≡ 0
@@ -42,10 +42,6 @@ pub rows-fit : (s : Still) (b : Block) (t : Tables) (work at len source pred bas
     → rowsFit (record { work = work; source = source; pred = pred; residuals = len }) (b .side) base (s .frame .width) at ≡ true
 rows-fit s b t work at len source pred base r e z h =
     fits-in _ _ _ _ _ (size-of (b .side) (early-passed s b (fits s b t work at len && whole s source) (sym e ∙ z) .size)) (h, source-same s b t work at len source r e z)
-
-pub stored-length : (s : Still) (source : List ℕ) (b : Block) (at : ℕ) (work : List ℕ) (v : List ℤ) → length (stored s source b at work v) ≡ length v
-unfolding stored
-stored-length s source b at work v = length-paint _ _ _ _ (b .side) v
 
 -- a block of the walk
 module _ (s : Still) (b : Block) (at largest base : ℕ) (source work work′ pred : List ℕ) (v v′ : List ℤ)

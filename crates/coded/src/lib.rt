@@ -6,7 +6,7 @@ ghost use lib.ListN.{length};
 ghost use Rattle.laws.specs.Choose.{served};
 ghost use Rattle.still.specs.Checks.{whole};
 ghost use Rattle.block.specs.Door.{numberOf, fits};
-ghost use Rattle.coded.specs.Block.{walked};
+ghost use Rattle.walked.specs.Block.{walked};
 use still::Still;
 use tiling::Block;
 

@@ -23,10 +23,10 @@ use Rattle.walk.specs.declared.Progress.{Progress}
 use Rattle.walk.specs.declared.Stepped.{Stepped}
 use Rattle.still.specs.Checks.{largestOf, every, whole, roomy, residualOk}
 use Rattle.rebuild.specs.Block.{replayUnit}
-use Rattle.coded.specs.Block.{World, walked, walkUnit}
+use Rattle.walked.specs.Block.{World, walked, walkUnit}
 use Rattle.walk.specs.Door.{verdictOf, replayVerdict, replayAfter, walkVerdict, walkAfter}
 use Rattle.rebuild.specs.Laws.{rebuilt-length}
-use Rattle.coded.specs.Laws.{stored-length}
+use Rattle.walked.specs.Laws.{stored-length}
 use Rattle.lossless.specs.Picture.{Whole}
 use Rattle.lossless.specs.Replay.{units-kept}
 use Rattle.promises.specs.Calls.{Job, Held, blocks, count, walkNo, walkCall, replayNo, replayCall}

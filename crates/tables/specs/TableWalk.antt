@@ -34,7 +34,7 @@ use Rattle.still.specs.declared.Still.{Still}
 use Rattle.walk.specs.declared.Progress.{Progress}
 use Rattle.walk.specs.declared.Stepped.{Stepped}
 use Rattle.still.specs.Checks.{largestOf, every, whole, Tables, roomy}
-use Rattle.coded.specs.Block.{World}
+use Rattle.walked.specs.Block.{World}
 use Rattle.walk.specs.Door.{doing, verdictOf, steppedBy, replayVerdict, walkVerdict}
 use Rattle.tables.specs.Exact.{Row, _when_, _or_, First, ExactFirst, FirstBy, Tells, first-exact, first-test, first-row, all-of, at-most, same}
 use Rattle.tables.specs.Table.{BadPicture, BadPlace, depth, picture, placed}

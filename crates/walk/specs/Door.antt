@@ -16,7 +16,7 @@ use Rattle.plan.specs.Check.{blocksVerdict}
 use Rattle.still.specs.declared.Still.{Still}
 use Rattle.still.specs.Checks.{largestOf, every, whole, Tables, roomy, residualOk}
 use Rattle.rebuild.specs.Block.{replayUnit}
-use Rattle.coded.specs.Block.{World, walkUnit}
+use Rattle.walked.specs.Block.{World, walkUnit}
 use Rattle.walk.specs.declared.Progress.{Progress}
 use Rattle.walk.specs.declared.Stepped.{Stepped}
 

@@ -25,7 +25,7 @@ use Rattle.plan.specs.Check.{blocksVerdict, planVerdict}
 use Rattle.plan.specs.Verdict.{Accepted, verdict-good}
 use Rattle.still.specs.declared.Still.{Still}
 use Rattle.still.specs.Checks.{every, whole, Tables, roomy, replayNo, walkFits, walkNo}
-use Rattle.coded.specs.Block.{World}
+use Rattle.walked.specs.Block.{World}
 use Rattle.block.specs.Ready.{Ready}
 use Rattle.rebuild.specs.Ready.{Lies}
 use Rattle.rebuild.specs.Places.{place-in, count-up}

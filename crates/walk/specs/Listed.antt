@@ -21,7 +21,7 @@ use Rattle.still.specs.declared.Still.{Still}
 use Rattle.still.specs.Checks.{largestOf, every, Tables, residualOk, replayFits, replayNo, walkFits, walkNo, settle}
 use Rattle.still.specs.Laws.{good-call}
 use Rattle.rebuild.specs.Block.{replayUnit}
-use Rattle.coded.specs.Block.{World, walkUnit}
+use Rattle.walked.specs.Block.{World, walkUnit}
 use Rattle.steps.specs.declared.Step.{Step}
 use Rattle.steps.specs.Steps.{stepBy}
 use Rattle.walk.specs.declared.Progress.{Progress}

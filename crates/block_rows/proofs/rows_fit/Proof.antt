@@ -1,4 +1,4 @@
--- `block_rows::rows_fit` meets its contract. A side of the domain keeps every sum and product small. Rests on `lies`.
+-- `block_rows::rows_fit` meets its contract. A side of the domain keeps every sum and product small. Rests on `spans::lies`.
 use mathlib.Core.Path.{_≡_, sym, ap₂, _∙_}
 use mathlib.Core.Bool.{Bool, true, _&&_}
 use Prim.Native.Nat.{_*_}
