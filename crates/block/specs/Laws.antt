@@ -1,19 +1,16 @@
 -- What joins the functions that check and predict a block. Rests on the bridge and on the laws of the domain.
 use mathlib.Core.Path.{_≡_, refl, sym, ap, _∙_}
-use mathlib.Core.Bool.{Bool, true, false, cond, _&&_, false≢true}
+use mathlib.Core.Bool.{Bool, true, false, cond, _&&_}
 use mathlib.Core.List.{List, [], _∷_}
-use Prim.Native.Nat.{ℕ, suc, _+_, _-_, _*_, _≤_, _<_}
+use Prim.Native.Nat.{ℕ, _+_, _*_, _≤_}
 use native.Mathlib.Nat.{mul-le-mul}
 use native.Mathlib.Omega.{arith}
-use lib.Dec.{leb, ltb}
+use lib.Dec.{leb}
 use lib.ListN.{length}
-use lib.IntN.{ℤ, pos, negsuc, subℕ, _+ℤ_}
-use lib.Signed.{mag, ltZ}
-use borrow.Author.Tests.{leb-true, leb-false, le-leb, lt-leb, eqb-true, ltb-true, ltb-false}
+use borrow.Author.Tests.{leb-true, le-leb, eqb-true}
 use Rattle.laws.specs.Fill.{block}
 use Rattle.laws.specs.FillLaws.{rows-same}
 use Rattle.laws.specs.Choose.{_unless_, firstFail, served, passed, both-true, both-same, worked}
-use Rattle.h265.specs.Notation.{clipTo}
 use Rattle.h265.specs.Setting.{lumaAt, first}
 use Rattle.h265.specs.Prediction.{predSamples}
 use Rattle.domain.specs.Domain.{depthOk, sizeOk, modeOk}
@@ -35,34 +32,6 @@ use Rattle.block.specs.Block.{predictedAt}
 use Rattle.block.specs.Door.{earlyNo, numberOf, fits}
 use Rattle.block.specs.Bridge.{geoOf, bridge}
 use Rattle.block.specs.Ready.{Ready}
-
--- a sum that fits, and is clipped as the sum with r is: t is r, but no more than 65535
-pub record Brought (r t : ℤ) : Type 0 where
-  pub fits : (p : ℕ) → p < 65536 → mag (pos p +ℤ t) < 2147483648
-  pub same : (p m : ℕ) → m < 65536 → clipTo m (pos p +ℤ t) ≡ clipTo m (pos p +ℤ r)
-
-pub brought-down : (r : ℤ) → ltZ (pos 65535) r ≡ true → Brought r (pos 65535)
-brought-down (pos k) e = let l = ltb-true 65535 k e in record { fits = λ p h. omega arith; same = λ p m h. omega arith }
-brought-down (negsuc k) e = absurd (false≢true e)
-
-pub brought-as-is : (r : ℤ) → mag r < 2147483648 → ltZ (pos 65535) r ≡ false → Brought r r
-brought-as-is (pos k) f e = let l = ltb-false 65535 k e in record { fits = λ p h. omega arith; same = λ p m h. refl }
-brought-as-is (negsuc k) f e = record { fits = λ p h. under p h; same = λ p m h. refl }
-  where
-    under : (p : ℕ) → p < 65536 → mag (subℕ p (suc k)) < 2147483648
-    under p h = go (ltb p (suc k))
-      where
-        go : (b : Bool) → mag (cond b (negsuc (suc k - suc p)) (pos (p - suc k))) < 2147483648
-        go true = omega arith
-        go false = omega arith
-
--- what is left of so many from `at` on
-pub left-over : (at n len : ℕ) → at ≤ len → leb n (len - at) ≡ leb (at + n) len
-left-over at n len h = go (leb n (len - at)) refl
-  where
-    go : (t : Bool) → leb n (len - at) ≡ t → t ≡ leb (at + n) len
-    go true e = sym (le-leb (at + n) len (omega (arith, leb-true n (len - at) e)))
-    go false e = sym (lt-leb (at + n) len (omega (arith, leb-false n (len - at) e)))
 
 -- the numbers 1 to 5 stop a call, or number 6 is the last
 stops : (a b c d e f : Bool) → (firstFail ((1 unless a) ∷ (2 unless b) ∷ (3 unless c) ∷ (4 unless d) ∷ (5 unless e) ∷ []) ≡ 0 → ⊥)

@@ -4,37 +4,17 @@ ghost use mathlib.Core.Path.{_≡_};
 ghost use Prim.Native.Nat.{_+_, _*_};
 ghost use lib.Dec.{leb};
 ghost use lib.ListN.{length};
-ghost use lib.IntN.{pos, _+ℤ_};
 ghost use Rattle.laws.specs.Fill.{block};
 ghost use Rattle.laws.specs.Choose.{served};
-ghost use Rattle.h265.specs.Notation.{clipTo};
 ghost use Rattle.block.specs.Block.{predictedAt};
 ghost use Rattle.block.specs.Door.{earlyNo, numberOf, fits};
 ghost use Rattle.block.specs.Bridge.{geoOf};
-ghost use Rattle.block.specs.Laws.{Brought};
 use fmt::LumaCol;
 use fmt::LumaRow;
 use order::Picture;
 use refs::LumaRefGeometry;
 use still::Still;
 use tiling::Block;
-
-// A residual, but no more than 65535: its sum with a sample fits, and is clamped the same.
-fn brought(r: i32) -> i32
-    ensures { λ t. ⌜ Brought r t ⌝ }
-{
-    if r > 65535 {
-        return 65535;
-    }
-    r
-}
-
-// Prediction plus residual, clamped.
-pub fn restored(p: u16, r: i32, largest: u16) -> u16
-    ensures { λ s. ⌜ s ≡ clipTo largest (pos p +ℤ r) ⌝ }
-{
-    helpers::clamp((p as i32) + brought(r), largest)
-}
 
 // A block as the gather takes it.
 pub fn geometry(s: Still, b: Block) -> LumaRefGeometry
@@ -89,10 +69,7 @@ fn lies_in(b: Block, at: usize, len: usize) -> bool
     ensures { λ r. ⌜ r ≡ leb (at + b .side * b .side) len ⌝ }
 {
     let n = b.side as usize;
-    if at > len {
-        return false;
-    }
-    n * n <= len - at
+    spans::lies(at, n * n, len)
 }
 
 // Number 5: a plane that is the picture's, a block's entries from `at` on among so many, and the tables.

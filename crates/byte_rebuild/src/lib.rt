@@ -12,7 +12,7 @@ ghost use Rattle.bytes.specs.Bytes.{samplesOf, residualsOf};
 ghost use Rattle.still.specs.Checks.{every, residualOk};
 ghost use Rattle.block.specs.Block.{predictedAt};
 ghost use Rattle.block.specs.Door.{earlyNo, numberOf, fits};
-ghost use Rattle.rebuild.specs.Ready.{RowIn, RowsIn};
+ghost use Rattle.block_rows.specs.Ready.{RowIn, RowsIn};
 ghost use Rattle.byte_rebuild.specs.Door.{byteFits, rebuiltBytes};
 use still::Still;
 use tiling::Block;
@@ -53,7 +53,11 @@ fn rebuild_row(
     let mut c = 0;
     while c < n {
         let r = residual_at(residuals, at + c);
-        put_sample(plane, base + c, block::restored(pred[from + c], r, largest));
+        put_sample(
+            plane,
+            base + c,
+            deltas::restored(pred[from + c], r, largest),
+        );
         c += 1;
     }
 }

@@ -13,7 +13,7 @@ use Rattle.still.specs.declared.Still.{Still}
 use Rattle.still.specs.Checks.{Tables, replayNo, walkNo, settle}
 use Rattle.steps.specs.Steps.{doing}
 use Rattle.rebuild.specs.Block.{replayUnit}
-use Rattle.coded.specs.Block.{World, walkUnit}
+use Rattle.walked.specs.Block.{World, walkUnit}
 
 -- the verdict on a call: the checks before the blocks, then the plan's, then number 11
 unfoldable pub verdictOf : Still → Plan → ℕ → ℕ → Verdict

@@ -33,7 +33,7 @@ use Rattle.block.specs.Ready.{Ready}
 use Rattle.rebuild.specs.Block.{replayUnit}
 use Rattle.rebuild.specs.Ready.{Lies}
 use Rattle.rebuild.specs.Places.{place-in, count-up}
-use Rattle.coded.specs.Block.{World, walkUnit}
+use Rattle.walked.specs.Block.{World, walkUnit}
 use Rattle.calls.specs.Door.{verdictOf, replayVerdict, replayAfter, walkVerdict, walkAfter}
 use Rattle.calls.specs.Ready.{Sound, ReplayReady, WalkReady}
 

@@ -33,11 +33,11 @@ use Rattle.still.specs.declared.Still.{Still}
 use Rattle.still.specs.Checks.{largestOf}
 use Rattle.block.specs.Block.{sampleAt, predictedAt}
 use Rattle.rebuild.specs.Block.{rebuilt, replayUnit}
-use Rattle.coded.specs.Block.{stored, World, walked, walkUnit}
+use Rattle.walked.specs.Block.{stored, World, walked, walkUnit}
 use Rattle.block.specs.Bridge.{geoOf, bridge}
 use Rattle.rebuild.specs.Places.{place-up}
 use Rattle.rebuild.specs.Laws.{rebuilt-length}
-use Rattle.coded.specs.Laws.{stored-length}
+use Rattle.walked.specs.Laws.{stored-length, stored-at}
 use Rattle.lossless.specs.Replay.{Replays, Sourced, Walks}
 
 -- a sample's place in the picture
@@ -145,12 +145,11 @@ module _ (s : Still) (plan : ℕ → Block) (count : ℕ) (ok : Accepted (s .fra
 
     store-in : (k : ℕ) (w : List ℕ) (v : List ℤ) → k < count → Whole s v → (t : Sample s) → OfS s plan k t
         → residual s plan (stored s source (plan k) (place plan k) w v) k t ≡ less (look s source t) (predict s plan k w t)
-    unfolding stored
     store-in k w v l long t o =
         let b = plan k in
         let y : b .row + (t .row - b .row) ≡ t .row = omega arith in
         let x : b .col + (t .col - b .col) ≡ t .col = omega arith in
-        paint-in (place plan k) (b .side) (b .side) _ (b .side) v (t .row - b .row) (t .col - b .col) (pos 0) (omega arith) (omega arith) (omega arith)
+        stored-at s source b (place plan k) w v (t .row - b .row) (t .col - b .col) (omega arith) (omega arith)
         (omega (arith, within s plan k t o, place-up plan (suc k) count l, area (ok .picture) plan count (ok .plan-good)))
         ∙ ap₂ (λ (r c : ℕ). less (sampleAt s source r c) (predict s plan k w t)) y x
 

@@ -16,7 +16,7 @@ use denote.Ref.{now}
 use denote.Triple.Clauses.{Ended, AtExit, Clauses}
 use denote.Triple.Entry.{Args, Res}
 use Rattle.laws.specs.Choose.{served}
-use Rattle.coded.specs.Block.{World}
+use Rattle.walked.specs.Block.{World}
 use Rattle.byte_replay.specs.Door.{After}
 use Rattle.byte_entry.specs.Entries.{Written, wrote}
 use Rattle.bytes.proofs.sample.Reads as bytes-sample
@@ -117,7 +117,10 @@ use Rattle.still.proofs.residual_ok.Reads as still-residual-ok
 use Rattle.still.proofs.replay_no.Reads as still-replay-no
 use Rattle.still.proofs.walk_no.Reads as still-walk-no
 use Rattle.still.proofs.settled.Reads as still-settled
-use Rattle.block.proofs.restored.Reads as block-restored
+use Rattle.spans.proofs.lies.Reads as spans-lies
+use Rattle.spans.proofs.sum_of.Reads as spans-sum-of
+use Rattle.spans.proofs.agrees.Reads as spans-agrees
+use Rattle.block_rows.proofs.walk_rows.Reads as block-rows-walk-rows
 use Rattle.block.proofs.geometry.Reads as block-geometry
 use Rattle.block.proofs.base_of.Reads as block-base-of
 use Rattle.block.proofs.early_no.Reads as block-early-no
@@ -193,6 +196,9 @@ use Rattle.byte_rebuild.proofs.rebuild_block.Reads as byte-rebuild-rebuild-bloc
 use Rattle.byte_answer.proofs.verdict.Reads as byte-answer-verdict
 use Rattle.byte_answer.proofs.answer.Reads as byte-answer-answer
 use Rattle.byte_replay.proofs.replay.Reads as byte-replay-replay
+use Rattle.text.proofs.lay_line.Reads as text-lay-line
+use Rattle.text.proofs.lay_refusal.Reads as text-lay-refusal
+use Rattle.text.proofs.lay_ending.Reads as text-lay-ending
 use Rattle.report.proofs.report.Reads as report-report
 use Rattle.walk.proofs.Progress.replay_numbers.Reads as walk-replay-numbers
 use Rattle.walk.proofs.Progress.walk_numbers.Reads as walk-walk-numbers
@@ -524,10 +530,21 @@ still-walk-no-once κs a x y s t p q = p ∙ sym q
 still-settled-once : Once (still-settled.Post tt)
 still-settled-once a x y s t p q = p ∙ sym q
 
--- block
-block-restored-once : Once (block-restored.Post tt)
-block-restored-once a x y s t p q = p ∙ sym q
+-- spans
+spans-lies-once : Once (spans-lies.Post tt)
+spans-lies-once a x y s t p q = p ∙ sym q
 
+spans-sum-of-once : (κs : Lfts 1) → Once (spans-sum-of.Post κs)
+spans-sum-of-once κs a x y s t p q = p ∙ sym q
+
+spans-agrees-once : (κs : Lfts 2) → Once (spans-agrees.Post κs)
+spans-agrees-once κs a x y s t p q = p ∙ sym q
+
+-- block_rows
+block-rows-walk-rows-once : (κs : Lfts 4) → OnceLeft {L = World} (λ s. record { work = now (s .0); residuals = now (s .1 .0) }) (block-rows-walk-rows.Post κs)
+block-rows-walk-rows-once κs a x y s t p q = (refl, λ i. record { work = (p .1 ∙ sym (q .1)) i; residuals = (p .0 ∙ sym (q .0)) i })
+
+-- block
 block-geometry-once : Once (block-geometry.Post tt)
 block-geometry-once a x y s t p q = p ∙ sym q
 
@@ -769,6 +786,16 @@ walk-replay-numbers-once κs a x y s t p q = (p .0 ∙ sym (q .0), p .1 .0 ∙ s
 
 walk-walk-numbers-once : (κs : Lfts 7) → OnceLeft {L = World} (λ s. record { work = now (s .1 .1 .1 .1 .0); residuals = now (s .1 .1 .1 .1 .1 .0) }) (walk-walk-numbers.Post κs)
 walk-walk-numbers-once κs a x y s t p q = (p .0 ∙ sym (q .0), p .1 .0 ∙ sym (q .1 .0))
+
+-- text
+text-lay-line-once : (κs : Lfts 1) → OnceLeft (λ s. now (s .0)) (text-lay-line.Post κs)
+text-lay-line-once κs a x y s t p q = (p .1 ∙ sym (q .1), p .0 ∙ sym (q .0))
+
+text-lay-refusal-once : (κs : Lfts 1) → OnceLeft (λ s. now (s .0)) (text-lay-refusal.Post κs)
+text-lay-refusal-once κs a x y s t p q = (p .1 ∙ sym (q .1), p .0 ∙ sym (q .0))
+
+text-lay-ending-once : (κs : Lfts 1) → OnceLeft (λ s. now (s .0)) (text-lay-ending.Post κs)
+text-lay-ending-once κs a x y s t p q = (p .1 ∙ sym (q .1), p .0 ∙ sym (q .0))
 
 -- report
 report-report-once : (κs : Lfts 1) → Once (report-report.Post κs)

@@ -10,7 +10,7 @@ use Rattle.tiling.specs.Tiling.{place}
 use Rattle.plan.specs.Plan.{Plan}
 use Rattle.still.specs.declared.Still.{Still}
 use Rattle.walk.specs.declared.Progress.{Progress}
-use Rattle.coded.specs.Block.{World}
+use Rattle.walked.specs.Block.{World}
 use Rattle.still.specs.Checks.{Tables}
 use Rattle.calls.specs.Door.{walkVerdict, walkAfter, replayVerdict, replayAfter}
 use Rattle.walk.specs.Door.{steppedBy}

@@ -9,7 +9,7 @@ use Rattle.plan.specs.declared.Verdict.{Verdict}
 use Rattle.tiling.specs.Tiling.{In, Of, Covered}
 use Rattle.walk.specs.declared.Progress.{Progress}
 use Rattle.block.specs.Block.{sampleAt, predictedAt}
-use Rattle.coded.specs.Block.{World}
+use Rattle.walked.specs.Block.{World}
 use Rattle.walk.specs.Door.{steppedBy}
 use Rattle.lossless.specs.Picture.{Whole}
 use Rattle.promises.specs.Calls.{Job, Held, Served, blocks, count, residualAt, fresh, calls, walkNo, walkCall, replayNo, replayCall}

@@ -10,7 +10,7 @@ use Rattle.plan.specs.Plan.{planOf}
 use Rattle.tiling.specs.Check.{aheadBy, ahead, blockNo}
 use Rattle.plan.specs.Check.{verdictFrom}
 use Rattle.h265.specs.Notation.{halvings}
-use Rattle.coded.specs.Block.{World}
+use Rattle.walked.specs.Block.{World}
 use Rattle.still.specs.Checks.{every, settle}
 use Rattle.calls.specs.Door.{verdictOf, walkVerdict}
 use Rattle.promises.specs.Calls.{Job, Served, count, fresh, calls, walkNo, walkCall, replayCall}

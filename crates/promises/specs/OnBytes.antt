@@ -13,7 +13,7 @@ use Rattle.bytes.specs.Laws.{AreBytes, length-samples}
 use Rattle.plan.specs.declared.Verdict.{Verdict}
 use Rattle.plan.specs.Records.{recordsOf}
 use Rattle.still.specs.declared.Still.{Still}
-use Rattle.coded.specs.Block.{World}
+use Rattle.walked.specs.Block.{World}
 use Rattle.walk.specs.Door.{steppedBy}
 use Rattle.byte_answer.specs.Door.{Lent, bytesFit}
 use Rattle.byte_answer.specs.Laws.{fitting}

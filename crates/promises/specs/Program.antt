@@ -11,7 +11,9 @@ use lib.ListN.{length, getD, length-replicate}
 use borrow.Author.Tests.{eq-eqb, eqb-true}
 use Rattle.laws.specs.Chain.{sum}
 use Rattle.file.specs.File.{fileOk}
-use Rattle.report.specs.Told.{tables, zeros, blank, verdict, residuals, replayed, agree, lines, refusal, ending, told, printed, jobOf}
+use Rattle.spans.specs.Spans.{agree}
+use Rattle.text.specs.Text.{refusal, ending}
+use Rattle.report.specs.Told.{tables, zeros, blank, verdict, residuals, replayed, lines, told, printed, jobOf}
 use Rattle.report.specs.Told.{Job as File}
 use Rattle.promises.specs.Calls.{Job, calls}
 use Rattle.promises.specs.Chains.{sum-none, sum-more}

@@ -21,7 +21,7 @@ use Rattle.walk.specs.declared.Stepped.{Stepped}
 use Rattle.still.specs.Checks.{largestOf, every, residualOk}
 use Rattle.block.specs.Block.{sampleAt, predictedAt}
 use Rattle.rebuild.specs.Block.{replayUnit}
-use Rattle.coded.specs.Block.{World, stored, walked, walkUnit}
+use Rattle.walked.specs.Block.{World, stored, walked, walkUnit}
 use Rattle.walk.specs.Door.{steppedBy}
 use Rattle.rebuild.specs.Laws.{rebuilt-length}
 use Rattle.lossless.specs.Picture.{Sample, OfS, Whole, look, predict, residual, less, local, rebuild-out, store-out, replays, sourced, walks-plan}

@@ -1,5 +1,5 @@
 -- What joins the functions that rebuild a block, and what a call that goes on from its prediction knows. Rests on the laws of the block and of paint.
-use mathlib.Core.Path.{_≡_, refl, sym, ap, ap₂, _∙_}
+use mathlib.Core.Path.{_≡_, refl, sym, ap, _∙_}
 use mathlib.Core.Bool.{Bool, true}
 use mathlib.Core.List.{List}
 use Prim.Native.Nat.{ℕ, _+_, _-_, _*_, _^_, _≤_, _<_}
@@ -25,18 +25,10 @@ use Rattle.block.specs.Block.{predictedAt}
 use Rattle.block.specs.Door.{earlyNo, numberOf, fits}
 use Rattle.block.specs.Ready.{Ready}
 use Rattle.block.specs.Laws.{Passed, early-passed, is-ready, parts, side, square}
+use Rattle.block_rows.specs.Ready.{RowsIn}
+use Rattle.block_rows.specs.Laws.{restored-at}
 use Rattle.rebuild.specs.Block.{rebuilt}
-use Rattle.rebuild.specs.Ready.{RowIn, RowsIn, Lies, Predicted}
-
--- a sample and a residual as read are those that the definition names
-pub restored-at : (largest p q : ℕ) (y z : ℤ) {v : ℕ} → v ≡ clipTo largest (pos p +ℤ y) → p ≡ q → y ≡ z → v ≡ clipTo largest (pos q +ℤ z)
-restored-at largest p q y z h a b = h ∙ ap₂ (λ (u : ℕ) (x : ℤ). clipTo largest (pos u +ℤ x)) a b
-
--- row r of a block
-pub row-in : (plane pred residuals n base width at r : ℕ) → RowsIn plane pred residuals n base width at → r < n → RowIn plane pred residuals n (base + r * width) (r * n) (at + r * n)
-row-in plane pred residuals n base width at r h l =
-    let m : (r + 1) * n ≤ n * n = mul-le-mul-right n (omega arith) in
-    record { size = h .size; plane-in = h .plane-in r l; pred-in = omega (arith, h .pred-in); resid-in = omega (arith, h .resid-in) }
+use Rattle.rebuild.specs.Ready.{Lies, Predicted}
 
 -- a block that is ready is served
 module _ (s : Still) (b : Block) (plane : ℕ) (t : Tables) (h : Ready s b plane t) where

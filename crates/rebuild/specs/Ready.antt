@@ -1,4 +1,4 @@
--- What the functions that store a block ask of each other, and what their callers know. Assumes nothing.
+-- What a block and a buffer that holds its prediction are known to be. Assumes nothing.
 use mathlib.Core.Path.{_≡_}
 use mathlib.Core.List.{List}
 use Prim.Native.Nat.{ℕ, _+_, _*_, _≤_, _<_}
@@ -6,20 +6,6 @@ use lib.ListN.{getD}
 use Rattle.tiling.specs.declared.Block.{Block}
 use Rattle.still.specs.declared.Still.{Still}
 use Rattle.block.specs.Block.{predictedAt}
-
--- a row of n samples from base on, its predictions from `from` on, its residuals from `at` on
-pub record RowIn (plane pred residuals n base from at : ℕ) : Type 0 where
-  pub size : n ≤ 32
-  pub plane-in : base + n ≤ plane
-  pub pred-in : from + n ≤ pred
-  pub resid-in : at + n ≤ residuals
-
--- a block of n rows, each `width` samples after the one before
-pub record RowsIn (plane pred residuals n base width at : ℕ) : Type 0 where
-  pub size : n ≤ 32
-  pub plane-in : (r : ℕ) → r < n → base + r * width + n ≤ plane
-  pub pred-in : n * n ≤ pred
-  pub resid-in : at + n * n ≤ residuals
 
 -- a block whose residuals lie among so many
 pub record Lies (b : Block) (residuals at : ℕ) : Type 0 where

@@ -10,7 +10,7 @@ ghost use Rattle.laws.specs.Choose.{served};
 ghost use Rattle.h265.specs.Notation.{clipTo};
 ghost use Rattle.block.specs.Door.{numberOf, fits};
 ghost use Rattle.rebuild.specs.Block.{rebuilt};
-ghost use Rattle.rebuild.specs.Ready.{RowIn, RowsIn};
+ghost use Rattle.block_rows.specs.Ready.{RowIn, RowsIn};
 use still::Still;
 use tiling::Block;
 
@@ -30,7 +30,7 @@ fn rebuild_row(
 {
     let mut c = 0;
     while c < n {
-        plane[base + c] = block::restored(pred[from + c], residuals[at + c], largest);
+        plane[base + c] = deltas::restored(pred[from + c], residuals[at + c], largest);
         c += 1;
     }
 }

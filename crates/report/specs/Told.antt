@@ -1,23 +1,24 @@
 -- Document 01, 'The program': what it prints, from the walk of the still and from the replay of its residuals over zeros. Assumes nothing.
-use Prim.Native.Nat.{ℕ, zero, suc, _+_, _*_}
-use mathlib.Core.Bool.{Bool, true, cond, _&&_}
-use mathlib.Core.List.{List, [], _∷_, _++_}
+use Prim.Native.Nat.{ℕ, zero, suc, _*_}
+use mathlib.Core.Bool.{cond}
+use mathlib.Core.List.{List, [], _++_}
 use lib.Dec.{eqb}
-use lib.IntN.{ℤ, pos, natAbs}
-use lib.ListN.{length, getD, replicate}
+use lib.IntN.{ℤ, pos}
+use lib.ListN.{length, replicate}
 use Rattle.plan.specs.declared.Verdict.{Verdict}
 use Rattle.tiling.specs.declared.Block.{Block}
 use Rattle.tiling.specs.Tiling.{place}
 use Rattle.plan.specs.Plan.{Plan, planOf}
 use Rattle.still.specs.declared.Still.{Still}
 use Rattle.walk.specs.declared.Progress.{Progress}
-use Rattle.coded.specs.Block.{World}
+use Rattle.walked.specs.Block.{World}
 use Rattle.still.specs.Checks.{Tables}
 use Rattle.calls.specs.Door.{walkVerdict, walkAfter, replayAfter}
 use Rattle.report.specs.declared.Printout.{Printout}
 use Rattle.file.specs.declared.Trailer.{Trailer}
 use Rattle.file.specs.File.{trailerOf, fileOk, sourceOf, recordsOf}
-use Rattle.report.specs.Text.{number, laid}
+use Rattle.spans.specs.Spans.{agree, absolutes}
+use Rattle.text.specs.Text.{laid, line, refusal, ending}
 
 -- a file's contents: the still, its plan and its source
 pub record Job : Type 0 where
@@ -56,34 +57,10 @@ residuals j = walkAfter (j .still) (j .plan) tables 0 (j .plan .count) (j .sourc
 abbrev pub replayed : Job → List ℕ
 replayed j = replayAfter (j .still) (j .plan) tables 0 (j .plan .count) (residuals j) (zeros (j .still))
 
--- whether the first k entries are the same
-unfoldable pub agree : List ℕ → List ℕ → ℕ → Bool
-agree a b zero = true
-agree a b (suc k) = agree a b k && eqb (getD a k 0) (getD b k 0)
-
--- the sum of k absolute residuals from `at` on
-unfoldable pub absolutes : List ℤ → ℕ → ℕ → ℕ
-absolutes v at zero = 0
-absolutes v at (suc k) = absolutes v at k + natAbs (getD v (at + k) (pos 0))
-
--- a line for a block: row, column, side, mode, sum
-abbrev pub line : Block → ℕ → List ℕ
-line b sum = number (b .row) 32 ++ number (b .col) 32 ++ number (b .side) 32 ++ number (b .mode) 32 ++ number sum 10
-
 -- the lines of the first k blocks
 unfoldable pub lines : (ℕ → Block) → List ℤ → ℕ → List ℕ
 lines plan v zero = []
 lines plan v (suc k) = lines plan v k ++ line (plan k) (absolutes v (place plan k) (plan k .side * plan k .side))
-
--- `refused N B`
-abbrev pub refusal : ℕ → ℕ → List ℕ
-refusal n block = (114 ∷ 101 ∷ 102 ∷ 117 ∷ 115 ∷ 101 ∷ 100 ∷ 32 ∷ []) ++ number n 32 ++ number block 10
-
--- `end COUNT same` or `end COUNT differs`
-abbrev pub ending : ℕ → Bool → List ℕ
-ending count same =
-    (101 ∷ 110 ∷ 100 ∷ 32 ∷ []) ++ number count 32
-    ++ cond same (115 ∷ 97 ∷ 109 ∷ 101 ∷ 10 ∷ []) (100 ∷ 105 ∷ 102 ∷ 102 ∷ 101 ∷ 114 ∷ 115 ∷ 10 ∷ [])
 
 -- what is printed of a file that number 12 is not given for
 unfoldable pub told : Job → List ℕ

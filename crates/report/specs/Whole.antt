@@ -22,15 +22,17 @@ use Rattle.tiling.specs.Cover.{area as plan-area}
 use Rattle.still.specs.declared.Still.{Still}
 use Rattle.walk.specs.declared.Progress.{Progress}
 use Rattle.walk.specs.declared.Stepped.{Stepped}
-use Rattle.coded.specs.Block.{World}
+use Rattle.walked.specs.Block.{World}
 use Rattle.calls.specs.Door.{walkVerdict, walkAfter, replayAfter}
 use Rattle.calls.specs.Ready.{Sound}
 use Rattle.calls.specs.Laws.{walk-sound}
 use Rattle.walk.specs.Door.{steppedBy}
+use Rattle.spans.specs.Spans.{agree}
+use Rattle.text.specs.Text.{laid, refusal, ending}
+use Rattle.text.specs.Laws.{Laid}
 use Rattle.report.specs.declared.Printout.{Printout}
-use Rattle.report.specs.Told.{Job, stillOf, jobOf, tables, fresh, zeros, blank, verdict, residuals, replayed, agree, lines, refusal, ending, told, printed, reportOf}
-use Rattle.report.specs.Text.{laid}
-use Rattle.report.specs.Laws.{Laid, Listed, Walked, take-fill}
+use Rattle.report.specs.Told.{Job, stillOf, jobOf, tables, fresh, zeros, blank, verdict, residuals, replayed, lines, told, printed, reportOf}
+use Rattle.report.specs.Laws.{Listed, Walked, take-fill}
 
 -- what the program lends a walk: few blocks, planes and residuals of zeros, room for the text
 pub record Blank (s : Still) (blocks : ℕ) (w : World) (plane : List ℕ) (room : ℕ) : Type 0 where

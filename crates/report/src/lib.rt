@@ -1,15 +1,15 @@
 // What intrawalk prints of its input (document 01, 'The program'): the whole text, from the bytes alone.
-// Rests on the contracts of walk and replay, and on the kit's for decimal numbers.
+// Rests on the contracts of walk and replay, of the sums and of the lines.
 ghost use mathlib.Core.Path.{_≡_};
-ghost use Prim.Native.Nat.{ℕ, _+_, _-_, _*_, _≤_, _<_};
+ghost use Prim.Native.Nat.{_≤_, _<_};
 ghost use lib.ListN.{replicate};
 ghost use lib.ListN.{length as count};
-ghost use lib.IntN.{pos, natAbs};
-ghost use Rattle.report.specs.Text.{number};
+ghost use lib.IntN.{pos};
 ghost use Rattle.plan.specs.Plan.{planOf};
 ghost use Rattle.calls.specs.Door.{replayAfter};
-ghost use Rattle.report.specs.Told.{stillOf, tables, agree, line, lines, absolutes, refusal, ending, told, jobOf, printed, reportOf};
-ghost use Rattle.report.specs.Laws.{Laid, Listed, Walked};
+ghost use Rattle.report.specs.Told.{stillOf, tables, lines, told, jobOf, printed, reportOf};
+ghost use Rattle.text.specs.Laws.{Laid};
+ghost use Rattle.report.specs.Laws.{Listed, Walked};
 ghost use Rattle.report.specs.Whole.{Blank, Held};
 use file::Trailer;
 use still::Still;
@@ -43,63 +43,6 @@ fn blank_text() -> [u8; 65536]
     [0; 65536]
 }
 
-// Lays a text over a buffer from `at` on, and tells where it ends.
-fn lay(out: &mut [u8], at: usize, s: &[u8]) -> usize
-    requires { ⌜ at + count (now s) ≤ count (now out) ⌝ }
-    ensures { λ r. ⌜ Laid at (now (s .entry)) (now (out .entry)) (now (out .exit)) r (count (now (s .entry))) ⌝ }
-{
-    let mut i = 0;
-    while i < s.len() {
-        out[at + i] = s[i];
-        i += 1;
-    }
-    at + i
-}
-
-// A number in decimal, and the byte after it.
-fn lay_number(out: &mut [u8], at: usize, n: u64, after: u8) -> usize
-    requires { ⌜ at + 21 ≤ count (now out) ⌝ }
-    ensures { λ r. ⌜ Laid at (number n after) (now (out .entry)) (now (out .exit)) r 21 ⌝ }
-{
-    let mut digits = [0u8; 20];
-    let k = io::decimal(n, &mut digits);
-    let next = lay(&mut *out, at, &digits[..k]);
-    let last = [after];
-    lay(&mut *out, next, &last)
-}
-
-// A line for a block.
-fn lay_line(out: &mut [u8], at: usize, b: Block, sum: u64) -> usize
-    requires { ⌜ at + 105 ≤ count (now out) ⌝ }
-    ensures { λ r. ⌜ Laid at (line b sum) (now (out .entry)) (now (out .exit)) r 105 ⌝ }
-{
-    let row = lay_number(&mut *out, at, b.row as u64, b' ');
-    let col = lay_number(&mut *out, row, b.col as u64, b' ');
-    let side = lay_number(&mut *out, col, b.side as u64, b' ');
-    let mode = lay_number(&mut *out, side, b.mode as u64, b' ');
-    lay_number(&mut *out, mode, sum, b'\n')
-}
-
-fn absolute(r: i32) -> u64
-    ensures { λ a. ⌜ (a ≡ natAbs r) × (a < 4294967296) ⌝ }
-{
-    helpers::abs(r) as u64
-}
-
-// The sum of k absolute residuals from `at` on.
-fn sum_of(residuals: &[i32], at: usize, k: usize) -> u64
-    requires { ⌜ (at + k ≤ count (now residuals)) × (k ≤ 1024) ⌝ }
-    ensures { λ r. ⌜ r ≡ absolutes (now (residuals .entry)) at k ⌝ }
-{
-    let mut sum: u64 = 0;
-    let mut i = 0;
-    while i < k {
-        sum += absolute(residuals[at + i]);
-        i += 1;
-    }
-    sum
-}
-
 // Block i of a plan.
 fn block_at(plan: &[[u32; 4]], i: usize) -> Block
     requires { ⌜ i < count (now plan) ⌝ }
@@ -124,48 +67,11 @@ fn lay_lines(out: &mut [u8], plan: &[[u32; 4]], residuals: &[i32]) -> usize
     while k < plan.len() {
         let b = block_at(plan, k);
         let n = b.side as usize;
-        end = lay_line(&mut *out, end, b, sum_of(residuals, at, n * n));
+        end = text::lay_line(&mut *out, end, b, spans::sum_of(residuals, at, n * n));
         at += n * n;
         k += 1;
     }
     end
-}
-
-// `refused N B`
-fn lay_refusal(out: &mut [u8], number: u32, block: u32) -> usize
-    requires { ⌜ 65536 ≤ count (now out) ⌝ }
-    ensures { λ r. ⌜ Laid 0 (refusal number block) (now (out .entry)) (now (out .exit)) r 50 ⌝ }
-{
-    let word = lay(&mut *out, 0, b"refused ");
-    let next = lay_number(&mut *out, word, number as u64, b' ');
-    lay_number(&mut *out, next, block as u64, b'\n')
-}
-
-// `end COUNT same` or `end COUNT differs`
-fn lay_ending(out: &mut [u8], at: usize, blocks: usize, same: bool) -> usize
-    requires { ⌜ at + 33 ≤ count (now out) ⌝ }
-    ensures { λ r. ⌜ Laid at (ending blocks same) (now (out .entry)) (now (out .exit)) r 33 ⌝ }
-{
-    let word = lay(&mut *out, at, b"end ");
-    let next = lay_number(&mut *out, word, blocks as u64, b' ');
-    if same {
-        return lay(&mut *out, next, b"same\n");
-    }
-    lay(&mut *out, next, b"differs\n")
-}
-
-// Whether two planes of one length are the same.
-fn agrees(a: &[u16], b: &[u16]) -> bool
-    requires { ⌜ count (now a) ≡ count (now b) ⌝ }
-    ensures { λ r. ⌜ r ≡ agree (now (a .entry)) (now (b .entry)) (count (now (b .entry))) ⌝ }
-{
-    let mut same = true;
-    let mut i = 0;
-    while i < b.len() {
-        same = same & (a[i] == b[i]);
-        i += 1;
-    }
-    same
 }
 
 // The whole walk.
@@ -230,12 +136,12 @@ fn tell(
 {
     let walked = walk_all(still, plan, source, &mut *work, &mut *residuals);
     if walked.no != 0 {
-        return lay_refusal(&mut *out, walked.no, walked.block);
+        return text::lay_refusal(&mut *out, walked.no, walked.block);
     }
     replay_all(still, plan, residuals, &mut *plane);
-    let same = agrees(plane, source);
+    let same = spans::agrees(plane, source);
     let lines = lay_lines(&mut *out, plan, residuals);
-    lay_ending(&mut *out, lines, plan.len(), same)
+    text::lay_ending(&mut *out, lines, plan.len(), same)
 }
 
 fn still_of(t: Trailer) -> Still
@@ -281,7 +187,7 @@ fn lay_report(out: &mut [u8], input: &[u8]) -> usize
     ensures { λ r. ⌜ Laid 0 (printed (now (input .entry))) (now (out .entry)) (now (out .exit)) r 65536 ⌝ }
 {
     if !file::file_ok(input) {
-        return lay_refusal(&mut *out, 12, 0);
+        return text::lay_refusal(&mut *out, 12, 0);
     }
     let t = file::trailer_of(input);
     tell_file(&mut *out, input, t)

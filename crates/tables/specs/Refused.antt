@@ -33,7 +33,7 @@ use Rattle.plan.specs.Records.{recordsOf}
 use Rattle.still.specs.declared.Still.{Still}
 use Rattle.walk.specs.declared.Progress.{Progress}
 use Rattle.walk.specs.declared.Stepped.{Stepped}
-use Rattle.coded.specs.Block.{World}
+use Rattle.walked.specs.Block.{World}
 use Rattle.still.specs.Checks.{Tables}
 use Rattle.calls.specs.Door.{replayVerdict, replayAfter, walkVerdict, walkAfter}
 use Rattle.calls.specs.Laws.{replay-refused, walk-refused}

@@ -23,8 +23,9 @@ use Rattle.walk.specs.declared.Stepped.{Stepped}
 use Rattle.still.specs.Checks.{largestOf}
 use Rattle.walk.specs.Door.{steppedBy}
 use Rattle.file.specs.File.{trailerOf, area, fileOk, sourceOf, recordsOf}
-use Rattle.report.specs.Text.{spell, number}
-use Rattle.report.specs.Told.{Job, stillOf, jobOf, tables, fresh, blank, verdict, residuals, replayed, agree, lines, refusal, ending, told, printed}
+use Rattle.spans.specs.Spans.{agree}
+use Rattle.text.specs.Text.{spell, number, refusal, ending}
+use Rattle.report.specs.Told.{Job, stillOf, jobOf, tables, fresh, blank, verdict, residuals, replayed, lines, told, printed}
 use Rattle.tables.specs.Exact.{Row, _when_, _or_, First, ExactFirst, Tells, first-exact, first-test, all-of, at-most}
 use Rattle.tables.specs.Table.{BadPicture}
 use Rattle.tables.specs.TableWalk.{about, done, blockRows, Uncovered, planRows, Some, lastRows, BadPlane, BadTables, verdictIn, walk}

@@ -35,7 +35,7 @@ use Rattle.walk.specs.declared.Progress.{Progress}
 use Rattle.walk.specs.declared.Stepped.{Stepped}
 use Rattle.still.specs.Checks.{largestOf, every, whole, Tables, roomy, settle}
 use Rattle.steps.specs.Steps.{doing}
-use Rattle.coded.specs.Block.{World}
+use Rattle.walked.specs.Block.{World}
 use Rattle.calls.specs.Door.{verdictOf, replayVerdict, walkVerdict}
 use Rattle.walk.specs.Door.{steppedBy}
 use Rattle.tables.specs.Exact.{Row, _when_, _or_, First, ExactFirst, FirstBy, Tells, first-exact, first-test, first-row, all-of, at-most, same}

@@ -13,7 +13,7 @@ use Rattle.plan.specs.Check.{planVerdict}
 use Rattle.still.specs.declared.Still.{Still}
 use Rattle.still.specs.Checks.{Tables, replayNo, walkNo, settle}
 use Rattle.rebuild.specs.Block.{replayUnit}
-use Rattle.coded.specs.Block.{World, walkUnit}
+use Rattle.walked.specs.Block.{World, walkUnit}
 use Rattle.steps.specs.declared.Step.{Step}
 use Rattle.steps.specs.Steps.{stepBy}
 use Rattle.calls.specs.Door.{replayVerdict, replayAfter, walkVerdict, walkAfter}

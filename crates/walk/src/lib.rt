@@ -9,7 +9,7 @@ ghost use Rattle.laws.specs.Chain.{units};
 ghost use Rattle.plan.specs.Plan.{planOf, listed};
 ghost use Rattle.still.specs.Checks.{replayNo, walkNo, settle};
 ghost use Rattle.rebuild.specs.Block.{rebuilt, replayUnit};
-ghost use Rattle.coded.specs.Block.{walked, walkUnit};
+ghost use Rattle.walked.specs.Block.{walked, walkUnit};
 ghost use Rattle.block.specs.Ready.{Ready};
 ghost use Rattle.rebuild.specs.Ready.{Lies};
 ghost use Rattle.calls.specs.Door.{replayVerdict, replayAfter, walkVerdict, walkAfter};

@@ -10,7 +10,7 @@ use Rattle.laws.specs.Signed.{held}
 use Rattle.h265.specs.Notation.{clipTo}
 use Rattle.bytes.specs.Bytes.{samplesOf, residualsOf}
 use Rattle.bytes.specs.Laws.{length-samples, samples-alike, residual-in}
-use Rattle.rebuild.specs.Laws.{restored-at}
+use Rattle.block_rows.specs.Laws.{restored-at}
 use borrow.Author.Needs.{needs}
 use Rattle.byte_rebuild.proofs.rebuild_row.Statement.{statement}
 use Rattle.byte_rebuild.proofs.rebuild_row.Tie as tie

@@ -3,12 +3,12 @@ use mathlib.Core.Path.{refl, sym, ap, _∙_}
 use mathlib.Core.Bool.{_&&_}
 use Prim.Native.Nat.{_≤_}
 use lib.ListN.{length}
-use Rattle.laws.specs.Choose.{both-true, both-same, unserved}
+use Rattle.laws.specs.Choose.{if-yes, both-true, both-same, unserved}
 use Rattle.still.specs.Checks.{whole}
 use Rattle.block.specs.Door.{earlyNo, fits}
 use Rattle.block.specs.Laws.{early-stops}
 use Rattle.rebuild.specs.Laws.{room, number-same, bits-are, lies-there, rows-there, holds-it}
-use Rattle.coded.specs.Laws.{source-same, walked-is}
+use Rattle.coded.specs.Laws.{rows-fit, walked-is}
 use borrow.Author.Needs.{needs}
 use Rattle.coded.proofs.walk_block.Statement.{statement}
 use Rattle.coded.proofs.walk_block.Tie as tie
@@ -62,18 +62,11 @@ cast-walk-rows c = search needs
 base-of-requires : tie.Need-base-of-requires
 base-of-requires c κs = search needs
 
-cast-walk-rows-2 : tie.Need-cast-walk-rows-2
-cast-walk-rows-2 c = search needs
-
 largest-of-requires : tie.Need-largest-of-requires
 largest-of-requires c κs = search needs
 
 walk-rows-requires : tie.Need-walk-rows-requires
-walk-rows-requires c κs =
-    let a = c .before .before .before .before .before .before .before .before .before .before .before .before .before .before .before .before .before .before .before .before .before .before .before .before .before .before .before .before .before .before .args in
-    let e = c .before .before .before .before .before .before .before .before .before .before .before .before .before .before .before .before .before .before .before .before .before .before .early-no .ensures ∙ ap (earlyNo (a .s) (a .b)) (both-same (c .before .before .before .before .before .before .before .before .before .before .before .before .before .before .before .before .before .before .before .before .before .before .before .before .fit-for .ensures) (c .before .before .before .before .before .before .before .before .before .before .before .before .before .before .before .before .before .before .before .before .before .before .before .is-whole .ensures)) in
-    let long : 1024 ≤ length (c .before .before .before .before .before .before .before .before .before .before .before .before .before .before .before .predict-block .last .1 .1 .1 .0) = search needs in
-    (rows-there (a .s) (a .b) (record { refs = length (a .refs .now); indices = length (a .indices .now); fractions = length (a .fractions .now) }) (length (a .work .now)) (a .at) (length (a .residuals .now)) ((fits (a .s) (a .b) (record { refs = length (a .refs .now); indices = length (a .indices .now); fractions = length (a .fractions .now) }) (length (a .work .now)) (a .at) (length (a .residuals .now))) && (whole (a .s) (length (a .source .now)))) _ (e) (c .before .before .before .before .before .before .before .before .before .before .before .before .before .before .before .before .before .before .before .before .before .if1 .left) (λ x. both-true (fits (a .s) (a .b) (record { refs = length (a .refs .now); indices = length (a .indices .now); fractions = length (a .fractions .now) }) (length (a .work .now)) (a .at) (length (a .residuals .now))) (whole (a .s) (length (a .source .now))) x .0) _ (c .before .before .before .before .before .before .before .before .before .before .before .before .before .before .before .predict-block .ensures .0) (c .before .before .before .before .before .before .before .if2 .left) _ _ long (c .before .before .base-of .ensures), source-same (a .s) (a .b) (record { refs = length (a .refs .now); indices = length (a .indices .now); fractions = length (a .fractions .now) }) (length (a .work .now)) (a .at) (length (a .residuals .now)) (length (a .source .now)) _ e (c .before .before .before .before .before .before .before .before .before .before .before .before .before .before .before .before .before .before .before .before .before .if1 .left))
+walk-rows-requires c κs = search needs
 
 same-length-5 : tie.Need-same-length-5
 same-length-5 c = search needs
@@ -92,14 +85,17 @@ same-length-9 c = search needs
 
 returns-3 : tie.Need-returns-3
 returns-3 c =
-    let a = c .before .before .before .before .before .before .before .before .before .before .before .before .before .before .before .before .before .before .before .before .before .before .before .before .before .before .before .before .before .before .before .before .before .before .args in
-    let e = c .before .before .before .before .before .before .before .before .before .before .before .before .before .before .before .before .before .before .before .before .before .before .before .before .before .before .early-no .ensures ∙ ap (earlyNo (a .s) (a .b)) (both-same (c .before .before .before .before .before .before .before .before .before .before .before .before .before .before .before .before .before .before .before .before .before .before .before .before .before .before .before .before .fit-for .ensures) (c .before .before .before .before .before .before .before .before .before .before .before .before .before .before .before .before .before .before .before .before .before .before .before .before .before .before .before .is-whole .ensures)) in
-    let p = c .before .before .before .before .before .before .before .before .before .before .before .before .before .before .before .before .before .before .before .predict-block .ensures in
-    let y = c .before .before .before .before .before .before .before .before .before .before .before .if2 .left in
-    let large = c .before .before .before .before .largest-of .ensures ∙ bits-are (a .s) (a .b) (record { refs = length (a .refs .now); indices = length (a .indices .now); fractions = length (a .fractions .now) }) (length (a .work .now)) (a .at) (length (a .residuals .now)) ((fits (a .s) (a .b) (record { refs = length (a .refs .now); indices = length (a .indices .now); fractions = length (a .fractions .now) }) (length (a .work .now)) (a .at) (length (a .residuals .now))) && (whole (a .s) (length (a .source .now)))) _ (e) (c .before .before .before .before .before .before .before .before .before .before .before .before .before .before .before .before .before .before .before .before .before .before .before .before .before .if1 .left) (λ x. both-true (fits (a .s) (a .b) (record { refs = length (a .refs .now); indices = length (a .indices .now); fractions = length (a .fractions .now) }) (length (a .work .now)) (a .at) (length (a .residuals .now))) (whole (a .s) (length (a .source .now))) x .0) _ (p .0) in
-    let there = holds-it (a .s) (a .b) (a .work .now) _ _ _ (room (a .s) (a .b) (record { refs = length (a .refs .now); indices = length (a .indices .now); fractions = length (a .fractions .now) }) (length (a .work .now)) (a .at) (length (a .residuals .now)) ((fits (a .s) (a .b) (record { refs = length (a .refs .now); indices = length (a .indices .now); fractions = length (a .fractions .now) }) (length (a .work .now)) (a .at) (length (a .residuals .now))) && (whole (a .s) (length (a .source .now)))) _ (e) (c .before .before .before .before .before .before .before .before .before .before .before .before .before .before .before .before .before .before .before .before .before .before .before .before .before .if1 .left) (λ x. both-true (fits (a .s) (a .b) (record { refs = length (a .refs .now); indices = length (a .indices .now); fractions = length (a .fractions .now) }) (length (a .work .now)) (a .at) (length (a .residuals .now))) (whole (a .s) (length (a .source .now))) x .0) _ (p .0)) y (p .1 .0) in
+    let a = c .before .before .before .before .before .before .before .before .before .before .before .before .before .before .before .before .before .before .before .before .before .before .before .before .before .before .before .before .before .before .before .before .before .args in
+    let e = c .before .before .before .before .before .before .before .before .before .before .before .before .before .before .before .before .before .before .before .before .before .before .before .before .before .early-no .ensures ∙ ap (earlyNo (a .s) (a .b)) (both-same (c .before .before .before .before .before .before .before .before .before .before .before .before .before .before .before .before .before .before .before .before .before .before .before .before .before .before .before .fit-for .ensures) (c .before .before .before .before .before .before .before .before .before .before .before .before .before .before .before .before .before .before .before .before .before .before .before .before .before .before .is-whole .ensures)) in
+    let p = c .before .before .before .before .before .before .before .before .before .before .before .before .before .before .before .before .before .before .predict-block .ensures in
+    let y = c .before .before .before .before .before .before .before .before .before .before .if2 .left in
+    let large = c .before .before .before .before .largest-of .ensures ∙ bits-are (a .s) (a .b) (record { refs = length (a .refs .now); indices = length (a .indices .now); fractions = length (a .fractions .now) }) (length (a .work .now)) (a .at) (length (a .residuals .now)) ((fits (a .s) (a .b) (record { refs = length (a .refs .now); indices = length (a .indices .now); fractions = length (a .fractions .now) }) (length (a .work .now)) (a .at) (length (a .residuals .now))) && (whole (a .s) (length (a .source .now)))) _ (e) (c .before .before .before .before .before .before .before .before .before .before .before .before .before .before .before .before .before .before .before .before .before .before .before .before .if1 .left) (λ x. both-true (fits (a .s) (a .b) (record { refs = length (a .refs .now); indices = length (a .indices .now); fractions = length (a .fractions .now) }) (length (a .work .now)) (a .at) (length (a .residuals .now))) (whole (a .s) (length (a .source .now))) x .0) _ (p .0) in
+    let there = holds-it (a .s) (a .b) (a .work .now) _ _ _ (room (a .s) (a .b) (record { refs = length (a .refs .now); indices = length (a .indices .now); fractions = length (a .fractions .now) }) (length (a .work .now)) (a .at) (length (a .residuals .now)) ((fits (a .s) (a .b) (record { refs = length (a .refs .now); indices = length (a .indices .now); fractions = length (a .fractions .now) }) (length (a .work .now)) (a .at) (length (a .residuals .now))) && (whole (a .s) (length (a .source .now)))) _ (e) (c .before .before .before .before .before .before .before .before .before .before .before .before .before .before .before .before .before .before .before .before .before .before .before .before .if1 .left) (λ x. both-true (fits (a .s) (a .b) (record { refs = length (a .refs .now); indices = length (a .indices .now); fractions = length (a .fractions .now) }) (length (a .work .now)) (a .at) (length (a .residuals .now))) (whole (a .s) (length (a .source .now))) x .0) _ (p .0)) y (p .1 .0) in
+    let long : 1024 ≤ length (c .before .before .before .before .before .before .before .before .before .before .before .before .before .before .before .before .before .before .predict-block .last .1 .1 .1 .0) = search needs in
+    let fit = rows-fit (a .s) (a .b) (record { refs = length (a .refs .now); indices = length (a .indices .now); fractions = length (a .fractions .now) }) (length (a .work .now)) (a .at) (length (a .residuals .now)) (length (a .source .now)) _ _ _ e (c .before .before .before .before .before .before .before .before .before .before .before .before .before .before .before .before .before .before .before .before .before .before .before .before .if1 .left)
+    (rows-there (a .s) (a .b) (record { refs = length (a .refs .now); indices = length (a .indices .now); fractions = length (a .fractions .now) }) (length (a .work .now)) (a .at) (length (a .residuals .now)) ((fits (a .s) (a .b) (record { refs = length (a .refs .now); indices = length (a .indices .now); fractions = length (a .fractions .now) }) (length (a .work .now)) (a .at) (length (a .residuals .now))) && (whole (a .s) (length (a .source .now)))) _ (e) (c .before .before .before .before .before .before .before .before .before .before .before .before .before .before .before .before .before .before .before .before .before .before .before .before .if1 .left) (λ x. both-true (fits (a .s) (a .b) (record { refs = length (a .refs .now); indices = length (a .indices .now); fractions = length (a .fractions .now) }) (length (a .work .now)) (a .at) (length (a .residuals .now))) (whole (a .s) (length (a .source .now))) x .0) _ (p .0) y _ _ long (c .before .before .before .before .before .base-of .ensures)) in
     let rows = c .before .before .before .walk-rows .ensures in
-    (sym y ∙ number-same (a .s) (a .b) (record { refs = length (a .refs .now); indices = length (a .indices .now); fractions = length (a .fractions .now) }) (length (a .work .now)) (a .at) (length (a .residuals .now)) ((fits (a .s) (a .b) (record { refs = length (a .refs .now); indices = length (a .indices .now); fractions = length (a .fractions .now) }) (length (a .work .now)) (a .at) (length (a .residuals .now))) && (whole (a .s) (length (a .source .now)))) _ (e) (c .before .before .before .before .before .before .before .before .before .before .before .before .before .before .before .before .before .before .before .before .before .before .before .before .before .if1 .left) (λ x. both-true (fits (a .s) (a .b) (record { refs = length (a .refs .now); indices = length (a .indices .now); fractions = length (a .fractions .now) }) (length (a .work .now)) (a .at) (length (a .residuals .now))) (whole (a .s) (length (a .source .now))) x .0) _ (p .0), (walked-is (a .s) (a .b) (a .at) _ _ (a .source .now) (a .work .now) _ (c .before .before .before .before .before .before .before .before .before .before .before .before .before .before .before .before .before .before .before .predict-block .last .1 .1 .1 .0) (a .residuals .now) _ large (c .before .before .before .before .before .before .base-of .ensures) there (lies-there (a .s) (a .b) (record { refs = length (a .refs .now); indices = length (a .indices .now); fractions = length (a .fractions .now) }) (length (a .work .now)) (a .at) (length (a .residuals .now)) ((fits (a .s) (a .b) (record { refs = length (a .refs .now); indices = length (a .indices .now); fractions = length (a .fractions .now) }) (length (a .work .now)) (a .at) (length (a .residuals .now))) && (whole (a .s) (length (a .source .now)))) _ (e) (c .before .before .before .before .before .before .before .before .before .before .before .before .before .before .before .before .before .before .before .before .before .before .before .before .before .if1 .left) (λ x. both-true (fits (a .s) (a .b) (record { refs = length (a .refs .now); indices = length (a .indices .now); fractions = length (a .fractions .now) }) (length (a .work .now)) (a .at) (length (a .residuals .now))) (whole (a .s) (length (a .source .now))) x .0) _ (p .0)) (rows .0) (rows .1), λ d. absurd (d refl)))
+    (sym y ∙ number-same (a .s) (a .b) (record { refs = length (a .refs .now); indices = length (a .indices .now); fractions = length (a .fractions .now) }) (length (a .work .now)) (a .at) (length (a .residuals .now)) ((fits (a .s) (a .b) (record { refs = length (a .refs .now); indices = length (a .indices .now); fractions = length (a .fractions .now) }) (length (a .work .now)) (a .at) (length (a .residuals .now))) && (whole (a .s) (length (a .source .now)))) _ (e) (c .before .before .before .before .before .before .before .before .before .before .before .before .before .before .before .before .before .before .before .before .before .before .before .before .if1 .left) (λ x. both-true (fits (a .s) (a .b) (record { refs = length (a .refs .now); indices = length (a .indices .now); fractions = length (a .fractions .now) }) (length (a .work .now)) (a .at) (length (a .residuals .now))) (whole (a .s) (length (a .source .now))) x .0) _ (p .0), (walked-is (a .s) (a .b) (a .at) _ _ (a .source .now) (a .work .now) _ (c .before .before .before .before .before .before .before .before .before .before .before .before .before .before .before .before .before .before .predict-block .last .1 .1 .1 .0) (a .residuals .now) _ large (c .before .before .before .before .before .base-of .ensures) there (lies-there (a .s) (a .b) (record { refs = length (a .refs .now); indices = length (a .indices .now); fractions = length (a .fractions .now) }) (length (a .work .now)) (a .at) (length (a .residuals .now)) ((fits (a .s) (a .b) (record { refs = length (a .refs .now); indices = length (a .indices .now); fractions = length (a .fractions .now) }) (length (a .work .now)) (a .at) (length (a .residuals .now))) && (whole (a .s) (length (a .source .now)))) _ (e) (c .before .before .before .before .before .before .before .before .before .before .before .before .before .before .before .before .before .before .before .before .before .before .before .before .if1 .left) (λ x. both-true (fits (a .s) (a .b) (record { refs = length (a .refs .now); indices = length (a .indices .now); fractions = length (a .fractions .now) }) (length (a .work .now)) (a .at) (length (a .residuals .now))) (whole (a .s) (length (a .source .now))) x .0) _ (p .0)) (rows .0 ∙ sym (if-yes _ _ _ _ fit refl)) (rows .1 ∙ sym (if-yes _ _ _ _ fit refl)), λ d. absurd (d refl)))
 
 pub walk-block-spec : {M : Type 1} → statement M
 walk-block-spec =
@@ -119,7 +115,6 @@ walk-block-spec =
     slice-aggregate-walk-rows
     cast-walk-rows
     base-of-requires
-    cast-walk-rows-2
     largest-of-requires
     walk-rows-requires
     same-length-5

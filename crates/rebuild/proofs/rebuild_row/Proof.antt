@@ -7,7 +7,7 @@ use Rattle.laws.specs.Fill.{run}
 use Rattle.laws.specs.FillLaws.{run-none, run-more, run-done}
 use Rattle.laws.specs.Signed.{held}
 use Rattle.h265.specs.Notation.{clipTo}
-use Rattle.rebuild.specs.Laws.{restored-at}
+use Rattle.block_rows.specs.Laws.{restored-at}
 use borrow.Author.Needs.{needs}
 use Rattle.rebuild.proofs.rebuild_row.Statement.{statement}
 use Rattle.rebuild.proofs.rebuild_row.Tie as tie

@@ -6,8 +6,8 @@ use lib.IntN.{pos, _+ℤ_}
 use native.Mathlib.Omega.{arith}
 use Rattle.laws.specs.Paint.{paint, paint-none, paint-more, paint-done}
 use Rattle.h265.specs.Notation.{clipTo}
-use Rattle.rebuild.specs.Ready.{RowIn}
-use Rattle.rebuild.specs.Laws.{row-in}
+use Rattle.block_rows.specs.Ready.{RowIn}
+use Rattle.block_rows.specs.Laws.{row-in}
 use borrow.Author.Needs.{needs}
 use Rattle.rebuild.proofs.rebuild_rows.Statement.{statement}
 use Rattle.rebuild.proofs.rebuild_rows.Tie as tie

@@ -1,14 +1,16 @@
 -- `report::lay_lines` meets its contract. The loop keeps the lines of the blocks passed, and where the next residuals begin.
 use borrow.Author.Needs.{needs}
 use Prim.Native.Nat.{_-_, _*_, _≤_}
-use mathlib.Core.Path.{_≡_, ap}
+use mathlib.Core.Path.{_≡_, ap, _∙_}
 use native.Mathlib.Omega.{arith}
 use lib.ListN.{length}
 use Rattle.plan.specs.Plan.{planOf}
 use Rattle.tiling.specs.Tiling.{place}
 use Rattle.rebuild.specs.Places.{place-none, place-more}
 use Rattle.report.specs.Told.{lines}
-use Rattle.report.specs.Laws.{Laid, said, lines-none, square, among, next-line}
+use Rattle.spans.specs.Laws.{sum-there}
+use Rattle.text.specs.Laws.{Laid, said, line-room, lands-at}
+use Rattle.report.specs.Laws.{lines-none, square, among, next-line}
 use Rattle.report.proofs.lay_lines.Statement.{statement}
 use Rattle.report.proofs.lay_lines.Tie as tie
 
@@ -32,12 +34,10 @@ mul-sum-of : tie.Need-mul-sum-of Inv-loop μ-loop
 mul-sum-of c = record { fits = omega (arith, square (planOf (c .before .before .before .before .before .before .args .plan .now)) (c .before .before .before .before .before .before .args .residuals .now) (c .before .before .before .before .before .before .pre .0) (c .before .before .before .before .loop .k) _ _ (c .before .before .before .loop-test .taken) (c .before .before .before .before .loop .inv .1 .0) (c .before .before .block-at .ensures)) }
 
 sum-of-requires : tie.Need-sum-of-requires Inv-loop μ-loop
-sum-of-requires c κs =
-    let p = planOf (c .before .before .before .before .before .before .args .plan .now) in
-    (among p (c .before .before .before .before .before .before .args .residuals .now) (c .before .before .before .before .before .before .pre .0) (c .before .before .before .before .loop .k) _ _ (c .before .before .before .loop-test .taken) (c .before .before .before .before .loop .inv .1 .0) (c .before .before .block-at .ensures), square p (c .before .before .before .before .before .before .args .residuals .now) (c .before .before .before .before .before .before .pre .0) (c .before .before .before .before .loop .k) _ _ (c .before .before .before .loop-test .taken) (c .before .before .before .before .loop .inv .1 .0) (c .before .before .block-at .ensures))
+sum-of-requires c κs = search needs
 
 lay-line-requires : tie.Need-lay-line-requires Inv-loop μ-loop
-lay-line-requires c κs = omega (arith, c .before .before .before .before .before .loop .inv .1 .1 .1 .ends, c .before .before .before .before .before .loop .inv .1 .1 .1 .short, c .before .before .before .before .before .before .before .pre .0 .few)
+lay-line-requires c κs = search needs
 
 mul-at : tie.Need-mul-at Inv-loop μ-loop
 mul-at c = record { fits = omega (arith, square (planOf (c .before .before .before .before .before .before .before .before .before .before .args .plan .now)) (c .before .before .before .before .before .before .before .before .before .before .args .residuals .now) (c .before .before .before .before .before .before .before .before .before .before .pre .0) (c .before .before .before .before .before .before .before .before .loop .k) _ _ (c .before .before .before .before .before .before .before .loop-test .taken) (c .before .before .before .before .before .before .before .before .loop .inv .1 .0) (c .before .before .before .before .before .before .block-at .ensures)) }
@@ -53,10 +53,16 @@ loop-less c = search needs
 
 loop-again : tie.Need-loop-again Inv-loop μ-loop
 loop-again c =
-    let p = planOf (c .before .before .before .before .before .before .before .before .before .before .args .plan .now) in
+    let a = c .before .before .before .before .before .before .before .before .before .before .args in
+    let ok = c .before .before .before .before .before .before .before .before .before .before .pre .0 in
+    let p = planOf (a .plan .now) in
+    let v = a .residuals .now in
     let l = c .before .before .before .before .before .before .before .before .loop in
     let t = c .before .before .before .before .before .before .before .loop-test .taken in
-    (search needs, (place-more (p .block) (l .k) (l .at) _ (l .inv .1 .0) (c .before .before .before .before .before .before .block-at .ensures), (search needs, next-line p (c .before .before .before .before .before .before .before .before .before .before .args .residuals .now) (c .before .before .before .before .before .before .before .before .before .before .pre .0) (l .k) (l .at) _ t (l .inv .1 .0) (c .before .before .before .before .before .before .block-at .ensures) (l .inv .1 .1 .1) (c .before .before .before .sum-of .ensures) (c .before .before .lay-line .ensures) (omega (arith, c .before .before .before .before .before .before .before .before .before .before .pre .0 .few)))))
+    let b = c .before .before .before .before .before .before .block-at .ensures in
+    let sum = c .before .before .before .sum-of .ensures ∙ sum-there v _ _ (among p v ok (l .k) (l .at) _ t (l .inv .1 .0) b) (square p v ok (l .k) (l .at) _ t (l .inv .1 .0) b) in
+    let this = lands-at (c .before .before .lay-line .ensures) (omega (arith, l .inv .1 .1 .0, l .inv .1 .1 .1 .ends, l .inv .1 .1 .1 .short, ok .few)) (line-room _ _) in
+    (search needs, (place-more (p .block) (l .k) (l .at) _ (l .inv .1 .0) b, (search needs, next-line p v ok (l .k) (l .at) _ t (l .inv .1 .0) b (l .inv .1 .1 .1) sum this (omega (arith, ok .few)))))
 
 same-length : tie.Need-same-length Inv-loop μ-loop
 same-length c = search needs

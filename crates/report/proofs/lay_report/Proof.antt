@@ -3,7 +3,7 @@ use mathlib.Core.Path.{sym, _∙_}
 use mathlib.Core.Bool.{true, false}
 use native.Mathlib.Omega.{arith}
 use borrow.Author.Tests.{not-true, not-false}
-use Rattle.report.specs.Laws.{said}
+use Rattle.text.specs.Laws.{said, refusal-room, lands-at}
 use Rattle.report.specs.Whole.{held-file, printed-is}
 use borrow.Author.Needs.{needs}
 use Rattle.report.proofs.lay_report.Statement.{statement}
@@ -19,7 +19,7 @@ same-length : tie.Need-same-length
 same-length c = search needs
 
 returns : tie.Need-returns
-returns c = said _ 65536 (c .before .before .lay-refusal .ensures) (printed-is _ false (sym (c .before .before .before .before .before .file-ok .ensures) ∙ not-true _ (c .before .before .before .before .if1 .taken))) (omega arith)
+returns c = said _ 65536 (lands-at {at = 0} {room = 50} (c .before .before .lay-refusal .ensures) (omega arith) (refusal-room 12 0)) (printed-is _ false (sym (c .before .before .before .before .before .file-ok .ensures) ∙ not-true _ (c .before .before .before .before .if1 .taken))) (omega arith)
 
 trailer-of-requires : tie.Need-trailer-of-requires
 trailer-of-requires c κs = search needs

@@ -58,7 +58,7 @@ use Rattle.scratch.specs.declared.AngularScratch.{AngularScratch}
 use Rattle.scratch.proofs.AngularScratch as G
 use Rattle.scratch.proofs.Tables.{Long, made, Loan, tableAt, Tokens, Lent, Kept, Holds, lend, regain}
 use Rattle.still.specs.declared.Still.{Still}
-use Rattle.coded.specs.Block.{World, walked as doneBlock, walkUnit}
+use Rattle.walked.specs.Block.{World, walked as doneBlock, walkUnit}
 use Rattle.block.specs.Ready.{Ready}
 use Rattle.rebuild.specs.Ready.{Lies}
 use Rattle.rebuild.specs.Places.{place-none, place-more}

@@ -45,7 +45,7 @@ use Rattle.scratch.proofs.AngularScratch as G
 use Rattle.walk.specs.declared.Progress.{Progress}
 use Rattle.still.specs.declared.Still.{Still}
 use Rattle.walk.specs.declared.Stepped.{Stepped}
-use Rattle.coded.specs.Block.{World}
+use Rattle.walked.specs.Block.{World}
 use Rattle.calls.specs.Door.{walkVerdict, walkAfter}
 use Rattle.walk.specs.Door.{steppedBy}
 use Rattle.walk.specs.Listed.{scratchTables}

@@ -60,7 +60,7 @@ use Rattle.walk.specs.declared.Progress.{Progress}
 use Rattle.still.specs.declared.Still.{Still}
 use Rattle.walk.specs.declared.Stepped.{Stepped}
 use Rattle.walk.specs.declared.Call.{Call}
-use Rattle.coded.specs.Block.{World, walkUnit}
+use Rattle.walked.specs.Block.{World, walkUnit}
 use Rattle.calls.specs.Door.{walkVerdict, walkAfter}
 use Rattle.walk.specs.Door.{steppedBy}
 use Rattle.still.specs.Checks.{walkNo, settle}

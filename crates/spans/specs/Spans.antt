@@ -1,0 +1,25 @@
+-- Document 01, 'The program': sums of absolute residuals, and planes compared. Assumes nothing.
+use Prim.Native.Nat.{ℕ, zero, suc, _+_}
+use mathlib.Core.Bool.{Bool, true, cond, _&&_}
+use mathlib.Core.List.{List}
+use lib.Dec.{leb, eqb}
+use lib.IntN.{ℤ, pos, natAbs}
+use lib.ListN.{length, getD}
+
+-- whether the first k entries are the same
+unfoldable pub agree : List ℕ → List ℕ → ℕ → Bool
+agree a b zero = true
+agree a b (suc k) = agree a b k && eqb (getD a k 0) (getD b k 0)
+
+-- whether two lists are as long and the same
+unfoldable pub alike : List ℕ → List ℕ → Bool
+alike a b = eqb (length a) (length b) && agree a b (length b)
+
+-- the sum of k absolute residuals from `at` on
+unfoldable pub absolutes : List ℤ → ℕ → ℕ → ℕ
+absolutes v at zero = 0
+absolutes v at (suc k) = absolutes v at k + natAbs (getD v (at + k) (pos 0))
+
+-- the same where they are there and are no more than a block has, and 0 elsewhere
+unfoldable pub sumOf : List ℤ → ℕ → ℕ → ℕ
+sumOf v at k = cond (leb (at + k) (length v) && leb k 1024) (absolutes v at k) 0
