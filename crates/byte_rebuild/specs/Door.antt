@@ -8,7 +8,7 @@ use Rattle.tiling.specs.declared.Block.{Block}
 use Rattle.still.specs.declared.Still.{Still}
 use Rattle.still.specs.Checks.{Tables}
 use Rattle.block.specs.Door.{fits}
-use Rattle.rebuild.specs.Block.{rebuilt}
+use Rattle.rebuilt.specs.Block.{rebuilt}
 
 -- number 5, of so many bytes: two for each sample of the plane, four for each residual, and none left over
 abbrev pub byteFits : Still → Block → Tables → ℕ → ℕ → ℕ → Bool

@@ -17,9 +17,9 @@ use Rattle.still.specs.Checks.{Tables}
 use Rattle.block.specs.Door.{earlyNo, numberOf, fits}
 use Rattle.block.specs.Ready.{Ready}
 use Rattle.block.specs.Laws.{Passed, early-passed, parts, square}
-use Rattle.rebuild.specs.Block.{rebuilt}
-use Rattle.rebuild.specs.Ready.{Lies}
-use Rattle.rebuild.specs.Laws.{serves, there}
+use Rattle.rebuilt.specs.Block.{rebuilt}
+use Rattle.rebuilt.specs.Ready.{Lies}
+use Rattle.rebuilt.specs.Laws.{serves, there}
 use Rattle.byte_rebuild.specs.Door.{byteFits, rebuiltBytes}
 
 -- a call whose checks 1 to 5 gave r

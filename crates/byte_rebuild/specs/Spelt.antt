@@ -18,8 +18,8 @@ use Rattle.still.specs.Checks.{largestOf, Tables}
 use Rattle.block.specs.Block.{predictedAt}
 use Rattle.block.specs.Door.{numberOf}
 use Rattle.block.specs.Ready.{Ready}
-use Rattle.rebuild.specs.Block.{rebuilt}
-use Rattle.rebuild.specs.Ready.{Lies}
+use Rattle.rebuilt.specs.Block.{rebuilt}
+use Rattle.rebuilt.specs.Ready.{Lies}
 use Rattle.byte_rebuild.specs.Door.{byteFits, rebuiltBytes}
 use Rattle.byte_rebuild.specs.Laws.{bytes-serve}
 

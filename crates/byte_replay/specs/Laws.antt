@@ -19,7 +19,7 @@ use Rattle.plan.specs.Records.{recordsOf}
 use Rattle.still.specs.declared.Still.{Still}
 use Rattle.still.specs.Checks.{every, Tables, residualOk, callNo, replayFits}
 use Rattle.steps.specs.Steps.{doing}
-use Rattle.rebuild.specs.Block.{replayUnit}
+use Rattle.rebuilt.specs.Block.{replayUnit}
 use Rattle.walk.specs.declared.Progress.{Progress}
 use Rattle.walk.specs.declared.Stepped.{Stepped}
 use Rattle.calls.specs.Door.{verdictOf, replayVerdict}

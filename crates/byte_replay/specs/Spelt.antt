@@ -18,8 +18,8 @@ use Rattle.tiling.specs.Tiling.{place}
 use Rattle.plan.specs.Records.{recordsOf}
 use Rattle.still.specs.declared.Still.{Still}
 use Rattle.steps.specs.Steps.{doing}
-use Rattle.rebuild.specs.Block.{replayUnit}
-use Rattle.rebuild.specs.Laws.{rebuilt-length}
+use Rattle.rebuilt.specs.Block.{replayUnit}
+use Rattle.rebuilt.specs.Laws.{rebuilt-length}
 use Rattle.walk.specs.declared.Progress.{Progress}
 use Rattle.calls.specs.Door.{replayVerdict, replayAfter}
 use Rattle.byte_rebuild.specs.Spelt.{samples-back, are-bytes, below-rebuilt}

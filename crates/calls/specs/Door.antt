@@ -12,7 +12,7 @@ use Rattle.plan.specs.Check.{blocksVerdict}
 use Rattle.still.specs.declared.Still.{Still}
 use Rattle.still.specs.Checks.{Tables, replayNo, walkNo, settle}
 use Rattle.steps.specs.Steps.{doing}
-use Rattle.rebuild.specs.Block.{replayUnit}
+use Rattle.rebuilt.specs.Block.{replayUnit}
 use Rattle.walked.specs.Block.{World, walkUnit}
 
 -- the verdict on a call: the checks before the blocks, then the plan's, then number 11

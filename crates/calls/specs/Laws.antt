@@ -30,9 +30,9 @@ use Rattle.still.specs.Laws.{good-call, settle-zero}
 use Rattle.steps.specs.declared.Step.{Step}
 use Rattle.steps.specs.Steps.{doing, stepBy, refused-step, granted-step}
 use Rattle.block.specs.Ready.{Ready}
-use Rattle.rebuild.specs.Block.{replayUnit}
-use Rattle.rebuild.specs.Ready.{Lies}
-use Rattle.rebuild.specs.Places.{place-in, count-up}
+use Rattle.rebuilt.specs.Block.{replayUnit}
+use Rattle.rebuilt.specs.Ready.{Lies}
+use Rattle.rebuilt.specs.Places.{place-in, count-up}
 use Rattle.walked.specs.Block.{World, walkUnit}
 use Rattle.calls.specs.Door.{verdictOf, replayVerdict, replayAfter, walkVerdict, walkAfter}
 use Rattle.calls.specs.Ready.{Sound, ReplayReady, WalkReady}

@@ -21,9 +21,9 @@ use Rattle.block_rows.specs.Laws.{restored-at, fits-in}
 use Rattle.block.specs.Door.{earlyNo, numberOf, fits}
 use Rattle.block.specs.Ready.{Ready}
 use Rattle.block.specs.Laws.{early-passed, parts}
-use Rattle.rebuild.specs.Block.{rebuilt}
-use Rattle.rebuild.specs.Ready.{Lies, Predicted}
-use Rattle.rebuild.specs.Laws.{serves, there}
+use Rattle.rebuilt.specs.Block.{rebuilt}
+use Rattle.rebuilt.specs.Ready.{Lies, Predicted}
+use Rattle.rebuilt.specs.Laws.{serves, there}
 use Rattle.walked.specs.Block.{stored, World, walked}
 
 -- a block that is ready is served, beside a source

@@ -32,11 +32,11 @@ use Rattle.plan.specs.Verdict.{Accepted}
 use Rattle.still.specs.declared.Still.{Still}
 use Rattle.still.specs.Checks.{largestOf}
 use Rattle.block.specs.Block.{sampleAt, predictedAt}
-use Rattle.rebuild.specs.Block.{rebuilt, replayUnit}
+use Rattle.rebuilt.specs.Block.{rebuilt, replayUnit}
 use Rattle.walked.specs.Block.{stored, World, walked, walkUnit}
 use Rattle.block.specs.Bridge.{geoOf, bridge}
-use Rattle.rebuild.specs.Places.{place-up}
-use Rattle.rebuild.specs.Laws.{rebuilt-length}
+use Rattle.rebuilt.specs.Places.{place-up}
+use Rattle.rebuilt.specs.Laws.{rebuilt-length}
 use Rattle.walked.specs.Laws.{stored-length, stored-at}
 use Rattle.lossless.specs.Replay.{Replays, Sourced, Walks}
 

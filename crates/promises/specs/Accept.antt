@@ -21,11 +21,11 @@ use Rattle.plan.specs.Verdict.{Accepted, good-verdict}
 use Rattle.still.specs.declared.Still.{Still}
 use Rattle.walk.specs.declared.Stepped.{Stepped}
 use Rattle.still.specs.Checks.{largestOf, every, whole, roomy, residualOk, settle}
-use Rattle.rebuild.specs.Block.{replayUnit}
+use Rattle.rebuilt.specs.Block.{replayUnit}
 use Rattle.walked.specs.Block.{World, walked, walkUnit}
 use Rattle.calls.specs.Door.{verdictOf, replayVerdict, replayAfter, walkVerdict, walkAfter}
 use Rattle.calls.specs.Laws.{blocks-accepted, verdict-zero}
-use Rattle.rebuild.specs.Laws.{rebuilt-length}
+use Rattle.rebuilt.specs.Laws.{rebuilt-length}
 use Rattle.walked.specs.Laws.{stored-length}
 use Rattle.lossless.specs.Picture.{Whole}
 use Rattle.lossless.specs.Replay.{units-kept}

@@ -20,10 +20,10 @@ use Rattle.walk.specs.declared.Progress.{Progress}
 use Rattle.walk.specs.declared.Stepped.{Stepped}
 use Rattle.still.specs.Checks.{largestOf, every, residualOk}
 use Rattle.block.specs.Block.{sampleAt, predictedAt}
-use Rattle.rebuild.specs.Block.{replayUnit}
+use Rattle.rebuilt.specs.Block.{replayUnit}
 use Rattle.walked.specs.Block.{World, stored, walked, walkUnit}
 use Rattle.walk.specs.Door.{steppedBy}
-use Rattle.rebuild.specs.Laws.{rebuilt-length}
+use Rattle.rebuilt.specs.Laws.{rebuilt-length}
 use Rattle.lossless.specs.Picture.{Sample, OfS, Whole, look, predict, residual, less, local, rebuild-out, store-out, replays, sourced, walks-plan}
 use Rattle.lossless.specs.Replay.{units-kept, replay-same, replay-source, walks}
 use Rattle.promises.specs.Calls.{Job, Held, Served, blocks, count, residualAt, fresh, calls, walkNo, walkCall, replayNo, replayCall}

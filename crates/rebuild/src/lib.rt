@@ -9,7 +9,7 @@ ghost use Rattle.laws.specs.Paint.{paint};
 ghost use Rattle.laws.specs.Choose.{served};
 ghost use Rattle.h265.specs.Notation.{clipTo};
 ghost use Rattle.block.specs.Door.{numberOf, fits};
-ghost use Rattle.rebuild.specs.Block.{rebuilt};
+ghost use Rattle.rebuilt.specs.Block.{rebuilt};
 ghost use Rattle.block_rows.specs.Ready.{RowIn, RowsIn};
 use still::Still;
 use tiling::Block;

@@ -17,7 +17,7 @@ use Rattle.walk.specs.declared.Stepped.{Stepped}
 use Rattle.walked.specs.Block.{World}
 use Rattle.calls.specs.Door.{walkVerdict, walkAfter}
 use Rattle.walk.specs.Door.{steppedBy}
-use Rattle.rebuild.specs.Places.{place-in}
+use Rattle.rebuilt.specs.Places.{place-in}
 use Rattle.spans.specs.Spans.{absolutes}
 use Rattle.text.specs.Text.{laid, line}
 use Rattle.text.specs.Laws.{Laid, then, said}

@@ -12,7 +12,7 @@ use Rattle.plan.specs.Plan.{Plan, noBlock}
 use Rattle.plan.specs.Check.{planVerdict}
 use Rattle.still.specs.declared.Still.{Still}
 use Rattle.still.specs.Checks.{Tables, replayNo, walkNo, settle}
-use Rattle.rebuild.specs.Block.{replayUnit}
+use Rattle.rebuilt.specs.Block.{replayUnit}
 use Rattle.walked.specs.Block.{World, walkUnit}
 use Rattle.steps.specs.declared.Step.{Step}
 use Rattle.steps.specs.Steps.{stepBy}

@@ -7,7 +7,7 @@ use Rattle.tiling.specs.declared.Block.{Block}
 use Rattle.tiling.specs.Tiling.{place}
 use Rattle.still.specs.declared.Still.{Still}
 use Rattle.block.specs.Block.{sampleAt, predictedAt}
-use Rattle.rebuild.specs.Block.{rebuilt}
+use Rattle.rebuilt.specs.Block.{rebuilt}
 
 -- walk: the block's residuals are the source less the prediction from the work plane
 unfoldable pub stored : Still → List ℕ → Block → ℕ → List ℕ → List ℤ → List ℤ

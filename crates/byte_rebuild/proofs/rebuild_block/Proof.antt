@@ -6,7 +6,7 @@ use Rattle.laws.specs.Choose.{unserved}
 use Rattle.bytes.specs.Bytes.{samplesOf, residualsOf}
 use Rattle.block.specs.Door.{earlyNo}
 use Rattle.block.specs.Laws.{early-stops}
-use Rattle.rebuild.specs.Laws.{room, number-same, bits-are, rows-there, holds-it, rebuilt-is}
+use Rattle.rebuilt.specs.Laws.{room, number-same, bits-are, rows-there, holds-it, rebuilt-is}
 use Rattle.byte_rebuild.specs.Door.{byteFits}
 use Rattle.byte_rebuild.specs.Laws.{more, even, early-on, bytes-are}
 use borrow.Author.Needs.{needs}

@@ -12,8 +12,8 @@ use Rattle.bytes.specs.Laws.{samples-alike}
 use Rattle.tiling.specs.declared.Block.{Block}
 use Rattle.tiling.specs.Tiling.{place}
 use Rattle.plan.specs.Records.{recordsOf}
-use Rattle.rebuild.specs.Block.{rebuilt, replayUnit}
-use Rattle.rebuild.specs.Places.{place-none, place-more}
+use Rattle.rebuilt.specs.Block.{rebuilt, replayUnit}
+use Rattle.rebuilt.specs.Places.{place-none, place-more}
 use Rattle.calls.specs.Laws.{lies, ready}
 use Rattle.calls.specs.Turns.{turn-none, turn-more, turn-done}
 use borrow.Author.Needs.{needs}

@@ -5,7 +5,7 @@ use native.Mathlib.Omega.{arith}
 use Rattle.laws.specs.Chain.{units}
 use Rattle.bytes.specs.Bytes.{samplesOf, residualsOf}
 use Rattle.plan.specs.Records.{recordsOf}
-use Rattle.rebuild.specs.Block.{replayUnit}
+use Rattle.rebuilt.specs.Block.{replayUnit}
 use Rattle.calls.specs.Laws.{accepted-small}
 use borrow.Author.Needs.{needs}
 use Rattle.byte_replay.proofs.serve.Statement.{statement}

@@ -7,7 +7,7 @@ use Rattle.laws.specs.Choose.{if-yes, both-true, both-same, unserved}
 use Rattle.still.specs.Checks.{whole}
 use Rattle.block.specs.Door.{earlyNo, fits}
 use Rattle.block.specs.Laws.{early-stops}
-use Rattle.rebuild.specs.Laws.{room, number-same, bits-are, lies-there, rows-there, holds-it}
+use Rattle.rebuilt.specs.Laws.{room, number-same, bits-are, lies-there, rows-there, holds-it}
 use Rattle.coded.specs.Laws.{rows-fit, walked-is}
 use borrow.Author.Needs.{needs}
 use Rattle.coded.proofs.walk_block.Statement.{statement}

@@ -5,7 +5,7 @@ use lib.ListN.{length}
 use Rattle.laws.specs.Choose.{unserved}
 use Rattle.block.specs.Door.{earlyNo, fits}
 use Rattle.block.specs.Laws.{early-stops}
-use Rattle.rebuild.specs.Laws.{room, number-same, bits-are, rows-there, holds-it, rebuilt-is}
+use Rattle.rebuilt.specs.Laws.{room, number-same, bits-are, rows-there, holds-it, rebuilt-is}
 use borrow.Author.Needs.{needs}
 use Rattle.rebuild.proofs.rebuild_block.Statement.{statement}
 use Rattle.rebuild.proofs.rebuild_block.Tie as tie

@@ -6,7 +6,7 @@ use native.Mathlib.Omega.{arith}
 use lib.ListN.{length}
 use Rattle.plan.specs.Plan.{planOf}
 use Rattle.tiling.specs.Tiling.{place}
-use Rattle.rebuild.specs.Places.{place-none, place-more}
+use Rattle.rebuilt.specs.Places.{place-none, place-more}
 use Rattle.report.specs.Told.{lines}
 use Rattle.spans.specs.Laws.{sum-there}
 use Rattle.text.specs.Laws.{Laid, said, line-room, lands-at}

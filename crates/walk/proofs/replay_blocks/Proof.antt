@@ -10,8 +10,8 @@ use Rattle.laws.specs.Chain.{units}
 use Rattle.tiling.specs.declared.Block.{Block}
 use Rattle.plan.specs.Plan.{planOf}
 use Rattle.tiling.specs.Tiling.{place}
-use Rattle.rebuild.specs.Block.{rebuilt, replayUnit}
-use Rattle.rebuild.specs.Places.{place-none, place-more}
+use Rattle.rebuilt.specs.Block.{rebuilt, replayUnit}
+use Rattle.rebuilt.specs.Places.{place-none, place-more}
 use Rattle.calls.specs.Laws.{lies, ready}
 use Rattle.calls.specs.Turns.{turn-none, turn-more, turn-done}
 use borrow.Author.Needs.{needs}

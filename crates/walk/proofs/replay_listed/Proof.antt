@@ -58,10 +58,10 @@ use Rattle.scratch.specs.declared.AngularScratch.{AngularScratch}
 use Rattle.scratch.proofs.AngularScratch as G
 use Rattle.scratch.proofs.Tables.{Long, made, Loan, tableAt, Tokens, Lent, Kept, Holds, lend, regain}
 use Rattle.still.specs.declared.Still.{Still}
-use Rattle.rebuild.specs.Block.{rebuilt, replayUnit}
+use Rattle.rebuilt.specs.Block.{rebuilt, replayUnit}
 use Rattle.block.specs.Ready.{Ready}
-use Rattle.rebuild.specs.Ready.{Lies}
-use Rattle.rebuild.specs.Places.{place-none, place-more}
+use Rattle.rebuilt.specs.Ready.{Lies}
+use Rattle.rebuilt.specs.Places.{place-none, place-more}
 use Rattle.calls.specs.Ready.{Sound, ReplayReady}
 use Rattle.calls.specs.Laws.{lies, ready}
 use Rattle.calls.specs.Turns.{turn-none, turn-more}

@@ -11,7 +11,7 @@ use Rattle.tiling.specs.declared.Block.{Block}
 use Rattle.plan.specs.Plan.{planOf}
 use Rattle.tiling.specs.Tiling.{place}
 use Rattle.walked.specs.Block.{World, walked, walkUnit}
-use Rattle.rebuild.specs.Places.{place-none, place-more}
+use Rattle.rebuilt.specs.Places.{place-none, place-more}
 use Rattle.calls.specs.Laws.{lies, ready}
 use Rattle.calls.specs.Turns.{turn-none, turn-more, turn-done}
 use borrow.Author.Needs.{needs}

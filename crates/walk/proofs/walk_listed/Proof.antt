@@ -60,8 +60,8 @@ use Rattle.scratch.proofs.Tables.{Long, made, Loan, tableAt, Tokens, Lent, Kept
 use Rattle.still.specs.declared.Still.{Still}
 use Rattle.walked.specs.Block.{World, walked as doneBlock, walkUnit}
 use Rattle.block.specs.Ready.{Ready}
-use Rattle.rebuild.specs.Ready.{Lies}
-use Rattle.rebuild.specs.Places.{place-none, place-more}
+use Rattle.rebuilt.specs.Ready.{Lies}
+use Rattle.rebuilt.specs.Places.{place-none, place-more}
 use Rattle.calls.specs.Ready.{Sound, WalkReady}
 use Rattle.calls.specs.Laws.{lies, ready}
 use Rattle.calls.specs.Turns.{turn-none, turn-more}

@@ -60,7 +60,7 @@ use Rattle.walk.specs.declared.Progress.{Progress}
 use Rattle.still.specs.declared.Still.{Still}
 use Rattle.walk.specs.declared.Stepped.{Stepped}
 use Rattle.walk.specs.declared.Call.{Call}
-use Rattle.rebuild.specs.Block.{replayUnit}
+use Rattle.rebuilt.specs.Block.{replayUnit}
 use Rattle.calls.specs.Door.{replayVerdict, replayAfter}
 use Rattle.walk.specs.Door.{steppedBy}
 use Rattle.still.specs.Checks.{replayNo, settle}

@@ -27,8 +27,8 @@ use Rattle.block.specs.Ready.{Ready}
 use Rattle.block.specs.Laws.{Passed, early-passed, is-ready, parts, side, square}
 use Rattle.block_rows.specs.Ready.{RowsIn}
 use Rattle.block_rows.specs.Laws.{restored-at}
-use Rattle.rebuild.specs.Block.{rebuilt}
-use Rattle.rebuild.specs.Ready.{Lies, Predicted}
+use Rattle.rebuilt.specs.Block.{rebuilt}
+use Rattle.rebuilt.specs.Ready.{Lies, Predicted}
 
 -- a block that is ready is served
 module _ (s : Still) (b : Block) (plane : ℕ) (t : Tables) (h : Ready s b plane t) where
