@@ -54,7 +54,7 @@ fit bits n mode l e =
 abbrev short : ℕ → ℕ → ℕ → ℕ → Lent
 short above left pred n = record { above = above; left = left; pred = pred; refs = 65 + 2 * n; indices = 0; fractions = 0 }
 
-fit-short : (bits n mode above left pred : ℕ) → angularShortNo bits n mode above left pred ≡ 0
+pub fit-short : (bits n mode above left pred : ℕ) → angularShortNo bits n mode above left pred ≡ 0
     → Fit bits n mode (short above left pred n)
 unfolding angularShortNo
 fit-short bits n mode above left pred e =
