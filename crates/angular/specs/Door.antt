@@ -1,13 +1,13 @@
 -- What a call to the angular door has where its number is 0. Rests on the numbers.
-use mathlib.Core.Path.{_≡_}
+use mathlib.Core.Path.{_≡_, subst}
 use mathlib.Core.Bool.{_&&_}
-use Prim.Native.Nat.{ℕ, _*_, _≤_, _<_}
+use Prim.Native.Nat.{ℕ, _+_, _*_, _≤_, _<_}
 use native.Mathlib.Omega.{arith}
 use lib.Dec.{leb}
 use borrow.Author.Tests.{leb-true}
 use Rattle.laws.specs.Choose.{passed, both-true}
 use Rattle.domain.specs.Domain.{depthOk, sizeOk, modeOk, predictorRow}
-use Rattle.domain.specs.Facts.{Depth, Size, at-size, depth-of, size-of}
+use Rattle.domain.specs.Facts.{Depth, Size, at-size, depth-of, size-of, size-small}
 use Rattle.numbers.specs.Numbers.{Lent, enough, angularNo, angularShortNo}
 
 -- what a call that is served has
@@ -19,7 +19,7 @@ pub record Fit (bits n mode : ℕ) (l : Lent) : Type 0 where
   pub above : 2 * n ≤ l .above
   pub left : 2 * n ≤ l .left
   pub room : n * n ≤ l .pred
-  pub refs : 129 ≤ l .refs
+  pub refs : 65 + 2 * n ≤ l .refs
 
 -- a row that is long enough has the 2n entries that prediction reads
 long : (n k : ℕ) → Size n → predictorRow n ≤ k → 2 * n ≤ k
@@ -47,11 +47,15 @@ fit bits n mode l e =
       above = long n (l .above) size (leb-true _ _ (f .0));
       left = long n (l .left) size (leb-true _ _ (f .1));
       room = leb-true _ _ (d .1);
-      refs = let h : 193 ≤ l .refs = leb-true _ _ (c .1) in omega arith;
+      refs = let h : 193 ≤ l .refs = leb-true _ _ (c .1) in omega (arith, size-small n size);
     }
 
+-- what a call from rows of 2n entries lends, with a table of its own
+abbrev short : ℕ → ℕ → ℕ → ℕ → Lent
+short above left pred n = record { above = above; left = left; pred = pred; refs = 65 + 2 * n; indices = 0; fractions = 0 }
+
 pub fit-short : (bits n mode above left pred : ℕ) → angularShortNo bits n mode above left pred ≡ 0
-    → Fit bits n mode (record { above = above; left = left; pred = pred; refs = 129; indices = 0; fractions = 0 })
+    → Fit bits n mode (short above left pred n)
 unfolding angularShortNo
 fit-short bits n mode above left pred e =
     let p = passed (depthOk bits) _ 1 (omega arith) e in
@@ -72,3 +76,7 @@ fit-short bits n mode above left pred e =
       room = leb-true _ _ (d .1);
       refs = omega arith;
     }
+
+-- the same at the number that n was found to be
+pub fit-at : (bits n mode above left pred m : ℕ) → n ≡ m → angularShortNo bits n mode above left pred ≡ 0 → Fit bits m mode (short above left pred m)
+fit-at bits n mode above left pred m e h = subst (λ (k : ℕ). Fit bits k mode (short above left pred k)) e (fit-short bits n mode above left pred h)

@@ -280,7 +280,7 @@ fn lowers(corner: u16, side: &[u16], inv: usize, lo: usize, count: usize, refs: 
 }
 
 fn main_refs(main: &[u16], n: usize, refs: &mut [u16])
-    requires { ⌜ Size n × ((2 * n ≤ length (now main)) × (97 ≤ length (now refs))) ⌝ }
+    requires { ⌜ Size n × ((2 * n ≤ length (now main)) × (65 + n ≤ length (now refs))) ⌝ }
     ensures { λ _. ⌜ now (refs .exit) ≡ run (λ (c : ℕ). getD (now (main .entry)) (0 + c) 0) 65 n (now (refs .entry)) ⌝ }
 {
     match n {
@@ -293,7 +293,7 @@ fn main_refs(main: &[u16], n: usize, refs: &mut [u16])
 
 // The references of a negative angle, as far as they are read.
 fn build(corner: u16, main: &[u16], side: &[u16], e: usize, inv: usize, n: usize, refs: &mut [u16])
-    requires { ⌜ (e < 32) × ((sideOf inv (firstOf e n) ≤ 2 * n) × (Size n × ((2 * n ≤ length (now main)) × ((2 * n ≤ length (now side)) × (129 ≤ length (now refs)))))) ⌝ }
+    requires { ⌜ (e < 32) × ((sideOf inv (firstOf e n) ≤ 2 * n) × (Size n × ((2 * n ≤ length (now main)) × ((2 * n ≤ length (now side)) × (65 + 2 * n ≤ length (now refs)))))) ⌝ }
     ensures { λ _. ⌜ now (refs .exit) ≡ run (λ (i : ℕ). refAt (fromRows corner (now (main .entry)) (now (side .entry))) inv (firstOf e n + i)) (firstOf e n) (65 + n - firstOf e n) (now (refs .entry)) ⌝ }
 {
     let lo = lines::first(e as u32, n as u32);
@@ -355,7 +355,7 @@ fn vertical(
     pred: &mut [u16],
     refs: &mut [u16],
 )
-    requires { ⌜ Size n × ((d < 17) × ((2 * n ≤ length (now main)) × ((2 * n ≤ length (now side)) × ((n * n ≤ length (now pred)) × (129 ≤ length (now refs)))))) ⌝ }
+    requires { ⌜ Size n × ((d < 17) × ((2 * n ≤ length (now main)) × ((2 * n ≤ length (now side)) × ((n * n ≤ length (now pred)) × (65 + 2 * n ≤ length (now refs)))))) ⌝ }
     ensures { λ _. ⌜ now (pred .exit) ≡ block (sampleAt (fromRows corner (now (main .entry)) (now (side .entry))) (getD turns d 0) (getD bends d 0)) n (now (pred .entry)) ⌝ }
 {
     let e = turn(d);
@@ -385,7 +385,7 @@ fn horizontal(
     pred: &mut [u16],
     refs: &mut [u16],
 )
-    requires { ⌜ Size n × ((d < 17) × ((2 * n ≤ length (now main)) × ((2 * n ≤ length (now side)) × ((n * n ≤ length (now pred)) × (129 ≤ length (now refs)))))) ⌝ }
+    requires { ⌜ Size n × ((d < 17) × ((2 * n ≤ length (now main)) × ((2 * n ≤ length (now side)) × ((n * n ≤ length (now pred)) × (65 + 2 * n ≤ length (now refs)))))) ⌝ }
     ensures { λ _. ⌜ now (pred .exit) ≡ block (λ (r c : ℕ). sampleAt (fromRows corner (now (main .entry)) (now (side .entry))) (getD turns d 0) (getD bends d 0) c r) n (now (pred .entry)) ⌝ }
 {
     let e = turn(d);
@@ -463,7 +463,7 @@ fn work(
     pred: &mut [u16],
     refs: &mut [u16],
 )
-    requires { ⌜ Depth bits × (Size n × ((2 ≤ mode) × ((mode < 35) × ((2 * n ≤ length (now above)) × ((2 * n ≤ length (now left)) × ((n * n ≤ length (now pred)) × (129 ≤ length (now refs)))))))) ⌝ }
+    requires { ⌜ Depth bits × (Size n × ((2 ≤ mode) × ((mode < 35) × ((2 * n ≤ length (now above)) × ((2 * n ≤ length (now left)) × ((n * n ≤ length (now pred)) × (65 + 2 * n ≤ length (now refs)))))))) ⌝ }
     ensures { λ _. ⌜ now (pred .exit) ≡ block (λ (y x : ℕ). angular bits edge n mode (fromRows corner (now (above .entry)) (now (left .entry))) x y) n (now (pred .entry)) ⌝ }
 {
     match mode {
@@ -522,7 +522,7 @@ pub fn predict_angular_slices(
     no
 }
 
-// From rows of 2n entries, all that is read, with a table of its own.
+// From rows of 2n entries, all that is read, with a table of its own, as long as the side asks: a short one is cleared in place.
 pub fn angular_2n(
     corner: u16,
     above: &[u16],
@@ -537,18 +537,64 @@ pub fn angular_2n(
 {
     let no = numbers::angular_short_no(bits, n, mode, above.len(), left.len(), pred.len());
     if no == 0 {
-        let mut refs = [0u16; 129];
-        work(
-            corner,
-            above,
-            left,
-            n,
-            mode as usize,
-            filter_boundary,
-            bits,
-            &mut *pred,
-            &mut refs,
-        );
+        match n {
+            4 => {
+                let mut refs = [0u16; 73];
+                work(
+                    corner,
+                    above,
+                    left,
+                    4,
+                    mode as usize,
+                    filter_boundary,
+                    bits,
+                    &mut *pred,
+                    &mut refs,
+                );
+            }
+            8 => {
+                let mut refs = [0u16; 81];
+                work(
+                    corner,
+                    above,
+                    left,
+                    8,
+                    mode as usize,
+                    filter_boundary,
+                    bits,
+                    &mut *pred,
+                    &mut refs,
+                );
+            }
+            16 => {
+                let mut refs = [0u16; 97];
+                work(
+                    corner,
+                    above,
+                    left,
+                    16,
+                    mode as usize,
+                    filter_boundary,
+                    bits,
+                    &mut *pred,
+                    &mut refs,
+                );
+            }
+            _ => {
+                let mut refs = [0u16; 129];
+                work(
+                    corner,
+                    above,
+                    left,
+                    32,
+                    mode as usize,
+                    filter_boundary,
+                    bits,
+                    &mut *pred,
+                    &mut refs,
+                );
+            }
+        }
     }
     no
 }

@@ -90,44 +90,24 @@ fn dc_by(
 }
 
 // Without an edge the block is one value, of n samples of each row: it goes to the bytes straight away.
-fn dc_flat(above: &[u8], left: &[u8], n: usize, a: &mut [u16], l: &mut [u16], out: &mut [u8])
-    requires { ⌜ Fit n (length (now above)) (length (now left)) (length (now out)) × (n ≤ length (now a)) × (n ≤ length (now l)) ⌝ }
+fn dc_flat(above: &[u8], left: &[u8], n: usize, out: &mut [u8])
+    requires { ⌜ Fit n (length (now above)) (length (now left)) (length (now out)) ⌝ }
     ensures { λ _. ⌜ now (out .exit) ≡ blockIn (dcIn false n (now (above .entry)) (now (left .entry))) n (now (out .entry)) ⌝ }
 {
-    pairs::read(above, n / 2, &mut *a);
-    pairs::read(left, n / 2, &mut *l);
-    let v = flat::dc_value(&*a, &*l, n);
-    pairs::flood(v, n * n, &mut *out);
+    let all = pairs::total(above, n / 2) + pairs::total(left, n / 2);
+    pairs::flood(taps::mean(all, n), n * n, &mut *out);
 }
 
-// The edge is a constant of each arm, too. A small block is faster by way of a local one.
+// The edge is a constant of each arm, too.
 fn dc_plain(n: usize, above: &[u8], left: &[u8], out: &mut [u8])
     requires { ⌜ Fit n (length (now above)) (length (now left)) (length (now out)) ⌝ }
     ensures { λ _. ⌜ now (out .exit) ≡ blockIn (dcIn false n (now (above .entry)) (now (left .entry))) n (now (out .entry)) ⌝ }
 {
     match n {
-        4 => {
-            let mut a = [0u16; 8];
-            let mut l = [0u16; 8];
-            let mut pred = [0u16; 16];
-            dc_by(above, left, 4, false, &mut a, &mut l, &mut pred, &mut *out);
-        }
-        8 => {
-            let mut a = [0u16; 16];
-            let mut l = [0u16; 16];
-            let mut pred = [0u16; 64];
-            dc_by(above, left, 8, false, &mut a, &mut l, &mut pred, &mut *out);
-        }
-        16 => {
-            let mut a = [0u16; 16];
-            let mut l = [0u16; 16];
-            dc_flat(above, left, 16, &mut a, &mut l, &mut *out);
-        }
-        _ => {
-            let mut a = [0u16; 32];
-            let mut l = [0u16; 32];
-            dc_flat(above, left, 32, &mut a, &mut l, &mut *out);
-        }
+        4 => dc_flat(above, left, 4, &mut *out),
+        8 => dc_flat(above, left, 8, &mut *out),
+        16 => dc_flat(above, left, 16, &mut *out),
+        _ => dc_flat(above, left, 32, &mut *out),
     }
 }
 
@@ -155,11 +135,7 @@ fn dc_edged(n: usize, above: &[u8], left: &[u8], out: &mut [u8])
             let mut pred = [0u16; 256];
             dc_by(above, left, 16, true, &mut a, &mut l, &mut pred, &mut *out);
         }
-        _ => {
-            let mut a = [0u16; 32];
-            let mut l = [0u16; 32];
-            dc_flat(above, left, 32, &mut a, &mut l, &mut *out);
-        }
+        _ => dc_flat(above, left, 32, &mut *out),
     }
 }
 

@@ -52,7 +52,3 @@ dc-quotient n s nb all e = rw (e, halves n s)
 
 pub dc-mean : (n : ℕ) → Size n → (nb : Neighbours) (s : ℕ) → Total nb n s → meanOf n s ≡ dcVal n nb
 dc-mean n s nb all t = mean-is n all s (t .most) ∙ dc-quotient n s nb all (t .is)
-
--- the DC value of two lists, where n is a side and each has n entries
-unfoldable pub valueOf : ℕ → List ℕ → List ℕ → ℕ
-valueOf n above left = cond (sizeOk n) (cond (leb n (length above) && leb n (length left)) (dcVal n (fromRows 0 above left)) 0) 0

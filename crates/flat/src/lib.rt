@@ -13,7 +13,7 @@ ghost use Rattle.domain.specs.Facts.{Size};
 ghost use Rattle.taps.specs.Taps.{blended};
 ghost use Rattle.numbers.specs.Numbers.{flatNo, flatShortNo};
 ghost use Rattle.flat.specs.Flat.{Ready, planarMix};
-ghost use Rattle.flat.specs.Text.{Total, valueOf};
+ghost use Rattle.flat.specs.Text.{Total};
 ghost use Rattle.flat.specs.Stores.{heads};
 ghost use Rattle.flat.specs.Edge.{edges};
 
@@ -258,17 +258,4 @@ pub fn dc_2n(above: &[u16], left: &[u16], n: usize, filter_boundary: bool, pred:
         dc_n(above, left, all, n, filter_boundary, &mut *pred);
     }
     no
-}
-
-// The value of a DC block, from the first n entries of both rows; 0 where there is none.
-pub fn dc_value(above: &[u16], left: &[u16], n: usize) -> u16
-    ensures { λ r. ⌜ r ≡ valueOf n (now (above .entry)) (now (left .entry)) ⌝ }
-{
-    if !domain::size_ok(n) {
-        return 0;
-    }
-    if (above.len() >= n) & (left.len() >= n) {
-        return taps::mean(total(above, left, n), n);
-    }
-    0
 }

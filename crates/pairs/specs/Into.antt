@@ -8,6 +8,7 @@ use lib.ListN.{length, getD, set}
 use Rattle.laws.specs.Fill.{fill}
 use Rattle.laws.specs.Bytes.{byteOf}
 use Rattle.bytes.specs.Bytes.{byte1, samplesOf}
+use Rattle.h265.specs.Dc.{sum}
 
 -- work that is done where its count is at most m and its lists are long enough
 abbrev pub within : ℕ → ℕ → Bool → List ℕ → List ℕ → List ℕ
@@ -16,6 +17,10 @@ within m count long work kept = cond (leb count m) (cond long work kept) kept
 -- the first samples of bytes
 unfoldable pub readInto : ℕ → List ℕ → List ℕ → List ℕ
 readInto count row d = within 32 count (leb (4 * count) (length row) && leb (2 * count) (length d)) (fill (λ i. getD (samplesOf row) i 0) (2 * count) d) d
+
+-- their sum
+unfoldable pub sumIn : ℕ → List ℕ → ℕ
+sumIn count row = cond (leb count 32) (cond (leb (4 * count) (length row)) (sum (λ i. getD (samplesOf row) i 0) (2 * count)) 0) 0
 
 -- the bytes of the first samples
 unfoldable pub storeInto : ℕ → List ℕ → List ℕ → List ℕ

@@ -11,8 +11,9 @@ use borrow.Author.Tests.{le-leb}
 use Rattle.laws.specs.Fill.{fill}
 use Rattle.laws.specs.FillLaws.{fill-more}
 use Rattle.laws.specs.Bytes.{byteOf, byte-at}
+use Rattle.h265.specs.Dc.{sum}
 use Rattle.bytes.specs.Bytes.{byte1, samplesOf}
-use Rattle.pairs.specs.Into.{within, readInto, storeInto, floodInto, put}
+use Rattle.pairs.specs.Into.{within, readInto, sumIn, storeInto, floodInto, put}
 
 -- both bytes of a sample
 byte-low : (f : ℕ → ℕ) (i : ℕ) → f i % 256 ≡ byteOf 2 f (2 * i)
@@ -39,6 +40,10 @@ pub store-done : (count : ℕ) (samples d : List ℕ) → count ≤ 512 → 2 * 
     → storeInto count samples d ≡ fill (byteOf 2 (λ i. getD samples i 0)) (4 * count) d
 unfolding storeInto
 store-done count samples d h p q = enough 512 count (leb (2 * count) (length samples) && leb (4 * count) (length d)) _ _ h (rw (le-leb (2 * count) (length samples) p, le-leb (4 * count) (length d) q))
+
+pub total-done : (count : ℕ) (row : List ℕ) → count ≤ 32 → 4 * count ≤ length row → sumIn count row ≡ sum (λ (i : ℕ). getD (samplesOf row) i 0) (2 * count)
+unfolding sumIn
+total-done count row h p = rw (le-leb count 32 h, le-leb (4 * count) (length row) p)
 
 pub flood-done : (v count : ℕ) (d : List ℕ) → count ≤ 1024 → 2 * count ≤ length d → floodInto v count d ≡ fill (byteOf 2 (λ i. v)) (2 * count) d
 unfolding floodInto

@@ -8,7 +8,8 @@ ghost use Rattle.laws.specs.Bytes.{byteOf};
 ghost use Rattle.bytes.specs.Bytes.{byte1, byte2, byte3, samplesOf};
 ghost use Rattle.bytes.specs.Laws.{AreBytes, Below};
 ghost use Rattle.pairs.specs.Words.{pairOf, Paired, halfOf};
-ghost use Rattle.pairs.specs.Into.{readInto, storeInto, floodInto, put};
+ghost use Rattle.h265.specs.Dc.{sum};
+ghost use Rattle.pairs.specs.Into.{readInto, sumIn, storeInto, floodInto, put};
 
 // A byte as a wider number, and that it is one.
 fn byte_at(row: &[u8], k: usize) -> u32
@@ -67,6 +68,31 @@ pub fn read(row: &[u8], count: usize, out: &mut [u16])
     if (row.len() >= 4 * count) & (out.len() >= 2 * count) {
         read_all(row, count, &mut *out);
     }
+}
+
+fn sum_all(row: &[u8], count: usize) -> u32
+    requires { ⌜ (count ≤ 32) × (4 * count ≤ length (now row)) ⌝ }
+    ensures { λ r. ⌜ (r ≡ sum (λ (i : ℕ). getD (samplesOf (now (row .entry))) i 0) (2 * count)) × (r ≤ 131070 * count) ⌝ }
+{
+    let mut all: u32 = 0;
+    for i in 0..count {
+        let w = pair_in(row, i);
+        all = all + (w % 65536 + w / 65536);
+    }
+    all
+}
+
+// The sum of the first 2 · count samples of a row, at most 64, in pairs as they stand: 0 where the row is too short.
+pub fn total(row: &[u8], count: usize) -> u32
+    ensures { λ r. ⌜ (r ≡ sumIn count (now (row .entry))) × (r ≤ 131070 * count) ⌝ }
+{
+    if count > 32 {
+        return 0;
+    }
+    if row.len() >= 4 * count {
+        return sum_all(row, count);
+    }
+    0
 }
 
 fn sample_at(samples: &[u16], k: usize) -> u32
@@ -152,6 +178,15 @@ fn flood_all(v: u16, count: usize, out: &mut [u8])
     }
 }
 
+// Sixteen of them go by way of numbers of 32 bits: blocks of four and of eight have no stores alike then, which the compiler would make one of.
+fn flood_few(v: u16, out: &mut [u8])
+    requires { ⌜ 32 ≤ length (now out) ⌝ }
+    ensures { λ _. ⌜ now (out .exit) ≡ fill (byteOf 2 (λ (i : ℕ). v)) 32 (now (out .entry)) ⌝ }
+{
+    let words = [(v as u32) + 65536 * (v as u32); 8];
+    spread(&words, 8, &mut *out);
+}
+
 // One sample `count` times, at most 1024.
 pub fn flood(v: u16, count: usize, out: &mut [u8])
     ensures { λ _. ⌜ now (out .exit) ≡ floodInto v count (now (out .entry)) ⌝ }
@@ -160,6 +195,10 @@ pub fn flood(v: u16, count: usize, out: &mut [u8])
         return;
     }
     if out.len() >= 2 * count {
-        flood_all(v, count, &mut *out);
+        if count == 16 {
+            flood_few(v, &mut *out);
+        } else {
+            flood_all(v, count, &mut *out);
+        }
     }
 }

@@ -47,14 +47,8 @@ slice-aggregate-dc-by-9 c = search needs
 dc-by-requires-3 : tie.Need-dc-by-requires-3
 dc-by-requires-3 c κs = (as-found _ _ _ _ _ (c .before .before .before .before .match .keys3) (c .before .before .before .before .before .before .before .before .pre), search needs, search needs, search needs)
 
-slice-aggregate-dc-flat : tie.Need-slice-aggregate-dc-flat
-slice-aggregate-dc-flat c = search needs
-
-slice-aggregate-dc-flat-2 : tie.Need-slice-aggregate-dc-flat-2
-slice-aggregate-dc-flat-2 c = search needs
-
 dc-flat-requires : tie.Need-dc-flat-requires
-dc-flat-requires c κs = (as-found _ _ _ _ _ (key (c .before .before .before)) (c .before .before .before .before .before .before .before .pre), search needs, search needs)
+dc-flat-requires c κs = as-found _ _ _ _ _ (key (c .before)) (c .before .before .before .before .before .pre)
 
 same-length : tie.Need-same-length
 same-length c = search needs
@@ -78,7 +72,7 @@ same-length-4 : tie.Need-same-length-4
 same-length-4 c = search needs
 
 returns-4 : tie.Need-returns-4
-returns-4 c = rw (key (c .before .before .before .before .before .before .before .before)) (c .before .before .before .before .dc-flat .ensures ∙ no-edge _ _ _)
+returns-4 c = rw (key (c .before .before .before .before)) (c .before .before .dc-flat .ensures ∙ no-edge _ _ _)
 
 pub dc-edged-spec : {M : Type 1} → statement M
 dc-edged-spec =
@@ -96,8 +90,6 @@ dc-edged-spec =
     slice-aggregate-dc-by-8
     slice-aggregate-dc-by-9
     dc-by-requires-3
-    slice-aggregate-dc-flat
-    slice-aggregate-dc-flat-2
     dc-flat-requires
     same-length
     returns
