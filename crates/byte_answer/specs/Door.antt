@@ -13,7 +13,6 @@ use Rattle.tiling.specs.Tiling.{pictureOf}
 use Rattle.plan.specs.Records.{recordsOf, wholeRecords}
 use Rattle.still.specs.declared.Still.{Still}
 use Rattle.still.specs.Checks.{every, residualOk}
-use Rattle.walk.specs.declared.Progress.{Progress}
 use Rattle.calls.specs.Door.{verdictOf}
 
 -- what a call is lent: the plan's and the residuals' bytes, and how many the plane and the result buffer have
@@ -30,10 +29,10 @@ wholeBy s each len = eqb len (each * (s .frame .height * s .frame .width))
 abbrev pub bytesFit : Still → Lent → Bool
 bytesFit s l = wholeBy s 2 (l .plane) && wholeBy s 4 (length (l .residuals)) && wholeRecords (l .plan) && leb 8 (l .result)
 
--- the verdict on a call: 1, 4, 5, then 8 over every residual, then the plan's, then 11
-unfoldable pub byteVerdict : Still → Progress → Lent → Verdict
-byteVerdict s p l =
-    verdictOf s (recordsOf (l .plan)) (p .done)
+-- the verdict on a call with so many blocks done: 1, 4, 5, then 8 over every residual, then the plan's, then 11
+unfoldable pub byteVerdict : Still → ℕ → Lent → Verdict
+byteVerdict s done l =
+    verdictOf s (recordsOf (l .plan)) done
     (firstFail
     ((1 unless depthOk (s .bits)) ∷ (4 unless pictureOk (pictureOf (s .frame)))
     ∷ (5 unless bytesFit s l) ∷ (8 unless every residualOk (residualsOf (l .residuals))) ∷ []))

@@ -1,4 +1,4 @@
--- What joins the functions that check a call on bytes and answer it. Rests on the walk's laws and on those of bytes.
+-- What joins the functions that check a call on bytes and answer it. Rests on the laws of calls and on those of bytes.
 use mathlib.Core.Path.{_≡_, refl, sym, ap, _∙_}
 use mathlib.Core.Bool.{Bool, true, false, _&&_}
 use mathlib.Core.List.{List}
@@ -19,7 +19,6 @@ use Rattle.plan.specs.Check.{planVerdict}
 use Rattle.plan.specs.Records.{recordsOf, wholeRecords, bytesVerdict}
 use Rattle.still.specs.declared.Still.{Still}
 use Rattle.still.specs.Checks.{every, residualOk, callNo, settle}
-use Rattle.walk.specs.declared.Progress.{Progress}
 use Rattle.calls.specs.Door.{verdictOf}
 use Rattle.calls.specs.Laws.{settle-is}
 use Rattle.byte_answer.specs.Door.{Lent, bytesFit, byteVerdict, answered}
@@ -65,9 +64,9 @@ abbrev pub byteNo : Still → Lent → ℕ
 byteNo s l = callNo s (bytesFit s l) 8 (every residualOk (residualsOf (l .residuals)))
 
 -- the verdict, from the number of the checks before the plan's
-verdict-from : (s : Still) (p : Progress) (l : Lent) (v : Verdict) (early : ℕ) → early ≡ byteNo s l → v ≡ verdictOf s (recordsOf (l .plan)) (p .done) early → v ≡ byteVerdict s p l
+verdict-from : (s : Still) (done : ℕ) (l : Lent) (v : Verdict) (early : ℕ) → early ≡ byteNo s l → v ≡ verdictOf s (recordsOf (l .plan)) done early → v ≡ byteVerdict s done l
 unfolding byteVerdict
-verdict-from s p l v early e q = q ∙ ap (verdictOf s (recordsOf (l .plan)) (p .done)) e
+verdict-from s done l v early e q = q ∙ ap (verdictOf s (recordsOf (l .plan)) done) e
 
 -- number 0 of 1, 4, 5, 8: the picture is good, and the plan is whole records
 early-good : (s : Still) (l : Lent) → byteNo s l ≡ 0 → (pictureOk (pictureOf (s .frame)) ≡ true) × (wholeRecords (l .plan) ≡ true)
@@ -77,11 +76,11 @@ early-good s l z =
     (b .0, fitting s l (passed (bytesFit s l) _ 5 (omega arith) (b .1) .0) .records)
 
 -- the verdict, from the plan's on its bytes
-pub settled-bytes : (s : Still) (p : Progress) (l : Lent) (found v : Verdict) (early : ℕ) → early ≡ byteNo s l → found ≡ bytesVerdict (s .frame) (l .plan)
-    → v ≡ settle found (length (l .plan) / 6) (p .done) early → v ≡ byteVerdict s p l
-settled-bytes s p l found v early e f q =
+pub settled-bytes : (s : Still) (done : ℕ) (l : Lent) (found v : Verdict) (early : ℕ) → early ≡ byteNo s l → found ≡ bytesVerdict (s .frame) (l .plan)
+    → v ≡ settle found (length (l .plan) / 6) done early → v ≡ byteVerdict s done l
+settled-bytes s done l found v early e f q =
     let good : early ≡ 0 → (pictureOk (pictureOf (s .frame)) ≡ true) × (wholeRecords (l .plan) ≡ true) = λ z. early-good s l (sym e ∙ z) in
-    verdict-from s p l v early e (q ∙ settle-is s (recordsOf (l .plan)) (p .done) early found (λ z. f ∙ whole-verdict (s .frame) (l .plan) (good z .1)) (λ z. good z .0))
+    verdict-from s done l v early e (q ∙ settle-is s (recordsOf (l .plan)) done early found (λ z. f ∙ whole-verdict (s .frame) (l .plan) (good z .1)) (λ z. good z .0))
 
 -- four stores of a number, and two numbers that answer a call
 abbrev pub wordAt : List ℕ → ℕ → ℕ → List ℕ

@@ -8,7 +8,6 @@ ghost use Rattle.byte_answer.specs.Door.{wholeBy, byteVerdict, answered}
 ghost use Rattle.byte_answer.specs.Laws.{wordAt, byteNo};
 use plan::Verdict;
 use still::Still;
-use walk::Progress;
 
 // Number 5: whether there are two bytes for each sample and four for each residual.
 fn are_whole(s: Still, plane: usize, residuals: usize) -> bool
@@ -37,18 +36,18 @@ fn early_no(s: Still, plan: &[u8], residuals: &[u8], plane: usize, result: usize
 
 // The number of the checks before the plan's, then the plan's, then 11.
 pub fn verdict(
-    p: Progress,
+    done: u32,
     s: Still,
     plan: &[u8],
     residuals: &[u8],
     plane: usize,
     result: usize,
 ) -> Verdict
-    ensures { λ v. ⌜ v ≡ byteVerdict s p (record { plan = now (plan .entry); residuals = now (residuals .entry); plane = plane; result = result }) ⌝ }
+    ensures { λ v. ⌜ v ≡ byteVerdict s done (record { plan = now (plan .entry); residuals = now (residuals .entry); plane = plane; result = result }) ⌝ }
 {
     let early = early_no(s, plan, residuals, plane, result);
     let found = plan::check_plan_bytes(s.frame, plan);
-    still::settled(p.done, plan.len() / 6, found, early)
+    still::settled(done, plan.len() / 6, found, early)
 }
 
 // Stores a number of four bytes.
@@ -63,11 +62,11 @@ fn put_word(b: &mut [u8], at: usize, v: u32)
 }
 
 // Writes the block number and the progress record into a result buffer that has room for them.
-pub fn answer(result: &mut [u8], block: u32, next: Progress)
-    ensures { λ _. ⌜ now (result .exit) ≡ answered block (next .done) (now (result .entry)) ⌝ }
+pub fn answer(result: &mut [u8], block: u32, next: u32)
+    ensures { λ _. ⌜ now (result .exit) ≡ answered block next (now (result .entry)) ⌝ }
 {
     if result.len() >= 8 {
         put_word(result, 0, block);
-        put_word(result, 4, next.done);
+        put_word(result, 4, next);
     }
 }

@@ -20,7 +20,6 @@ use Rattle.still.specs.declared.Still.{Still}
 use Rattle.steps.specs.Steps.{doing}
 use Rattle.rebuilt.specs.Block.{replayUnit}
 use Rattle.rebuilt.specs.Laws.{rebuilt-length}
-use Rattle.walk.specs.declared.Progress.{Progress}
 use Rattle.calls.specs.Door.{replayVerdict, replayAfter}
 use Rattle.byte_rebuild.specs.Spelt.{samples-back, are-bytes, below-rebuilt}
 use Rattle.byte_answer.specs.Door.{Lent, bytesFit, byteVerdict}
@@ -43,36 +42,36 @@ module _ (s : Still) (depth : Depth (s .bits)) (plan : ℕ → Block) (v : List 
   length-units i (suc k) w = length-units (suc i) k (replayUnit s plan v i w) ∙ rebuilt-length s (plan i) (place plan i) v w
 
 -- a call on a plane of bytes that all fit
-module _ (s : Still) (p : Progress) (l : Lent) (grant : ℕ) (plane : List ℕ) (same : l .plane ≡ length plane) (fit : bytesFit s l ≡ true) (bytes : AreBytes plane) where
+module _ (s : Still) (done : ℕ) (l : Lent) (grant : ℕ) (plane : List ℕ) (same : l .plane ≡ length plane) (fit : bytesFit s l ≡ true) (bytes : AreBytes plane) where
   abbrev work : List ℕ
-  work = units (replayUnit s (recordsOf (l .plan) .block) (residualsOf (l .residuals))) (p .done) (doing (recordsOf (l .plan) .count) (p .done) grant) (samplesOf plane)
+  work = units (replayUnit s (recordsOf (l .plan) .block) (residualsOf (l .residuals))) done (doing (recordsOf (l .plan) .count) done grant) (samplesOf plane)
 
   -- its verdict is that on what the bytes spell
-  pub spelt-verdict : byteVerdict s p l ≡ replayVerdict s (recordsOf (l .plan)) own (p .done) (length (samplesOf plane)) (residualsOf (l .residuals))
+  pub spelt-verdict : byteVerdict s done l ≡ replayVerdict s (recordsOf (l .plan)) own done (length (samplesOf plane)) (residualsOf (l .residuals))
   spelt-verdict =
-      verdict-alike s p l fit
-      ∙ ap (λ (k : ℕ). replayVerdict s (recordsOf (l .plan)) own (p .done) k (residualsOf (l .residuals))) (ap (λ (k : ℕ). k / 2) same ∙ sym (length-samples plane))
+      verdict-alike s done l fit
+      ∙ ap (λ (k : ℕ). replayVerdict s (recordsOf (l .plan)) own done k (residualsOf (l .residuals))) (ap (λ (k : ℕ). k / 2) same ∙ sym (length-samples plane))
 
-  number : byteVerdict s p l .no ≡ replayVerdict s (recordsOf (l .plan)) own (p .done) (length (samplesOf plane)) (residualsOf (l .residuals)) .no
+  number : byteVerdict s done l .no ≡ replayVerdict s (recordsOf (l .plan)) own done (length (samplesOf plane)) (residualsOf (l .residuals)) .no
   number = ap (λ (v : Verdict). v .no) spelt-verdict
 
   pub record Left : Type 0 where
-    pub spells : samplesOf (planeAfter s p l grant plane) ≡ replayAfter s (recordsOf (l .plan)) own (p .done) grant (residualsOf (l .residuals)) (samplesOf plane)
-    pub are : AreBytes (planeAfter s p l grant plane)
-    pub long : length (planeAfter s p l grant plane) ≡ length plane
+    pub spells : samplesOf (planeAfter s done l grant plane) ≡ replayAfter s (recordsOf (l .plan)) own done grant (residualsOf (l .residuals)) (samplesOf plane)
+    pub are : AreBytes (planeAfter s done l grant plane)
+    pub long : length (planeAfter s done l grant plane) ≡ length plane
 
   -- what it leaves spells what the replay leaves, in as many bytes
   pub left : Left
   unfolding planeAfter replayAfter
-  left = go (ℕ-discrete (byteVerdict s p l .no) 0)
+  left = go (ℕ-discrete (byteVerdict s done l .no) 0)
     where
-      go : Dec (byteVerdict s p l .no ≡ 0) → Left
+      go : Dec (byteVerdict s done l .no ≡ 0) → Left
       go (yes z) =
-          let a = worked (byteVerdict s p l .no) (bytesOf work) plane z in
-          let b = worked (replayVerdict s (recordsOf (l .plan)) own (p .done) (length (samplesOf plane)) (residualsOf (l .residuals)) .no) work (samplesOf plane) (sym number ∙ z) in
-          let q = served-sound s p l z .0 in
-          let small = below-units s (q .depth) (recordsOf (l .plan) .block) (residualsOf (l .residuals)) (p .done) (doing (recordsOf (l .plan) .count) (p .done) grant) (samplesOf plane) (samples-below plane bytes) in
-          let n = length-units s (q .depth) (recordsOf (l .plan) .block) (residualsOf (l .residuals)) (p .done) (doing (recordsOf (l .plan) .count) (p .done) grant) (samplesOf plane) in
+          let a = worked (byteVerdict s done l .no) (bytesOf work) plane z in
+          let b = worked (replayVerdict s (recordsOf (l .plan)) own done (length (samplesOf plane)) (residualsOf (l .residuals)) .no) work (samplesOf plane) (sym number ∙ z) in
+          let q = served-sound s done l z .0 in
+          let small = below-units s (q .depth) (recordsOf (l .plan) .block) (residualsOf (l .residuals)) done (doing (recordsOf (l .plan) .count) done grant) (samplesOf plane) (samples-below plane bytes) in
+          let n = length-units s (q .depth) (recordsOf (l .plan) .block) (residualsOf (l .residuals)) done (doing (recordsOf (l .plan) .count) done grant) (samplesOf plane) in
           let f = fitting s l fit .plane in
           record {
             spells = ap samplesOf (sym a) ∙ samples-back work small ∙ b;
@@ -80,6 +79,6 @@ module _ (s : Still) (p : Progress) (l : Lent) (grant : ℕ) (plane : List ℕ) 
             long = ap length (sym a) ∙ length-bytes work ∙ omega (arith, n, length-samples plane, same, f);
           }
       go (no z) =
-          let a = unserved (byteVerdict s p l .no) (bytesOf work) plane z in
-          let b = unserved (replayVerdict s (recordsOf (l .plan)) own (p .done) (length (samplesOf plane)) (residualsOf (l .residuals)) .no) work (samplesOf plane) (λ e. z (number ∙ e)) in
+          let a = unserved (byteVerdict s done l .no) (bytesOf work) plane z in
+          let b = unserved (replayVerdict s (recordsOf (l .plan)) own done (length (samplesOf plane)) (residualsOf (l .residuals)) .no) work (samplesOf plane) (λ e. z (number ∙ e)) in
           record { spells = ap samplesOf (sym a) ∙ b; are = λ i. rw (sym a) (bytes i); long = ap length (sym a) }

@@ -17,7 +17,6 @@ ghost use Rattle.byte_replay.specs.Door.{replayed};
 ghost use Rattle.byte_replay.specs.Laws.{own};
 use still::Still;
 use tiling::Block;
-use walk::Progress;
 
 // Block k, whose residuals begin at `at`: rebuilt unless it was done before. Gives the next block's place.
 fn replay_turn(
@@ -89,21 +88,14 @@ fn replay_blocks(
 }
 
 // A call that is served: the next blocks, with scratch of its own.
-fn serve(
-    p: Progress,
-    s: Still,
-    plan: &[u8],
-    residuals: &[u8],
-    plane: &mut [u8],
-    grant: u32,
-) -> Progress
-    requires { ⌜ Sound s (recordsOf (now plan)) (length (samplesOf (now plane))) (length (residualsOf (now residuals))) own × ((p .done ≤ length (now plan) / 6) × ((length (now plane) % 2 ≡ 0) × (length (now residuals) % 4 ≡ 0))) ⌝ }
-    ensures { λ r. ⌜ (r ≡ record { done = p .done + doing (recordsOf (now (plan .entry)) .count) (p .done) grant }) × (samplesOf (now (plane .exit)) ≡ units (replayUnit s (recordsOf (now (plan .entry)) .block) (residualsOf (now (residuals .entry)))) (p .done) (doing (recordsOf (now (plan .entry)) .count) (p .done) grant) (samplesOf (now (plane .entry)))) ⌝ }
+fn serve(done: u32, s: Still, plan: &[u8], residuals: &[u8], plane: &mut [u8], grant: u32) -> u32
+    requires { ⌜ Sound s (recordsOf (now plan)) (length (samplesOf (now plane))) (length (residualsOf (now residuals))) own × ((done ≤ length (now plan) / 6) × ((length (now plane) % 2 ≡ 0) × (length (now residuals) % 4 ≡ 0))) ⌝ }
+    ensures { λ r. ⌜ (r ≡ done + doing (recordsOf (now (plan .entry)) .count) done grant) × (samplesOf (now (plane .exit)) ≡ units (replayUnit s (recordsOf (now (plan .entry)) .block) (residualsOf (now (residuals .entry)))) done (doing (recordsOf (now (plan .entry)) .count) done grant) (samplesOf (now (plane .entry)))) ⌝ }
 {
     let mut refs = [0u16; 193];
     let mut indices = [0u32; 32];
     let mut fractions = [0u32; 32];
-    let did = steps::doing_of(plan.len() / 6, p.done, grant);
+    let did = steps::doing_of(plan.len() / 6, done, grant);
     replay_blocks(
         s,
         plan,
@@ -112,16 +104,16 @@ fn serve(
         &mut refs,
         &mut indices,
         &mut fractions,
-        p.done,
-        (p.done as usize) + (did as usize),
+        done,
+        (done as usize) + (did as usize),
     );
-    Progress { done: p.done + did }
+    done + did
 }
 
-// Decodes the next blocks of a plan in the plane's own bytes, as many as are granted. It gives its number, and writes the block that
-// it is about and the next progress record into the result buffer.
+// Decodes the next blocks of a plan in the plane's own bytes, as many as are granted; so many are done before it. It gives its number, and writes the
+// block that it is about and the next progress record into the result buffer.
 pub fn replay(
-    progress: Progress,
+    done: u32,
     still: Still,
     plan: &[u8],
     residuals: &[u8],
@@ -129,14 +121,14 @@ pub fn replay(
     result: &mut [u8],
     grant: u32,
 ) -> u32
-    ensures { λ r. ⌜ record { number = r; plane = now (plane .exit); result = now (result .exit) } ≡ replayed still progress (now (plan .entry)) (now (residuals .entry)) grant (now (plane .entry)) (now (result .entry)) ⌝ }
+    ensures { λ r. ⌜ record { number = r; plane = now (plane .exit); result = now (result .exit) } ≡ replayed still done (now (plan .entry)) (now (residuals .entry)) grant (now (plane .entry)) (now (result .entry)) ⌝ }
 {
-    let v = byte_answer::verdict(progress, still, plan, residuals, plane.len(), result.len());
+    let v = byte_answer::verdict(done, still, plan, residuals, plane.len(), result.len());
     if v.no != 0 {
-        byte_answer::answer(result, v.block, progress);
+        byte_answer::answer(result, v.block, done);
         return v.no;
     }
-    let next = serve(progress, still, plan, residuals, &mut *plane, grant);
+    let next = serve(done, still, plan, residuals, &mut *plane, grant);
     byte_answer::answer(result, 0, next);
     0
 }

@@ -15,7 +15,6 @@ use refs::ChromaRefGeometry;
 use refs::LumaRefGeometry;
 use still::Still;
 use tiling::Frame;
-use walk::Progress;
 
 // The reference rows of a luma block, out of a plane of exactly 2 · width · height bytes: the corner, 65 samples above, 65 samples left,
 // in the first 262 bytes of `out`. Numbers 1, 2, 4, 5, 6.
@@ -161,10 +160,9 @@ pub extern "C" fn salvrunde_replay(
     plane: &mut [u8],
     result: &mut [u8],
 ) -> u32
-    ensures { λ r. ⌜ record { number = r; plane = now (plane .exit); result = now (result .exit) } ≡ replayed (record { bits = bits; frame = record { width = width; height = height; ctu = ctu } }) (record { done = done }) (now (plan .entry)) (now (residuals .entry)) grant (now (plane .entry)) (now (result .entry)) ⌝ }
+    ensures { λ r. ⌜ record { number = r; plane = now (plane .exit); result = now (result .exit) } ≡ replayed (record { bits = bits; frame = record { width = width; height = height; ctu = ctu } }) done (now (plan .entry)) (now (residuals .entry)) grant (now (plane .entry)) (now (result .entry)) ⌝ }
 {
     let frame = Frame { width, height, ctu };
     let still = Still { bits, frame };
-    let progress = Progress { done };
-    byte_replay::replay(progress, still, plan, residuals, plane, result, grant)
+    byte_replay::replay(done, still, plan, residuals, plane, result, grant)
 }

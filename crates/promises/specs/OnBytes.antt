@@ -1,23 +1,29 @@
 -- Document 01, demand 3 on bytes: replays in a plane's own bytes, in any calls, leave bytes that spell what the replays of the spelt samples leave, so the
 -- source comes back there too. Rests on demand 3, and on what one call on bytes leaves (byte_replay's Spelt).
-use Prim.Native.Nat.{ℕ, _*_, _/_, _≤_}
+use Prim.Native.Nat.{ℕ, _+_, _*_, _/_, _≤_}
 use mathlib.Core.Path.{_≡_, refl, sym, ap, _∙_}
-use mathlib.Core.Bool.{true}
+use mathlib.Core.Bool.{Bool, true, false, cond}
 use mathlib.Core.List.{List, [], _∷_}
 use native.Mathlib.Omega.{arith}
+use lib.Dec.{eqb}
 use lib.IntN.{ℤ}
 use lib.ListN.{length}
+use Rattle.laws.specs.Choose.{served}
 use Rattle.laws.specs.Chain.{sum}
 use Rattle.bytes.specs.Bytes.{samplesOf, residualsOf}
 use Rattle.bytes.specs.Laws.{AreBytes, length-samples}
 use Rattle.plan.specs.declared.Verdict.{Verdict}
+use Rattle.plan.specs.Plan.{Plan}
 use Rattle.plan.specs.Records.{recordsOf}
 use Rattle.still.specs.declared.Still.{Still}
+use Rattle.steps.specs.Steps.{doing}
 use Rattle.walked.specs.Block.{World}
+use Rattle.walk.specs.declared.Progress.{Progress}
+use Rattle.walk.specs.declared.Stepped.{Stepped}
 use Rattle.walk.specs.Door.{steppedBy}
-use Rattle.byte_answer.specs.Door.{Lent, bytesFit}
+use Rattle.byte_answer.specs.Door.{Lent, bytesFit, byteVerdict}
 use Rattle.byte_answer.specs.Laws.{fitting}
-use Rattle.byte_replay.specs.Door.{byteStep, planeAfter}
+use Rattle.byte_replay.specs.Door.{nextWritten, planeAfter}
 use Rattle.byte_replay.specs.Laws.{own}
 use Rattle.byte_replay.specs.Spelt.{spelt-verdict, left}
 use Rattle.promises.specs.Calls.{Job, Held, Served, count, fresh, calls, walkNo, walkCall, replayCall}
@@ -37,12 +43,12 @@ speltJob j = record { still = j .still; plan = recordsOf (j .plan); tables = own
 abbrev pub lentOf : ByteJob → List ℕ → Lent
 lentOf j plane = record { plan = j .plan; residuals = j .residuals; plane = length plane; result = j .result }
 
--- a call: the record that it hands back, the plane that it leaves
+-- a call: the record that it writes, the plane that it leaves
 abbrev pub byteCall : ByteJob → Held (List ℕ) → ℕ → Held (List ℕ)
 byteCall j x grant =
     record {
-      progress = byteStep (j .still) (x .progress) (lentOf j (x .world)) grant .next;
-      world = planeAfter (j .still) (x .progress) (lentOf j (x .world)) grant (x .world);
+      progress = record { done = nextWritten (j .still) (x .progress .done) (lentOf j (x .world)) grant };
+      world = planeAfter (j .still) (x .progress .done) (lentOf j (x .world)) grant (x .world);
     }
 
 -- a record and the samples that the plane's bytes spell
@@ -54,14 +60,23 @@ pub record Fits (j : ByteJob) (plane : List ℕ) : Type 0 where
   pub long : bytesFit (j .still) (lentOf j plane) ≡ true
   pub bytes : AreBytes plane
 
+-- the number written is that of the record that a replay hands back
+handed : (v : Verdict) (plan : Plan) (p : Progress) (grant : ℕ)
+    → record { done = served (v .no) (p .done + doing (plan .count) (p .done) grant) (p .done) } ≡ steppedBy v plan p grant .next
+handed v plan p grant = go (eqb (v .no) 0) _ _
+  where
+    go : (b : Bool) (x y : Stepped) → record { done = cond b (x .next .done) (y .next .done) } ≡ cond b x y .next
+    go true x y = refl
+    go false x y = refl
+
 module _ (j : ByteJob) where
   -- one call, refused or not
   pub one-call : (x : Held (List ℕ)) (grant : ℕ) → Fits j (x .world)
       → (spelt (byteCall j x grant) ≡ replayCall (speltJob j) (residualsOf (j .residuals)) (spelt x) grant) × Fits j (byteCall j x grant .world)
   one-call x grant f =
-      let l = left (j .still) (x .progress) (lentOf j (x .world)) grant (x .world) refl (f .long) (f .bytes) in
-      let v = spelt-verdict (j .still) (x .progress) (lentOf j (x .world)) grant (x .world) refl (f .long) (f .bytes) in (
-        λ i. record { progress = steppedBy (v i) (recordsOf (j .plan)) (x .progress) grant .next; world = l .spells i },
+      let l = left (j .still) (x .progress .done) (lentOf j (x .world)) grant (x .world) refl (f .long) (f .bytes) in
+      let v = spelt-verdict (j .still) (x .progress .done) (lentOf j (x .world)) grant (x .world) refl (f .long) (f .bytes) in (
+        λ i. record { progress = (handed (byteVerdict (j .still) (x .progress .done) (lentOf j (x .world))) (recordsOf (j .plan)) (x .progress) grant ∙ ap (λ (u : Verdict). steppedBy u (recordsOf (j .plan)) (x .progress) grant .next) v) i; world = l .spells i },
         record { long = ap (λ (k : ℕ). bytesFit (j .still) (record { plan = j .plan; residuals = j .residuals; plane = k; result = j .result })) (l .long) ∙ f .long; bytes = l .are },
       )
 

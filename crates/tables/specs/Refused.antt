@@ -1,7 +1,7 @@
 -- Document 01: 'Refusals return zeroed rows, the progress record as given, 0 for any other figure, and leave lent planes, residuals, block buffers and
 -- scratch untouched.' One theorem for each door whose contract does not already say so in these words. The predictors' contracts do: `served r .. (now (pred
 -- .entry))`, which `kept` reads, and that scratch is the same where the number is not 0. Assumes nothing.
-use mathlib.Core.Path.{_≡_, refl, sym, ap, _∙_}
+use mathlib.Core.Path.{_≡_, refl, sym, ap, ap₂, _∙_}
 use mathlib.Core.Bool.{true, false}
 use mathlib.Core.List.{List, [], _∷_}
 use Prim.Native.Nat.{ℕ}
@@ -29,10 +29,8 @@ use Rattle.smooth.specs.Smoothing.{ruleDoor, filterDoor}
 use Rattle.residual.specs.Residual.{residualNo, reconstructNo, residualsAfter, reconstructed}
 use Rattle.plan.specs.declared.Verdict.{Verdict}
 use Rattle.plan.specs.Plan.{Plan}
-use Rattle.plan.specs.Records.{recordsOf}
 use Rattle.still.specs.declared.Still.{Still}
 use Rattle.walk.specs.declared.Progress.{Progress}
-use Rattle.walk.specs.declared.Stepped.{Stepped}
 use Rattle.walked.specs.Block.{World}
 use Rattle.still.specs.Checks.{Tables}
 use Rattle.calls.specs.Door.{replayVerdict, replayAfter, walkVerdict, walkAfter}
@@ -140,11 +138,11 @@ pub entries : (k : ℕ) (work out : List ℕ) → ¬ (entry k work out .number �
 unfolding entry
 entries k work out h = kept k work out h
 
-module _ (s : Still) (p : Progress) (l : Lent) (grant : ℕ) (h : ¬ (byteVerdict s p l .no ≡ 0)) where
-  pub byte-plane : (plane : List ℕ) → planeAfter s p l grant plane ≡ plane
+module _ (s : Still) (done : ℕ) (l : Lent) (grant : ℕ) (h : ¬ (byteVerdict s done l .no ≡ 0)) where
+  pub byte-plane : (plane : List ℕ) → planeAfter s done l grant plane ≡ plane
   unfolding planeAfter
-  byte-plane plane = kept (byteVerdict s p l .no) _ plane h
+  byte-plane plane = kept (byteVerdict s done l .no) _ plane h
 
-  pub byte-result : (result : List ℕ) → resultAfter s p l grant result ≡ answered (byteVerdict s p l .block) (p .done) result
+  pub byte-result : (result : List ℕ) → resultAfter s done l grant result ≡ answered (byteVerdict s done l .block) done result
   unfolding resultAfter
-  byte-result result = ap (λ (t : Stepped). answered (t .block) (t .next .done) result) (stepped (byteVerdict s p l) (recordsOf (l .plan)) p grant h)
+  byte-result result = ap₂ (λ (b k : ℕ). answered b k result) (kept (byteVerdict s done l .no) 0 _ h) (kept (byteVerdict s done l .no) _ done h)

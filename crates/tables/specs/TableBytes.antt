@@ -20,7 +20,7 @@ use Rattle.plan.specs.Records.{recordsOf}
 use Rattle.still.specs.declared.Still.{Still}
 use Rattle.walk.specs.declared.Progress.{Progress}
 use Rattle.byte_answer.specs.Door.{Lent, byteVerdict}
-use Rattle.byte_replay.specs.Door.{byteStep}
+use Rattle.byte_replay.specs.Door.{blockWritten}
 use Rattle.byte_entry.specs.Entries.{entry, room, flatEntryNo, modeEntryNo}
 use Rattle.byte_flat.specs.Entries.{planarEntry, dcEntry}
 use Rattle.byte_predict.specs.Entries.{angularEntry, chromaBlockEntry}
@@ -78,17 +78,17 @@ module _ (n : ℕ) (above left out : List ℕ) where
   chroma-block bits mode corner = mode-number bits (at-most mode 34)
 
 -- the replay: its number, and the block number that it writes; a plan of bytes is to be whole records, and the result buffer has 8 bytes
-pub replay : (s : Still) (p : Progress) (l : Lent) (grant : ℕ)
+pub replay : (s : Still) (p : Progress) (l : Lent)
     → let area : ℕ = s .frame .height * s .frame .width in
-    ExactFirst done (about (byteVerdict s p l .no) (byteStep s p l grant .block))
+    ExactFirst done (about (byteVerdict s (p .done) l .no) (blockWritten s (p .done) l))
     ((about 1 0 when ¬ Depth (s .bits)) ∷ (about 4 0 when BadPicture (pictureOf (s .frame)))
     ∷ (about 5 0 when (¬ (l .plane ≡ 2 * area)) or (¬ (length (l .residuals) ≡ 4 * area)) or (¬ (length (l .plan) % 6 ≡ 0)) or l .result < 8)
     ∷ (about 8 0 when Some (pos 0) (λ r. 65535 < natAbs r) (residualsOf (l .residuals)))
     ∷ lastRows s (recordsOf (l .plan)) p)
 unfolding byteVerdict
-replay s p l grant =
+replay s p l =
     let area : ℕ = s .frame .height * s .frame .width in
-    number-exact s (recordsOf (l .plan)) p _ grant _
+    number-exact s (recordsOf (l .plan)) p _ _
     (first-row (depth (s .bits))
     (λ e. first-row (picture (pictureOf (s .frame)))
     (λ ok. first-row

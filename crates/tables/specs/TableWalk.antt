@@ -6,7 +6,7 @@
 --   plan::check_plan_bytes                           check-plan-bytes
 --   Progress::walk, Progress::walk_numbers           walk
 --   Progress::replay, Progress::replay_numbers       replay
-use mathlib.Core.Path.{_≡_, refl, sym, ap, subst}
+use mathlib.Core.Path.{_≡_, refl, sym, ap, subst, _∙_}
 use mathlib.Core.Bool.{Bool, true, false, cond, true≢false}
 use mathlib.Core.List.{List, [], _∷_}
 use mathlib.Core.Logic.{_⊎_, inl, inr, ⊎-elim}
@@ -17,7 +17,7 @@ use lib.Dec.{leb, eqb}
 use lib.IntN.{ℤ, pos, natAbs}
 use lib.ListN.{length, getD}
 use borrow.Author.Tests.{eqb-true, eqb-false}
-use Rattle.laws.specs.Choose.{if-no}
+use Rattle.laws.specs.Choose.{served, if-no}
 use Rattle.domain.specs.Facts.{Depth, Size}
 use Rattle.order.specs.Order.{pictureOk}
 use Rattle.tiling.specs.declared.Frame.{Frame}
@@ -260,15 +260,21 @@ module _ (s : Still) (plan : Plan) (p : Progress) where
   unfolding verdictOf settle
   given-by early a rows e h = first-exact done a rows (subst (λ (w : Verdict). First done w rows) (sym e) (h .first))
 
-  -- the number and the block of an answer, and a number beside the block of an answer
+  -- the number and the block of an answer, and a number beside the block that is written
   answer-exact : (early grant : ℕ) (rows : List (Row Verdict)) → FirstBy done from early rows → ExactFirst done (verdictIn (steppedBy (verdictOf s plan (p .done) early) plan p grant)) rows
   answer-exact early grant rows h = given-by early _ rows (holds-verdict (verdictOf s plan (p .done) early) (names-none early) grant) h
 
-  pub number-exact : (early grant : ℕ) (rows : List (Row Verdict)) → FirstBy done from early rows
-      → ExactFirst done (about (verdictOf s plan (p .done) early .no) (steppedBy (verdictOf s plan (p .done) early) plan p grant .block)) rows
-  number-exact early grant rows h =
-      let w = verdictOf s plan (p .done) early in
-      given-by early _ rows (ap (λ (v : Verdict). about (w .no) (v .block)) (holds-verdict w (names-none early) grant)) h
+  pub number-exact : (early : ℕ) (rows : List (Row Verdict)) → FirstBy done from early rows
+      → let w = verdictOf s plan (p .done) early in
+      ExactFirst done (about (w .no) (served (w .no) 0 (w .block))) rows
+  number-exact early rows h = given-by early _ rows (go (eqb (w .no) 0) refl) h
+    where
+      w : Verdict
+      w = verdictOf s plan (p .done) early
+
+      go : (b : Bool) → eqb (w .no) 0 ≡ b → about (w .no) (cond b 0 (w .block)) ≡ w
+      go true e = let z = eqb-true (w .no) 0 e in ap (λ (k : ℕ). about k 0) z ∙ names-none early z
+      go false e = refl
 
   whole-plane : (len : ℕ) → Tells (whole s len) (BadPlane s len)
   whole-plane len = same len (s .frame .height * s .frame .width)

@@ -20,7 +20,7 @@ returns c =
     let l : Lent = record { plan = a .plan .now; residuals = a .residuals .now; plane = a .plane; result = a .result } in
     let n = c .before .before .early-no in
     let f = c .before .check-plan-bytes in
-    settled-bytes (a .s) (a .p) l (f .result) _ (n .result) (n .ensures) (f .ensures) (c .settled .ensures)
+    settled-bytes (a .s) (a .done) l (f .result) _ (n .result) (n .ensures) (f .ensures) (c .settled .ensures)
 
 pub verdict-spec : {M : Type 1} → statement M
 verdict-spec =

@@ -24,15 +24,15 @@ returns c =
     let l : Lent = record { plan = a .plan .now; residuals = a .residuals .now; plane = length (a .plane .now); result = length (a .result .now) } in
     let v = c .before .before .before .before .before .before .verdict in
     let n = c .before .before .before .before .if1 .taken in
-    all-three (a .still) (a .progress) (a .plan .now) (a .residuals .now) (a .grant) (a .plane .now) (a .result .now) (ap (λ (u : Verdict). u .no) (v .ensures))
-    (plane-kept (a .still) (a .progress) l (a .grant) (v .result) (v .ensures) n (a .plane .now))
-    (c .before .before .answer .ensures ∙ result-refused (a .still) (a .progress) l (a .grant) (v .result) (v .ensures) n (a .result .now))
+    all-three (a .still) (a .done) (a .plan .now) (a .residuals .now) (a .grant) (a .plane .now) (a .result .now) (ap (λ (u : Verdict). u .no) (v .ensures))
+    (plane-kept (a .still) (a .done) l (a .grant) (v .result) (v .ensures) n (a .plane .now))
+    (c .before .before .answer .ensures ∙ result-refused (a .still) (a .done) l (a .grant) (v .result) (v .ensures) n (a .result .now))
 
 serve-requires : tie.Need-serve-requires
 serve-requires c κs =
     let a = c .before .before .before .before .before .before .before .before .args in
     let v = c .before .before .before .verdict in
-    serves (a .still) (a .progress) (a .plan .now) (a .residuals .now) (a .plane .now) (length (a .result .now)) (sym (ap (λ (u : Verdict). u .no) (v .ensures)) ∙ c .before .if1 .left)
+    serves (a .still) (a .done) (a .plan .now) (a .residuals .now) (a .plane .now) (length (a .result .now)) (sym (ap (λ (u : Verdict). u .no) (v .ensures)) ∙ c .before .if1 .left)
 
 answer-requires-2 : tie.Need-answer-requires-2
 answer-requires-2 c κs = search needs
@@ -52,10 +52,10 @@ returns-2 c =
     let s = c .before .before .before .before .before .before .serve in
     let e = s .last .1 .1 .1 .1 .0 in
     let len : length e ≡ length (a .plane .now) = search needs in
-    let even = ap (λ (k : ℕ). k % 2) len ∙ serves (a .still) (a .progress) (a .plan .now) (a .residuals .now) (a .plane .now) (length (a .result .now)) z .1 .1 .0 in
-    all-three (a .still) (a .progress) (a .plan .now) (a .residuals .now) (a .grant) (a .plane .now) (a .result .now) (sym z)
-    (plane-done (a .still) (a .progress) l (a .grant) z (a .plane .now) e even (λ i. c .before .before .before .before .slice-known4 .given i .fits) (s .ensures .1))
-    (c .before .before .answer2 .ensures ∙ result-served (a .still) (a .progress) l (a .grant) z (s .result) (a .result .now) (s .ensures .0))
+    let even = ap (λ (k : ℕ). k % 2) len ∙ serves (a .still) (a .done) (a .plan .now) (a .residuals .now) (a .plane .now) (length (a .result .now)) z .1 .1 .0 in
+    all-three (a .still) (a .done) (a .plan .now) (a .residuals .now) (a .grant) (a .plane .now) (a .result .now) (sym z)
+    (plane-done (a .still) (a .done) l (a .grant) z (a .plane .now) e even (λ i. c .before .before .before .before .slice-known4 .given i .fits) (s .ensures .1))
+    (c .before .before .answer2 .ensures ∙ result-served (a .still) (a .done) l (a .grant) z (s .result) (a .result .now) (s .ensures .0))
 
 pub replay-spec : {M : Type 1} → statement M
 replay-spec =

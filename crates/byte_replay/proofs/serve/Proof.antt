@@ -26,27 +26,24 @@ slice-aggregate-replay-blocks-3 c = search needs
 cast-replay-blocks : tie.Need-cast-replay-blocks
 cast-replay-blocks c = search needs
 
-cast-replay-blocks-2 : tie.Need-cast-replay-blocks-2
-cast-replay-blocks-2 c = search needs
-
 add-replay-blocks : tie.Need-add-replay-blocks
-add-replay-blocks c = record { fits = omega (arith, c .before .before .before .before .before .doing-of .ensures, c .before .before .before .before .before .before .before .before .before .pre .1 .0, accepted-small _ _ (c .before .before .before .before .before .before .before .before .before .pre .0 .accepted)) }
+add-replay-blocks c = record { fits = omega (arith, c .before .before .before .before .doing-of .ensures, c .before .before .before .before .before .before .before .before .pre .1 .0, accepted-small _ _ (c .before .before .before .before .before .before .before .before .pre .0 .accepted)) }
 
 replay-blocks-requires : tie.Need-replay-blocks-requires
-replay-blocks-requires c κs = let p = c .before .before .before .before .before .before .before .before .before .pre in (p .0, (omega (arith, c .before .before .before .before .before .doing-of .ensures, p .1 .0), p .1 .1))
+replay-blocks-requires c κs = let p = c .before .before .before .before .before .before .before .before .pre in (p .0, (omega (arith, c .before .before .before .before .doing-of .ensures, p .1 .0), p .1 .1))
 
-add-t23 : tie.Need-add-t23
-add-t23 c = record { fits = omega (arith, c .before .before .before .before .before .before .before .before .before .before .before .before .doing-of .ensures, c .before .before .before .before .before .before .before .before .before .before .before .before .before .before .before .before .pre .1 .0, accepted-small _ _ (c .before .before .before .before .before .before .before .before .before .before .before .before .before .before .before .before .pre .0 .accepted)) }
+add-result : tie.Need-add-result
+add-result c = record { fits = omega (arith, c .before .before .before .before .before .before .before .before .before .before .doing-of .ensures, c .before .before .before .before .before .before .before .before .before .before .before .before .before .before .pre .1 .0, accepted-small _ _ (c .before .before .before .before .before .before .before .before .before .before .before .before .before .before .pre .0 .accepted)) }
 
 same-length : tie.Need-same-length
 same-length c = search needs
 
 returns : tie.Need-returns
 returns c =
-    let a = c .before .before .before .before .before .before .before .before .before .before .before .before .before .before .before .before .args in
-    let d = c .before .before .before .before .before .before .before .before .before .before .before .before .doing-of in
-    let m : a .p .done + d .result - a .p .done ≡ d .result = omega arith in
-    (ap (λ (k : ℕ). record { done = a .p .done + k }) (d .ensures), c .before .before .before .before .before .before .replay-blocks .ensures ∙ ap (λ (k : ℕ). units (replayUnit (a .s) (recordsOf (a .plan .now) .block) (residualsOf (a .residuals .now))) (a .p .done) k (samplesOf (a .plane .now))) (m ∙ d .ensures))
+    let a = c .before .before .before .before .before .before .before .before .before .before .before .before .before .before .args in
+    let d = c .before .before .before .before .before .before .before .before .before .before .doing-of in
+    let m : a .done + d .result - a .done ≡ d .result = omega arith in
+    (ap (λ (k : ℕ). a .done + k) (d .ensures), c .before .before .before .before .before .replay-blocks .ensures ∙ ap (λ (k : ℕ). units (replayUnit (a .s) (recordsOf (a .plan .now) .block) (residualsOf (a .residuals .now))) (a .done) k (samplesOf (a .plane .now))) (m ∙ d .ensures))
 
 pub serve-spec : {M : Type 1} → statement M
 serve-spec =
@@ -57,9 +54,8 @@ serve-spec =
     slice-aggregate-replay-blocks-2
     slice-aggregate-replay-blocks-3
     cast-replay-blocks
-    cast-replay-blocks-2
     add-replay-blocks
     replay-blocks-requires
-    add-t23
+    add-result
     same-length
     returns)
