@@ -54,7 +54,7 @@ module _ (corner : ℕ) (main side : List ℕ) where
       rw (b, a, ← ref-main nb inv (startOf e r + c) (omega arith), ← ref-main nb inv (startOf e r + c + 1) (omega arith))
 
   -- a sample from the references
-  refs-line : (e inv n : ℕ) (refs d : List ℕ) (r c : ℕ) → e < 32 → n ≤ 32 → r < n → c < n → 65 + 2 * n ≤ length d → refs ≡ run (λ (i : ℕ). refAt (fromRows corner main side) inv (firstOf e n + i)) (firstOf e n) (65 + n - firstOf e n) d → lineAt refs 65 e r c ≡ sampleAt nb e inv r c
+  refs-line : (e inv n : ℕ) (refs d : List ℕ) (r c : ℕ) → e < 32 → n ≤ 32 → r < n → c < n → 65 + n ≤ length d → refs ≡ run (λ (i : ℕ). refAt (fromRows corner main side) inv (firstOf e n + i)) (firstOf e n) (65 + n - firstOf e n) d → lineAt refs 65 e r c ≡ sampleAt nb e inv r c
   unfolding sampleAt
   refs-line e inv n refs d r c h s hr hc l b =
       let f = first-le e n r h hr in
@@ -73,10 +73,10 @@ module _ (corner : ℕ) (main side : List ℕ) where
     some : 0 < n
     some = let h = size-small n s .0 in omega arith
 
-    pub down-refs : (refs d₀ : List ℕ) → e < 32 → 65 + 2 * n ≤ length d₀ → refs ≡ run (λ (i : ℕ). refAt (fromRows corner main side) inv (firstOf e n + i)) (firstOf e n) (65 + n - firstOf e n) d₀ → block (lineAt refs 65 e) n d ≡ block (sampleAt (fromRows corner main side) e inv) n d
+    pub down-refs : (refs d₀ : List ℕ) → e < 32 → 65 + n ≤ length d₀ → refs ≡ run (λ (i : ℕ). refAt (fromRows corner main side) inv (firstOf e n + i)) (firstOf e n) (65 + n - firstOf e n) d₀ → block (lineAt refs 65 e) n d ≡ block (sampleAt (fromRows corner main side) e inv) n d
     down-refs refs d₀ h l b = rows-same _ _ n n d (λ r c hr hc. refs-line e inv n refs d₀ r c h (size-small n s .1) hr hc l b) some
 
-    pub across-refs : (refs d₀ : List ℕ) → e < 32 → 65 + 2 * n ≤ length d₀ → refs ≡ run (λ (i : ℕ). refAt (fromRows corner main side) inv (firstOf e n + i)) (firstOf e n) (65 + n - firstOf e n) d₀ → block (λ (r c : ℕ). lineAt refs 65 e c r) n d ≡ block (λ (r c : ℕ). sampleAt (fromRows corner main side) e inv c r) n d
+    pub across-refs : (refs d₀ : List ℕ) → e < 32 → 65 + n ≤ length d₀ → refs ≡ run (λ (i : ℕ). refAt (fromRows corner main side) inv (firstOf e n + i)) (firstOf e n) (65 + n - firstOf e n) d₀ → block (λ (r c : ℕ). lineAt refs 65 e c r) n d ≡ block (λ (r c : ℕ). sampleAt (fromRows corner main side) e inv c r) n d
     across-refs refs d₀ h l b = rows-same _ _ n n d (λ r c hr hc. refs-line e inv n refs d₀ c r h (size-small n s .1) hc hr l b) some
 
     pub down-main : 32 ≤ e → block (lineAt main 0 e) n d ≡ block (sampleAt (fromRows corner main side) e inv) n d

@@ -19,7 +19,7 @@ pub record Fit (bits n mode : ℕ) (l : Lent) : Type 0 where
   pub above : 2 * n ≤ l .above
   pub left : 2 * n ≤ l .left
   pub room : n * n ≤ l .pred
-  pub refs : 65 + 2 * n ≤ l .refs
+  pub refs : 65 + n ≤ l .refs
 
 -- a row that is long enough has the 2n entries that prediction reads
 long : (n k : ℕ) → Size n → predictorRow n ≤ k → 2 * n ≤ k
@@ -52,7 +52,7 @@ fit bits n mode l e =
 
 -- what a call from rows of 2n entries lends, with a table of its own
 abbrev short : ℕ → ℕ → ℕ → ℕ → Lent
-short above left pred n = record { above = above; left = left; pred = pred; refs = 65 + 2 * n; indices = 0; fractions = 0 }
+short above left pred n = record { above = above; left = left; pred = pred; refs = 65 + n; indices = 0; fractions = 0 }
 
 pub fit-short : (bits n mode above left pred : ℕ) → angularShortNo bits n mode above left pred ≡ 0
     → Fit bits n mode (short above left pred n)

@@ -1,9 +1,11 @@
 -- What the code's rows and tables hold: an angle's references as a row of entries, and the tables by the distance of a mode from 18. Assumes nothing.
 use mathlib.Core.Path.{_≡_, sym, ap, _∙_}
+use mathlib.Core.Bool.{cond}
 use mathlib.Core.List.{List, [], _∷_}
 use Prim.Native.Nat.{ℕ, _+_, _-_, _*_, _/_, _≤_, _<_}
 use native.Mathlib.Nat.{mul-le-mul-left, add-mul}
 use native.Mathlib.Omega.{arith}
+use lib.Dec.{leb}
 use lib.ListN.{getD}
 use Rattle.lines.specs.Starts.{lineStart, firstOf}
 use Rattle.taps.specs.Taps.{interpOf}
@@ -29,11 +31,15 @@ first-le e n r h l =
     let z : (r + 1) * e ≤ (r + 1) * 31 = mul-le-mul-left (r + 1) (omega arith) in
     (omega arith, omega arith)
 
+-- how many references from the main row's first one on a block of side n may read: n where the angle is negative, else 2n
+unfoldable pub reachOf : ℕ → ℕ → ℕ
+reachOf e n = cond (leb 32 e) (2 * n) n
+
 -- an angle whose rows of n stay within r references, for a block that p samples hold
 pub record Reads (b e n r p : ℕ) : Type 0 where
   pub angle : e ≤ 64
   pub base : 32 ≤ b + e
   pub near : b ≤ 128
   pub size : n ≤ 32
-  pub refs : b + 2 * n ≤ r
+  pub refs : b + reachOf e n ≤ r
   pub room : n * n ≤ p

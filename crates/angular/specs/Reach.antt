@@ -6,14 +6,16 @@ use Prim.Native.Nat.{ℕ, zero, suc, _+_, _-_, _*_, _/_, _%_, _≤_, _<_}
 use native.Mathlib.Nat.{mul-add, mul-assoc, mul-le-mul-left, mul-le-mul-right, zero-add}
 use native.Mathlib.Omega.{arith}
 use lib.ListN.{length, getD}
-use borrow.Author.Tests.{lt-ltb, le-ltb, eq-eqb, ne-eqb}
+use borrow.Author.Tests.{lt-ltb, le-ltb, le-leb, lt-leb, eq-eqb, ne-eqb}
 use Rattle.laws.specs.Fill.{fill, run, rows}
 use Rattle.laws.specs.FillLaws.{run-same, run-at, fill-at}
+use Rattle.laws.specs.Diff.{order}
 use Rattle.domain.specs.Facts.{Size, at-size}
 use Rattle.h265.specs.Notation.{Neighbours}
 use Rattle.taps.specs.Taps.{interpOf}
 use Rattle.angular.specs.Unsigned.{fractionOf, sideOf, refAt}
 use Rattle.lines.specs.Starts.{lineStart, firstOf}
+use Rattle.angular.specs.Lines.{reachOf}
 use Rattle.angular.specs.Grid.{column}
 
 -- a row starts at an entry
@@ -24,18 +26,40 @@ reach b e r h l =
     let z : (r + 1) * b ≤ 32 * b = mul-le-mul-right b (let q : r + 1 ≤ 32 = omega arith in q) in
     omega arith
 
--- and its references stay within 2n, the one more that is mixed in too where the angle is below 32
-pub copy-within : (b e r n : ℕ) → e ≤ 64 → 32 ≤ b + e → n ≤ 32 → r < n → lineStart b e r + n ≤ b + 2 * n
-copy-within b e r n h k s l =
-    let x : (r + 1) * e ≤ (r + 1) * 64 = mul-le-mul-left (r + 1) h in
-    let y = reach b e r k (omega arith) in
-    omega arith
+-- how far a block reads: n references where the angle is negative, never more than 2n
+reach-low : (e n : ℕ) → e < 32 → reachOf e n ≡ n
+unfolding reachOf
+reach-low e n h = rw (lt-leb 32 e h)
 
-pub mix-within : (b e r n : ℕ) → e < 64 → 32 ≤ b + e → n ≤ 32 → r < n → lineStart b e r + n + 1 ≤ b + 2 * n
-mix-within b e r n h k s l =
-    let x : (r + 1) * e ≤ (r + 1) * 63 = mul-le-mul-left (r + 1) (omega arith) in
-    let y = reach b e r k (omega arith) in
-    omega arith
+reach-high : (e n : ℕ) → 32 ≤ e → reachOf e n ≡ 2 * n
+unfolding reachOf
+reach-high e n h = rw (le-leb 32 e h)
+
+pub within-low : (b e n r : ℕ) → e < 32 → b + n ≤ r → b + reachOf e n ≤ r
+within-low b e n r h l = omega (arith, reach-low e n h)
+
+pub within : (b e n r : ℕ) → b + 2 * n ≤ r → b + reachOf e n ≤ r
+within b e n r l = ⊎-elim (λ h. omega (arith, reach-low e n h)) (λ h. omega (arith, reach-high e n h)) (order e 32)
+
+-- a row's references stay within that, the one more that is mixed in too where the angle is below 32
+module _ (b e r n : ℕ) (base : 32 ≤ b + e) (few : n ≤ 32) (l : r < n) where
+  starts : r + 1 ≤ b + (r + 1) * e / 32
+  starts = reach b e r base (omega arith)
+
+  low : e < 32 → lineStart b e r + n + 1 ≤ b + reachOf e n
+  low h =
+      let x : (r + 1) * e ≤ (r + 1) * 31 = mul-le-mul-left (r + 1) (omega arith) in
+      omega (arith, starts, reach-low e n h)
+
+  pub copy-within : e ≤ 64 → lineStart b e r + n ≤ b + reachOf e n
+  copy-within t =
+      let x : (r + 1) * e ≤ (r + 1) * 64 = mul-le-mul-left (r + 1) t in
+      ⊎-elim (λ h. omega (arith, low h)) (λ h. omega (arith, starts, reach-high e n h)) (order e 32)
+
+  pub mix-within : e < 64 → lineStart b e r + n + 1 ≤ b + reachOf e n
+  mix-within t =
+      let x : (r + 1) * e ≤ (r + 1) * 63 = mul-le-mul-left (r + 1) (omega arith) in
+      ⊎-elim (λ h. low h) (λ h. omega (arith, starts, reach-high e n h)) (order e 32)
 
 -- an angle of whole references has no fraction
 pub no-fraction : (e r : ℕ) → e % 32 ≡ 0 → fractionOf e r ≡ 0

@@ -293,7 +293,7 @@ fn main_refs(main: &[u16], n: usize, refs: &mut [u16])
 
 // The references of a negative angle, as far as they are read.
 fn build(corner: u16, main: &[u16], side: &[u16], e: usize, inv: usize, n: usize, refs: &mut [u16])
-    requires { ⌜ (e < 32) × ((sideOf inv (firstOf e n) ≤ 2 * n) × (Size n × ((2 * n ≤ length (now main)) × ((2 * n ≤ length (now side)) × (65 + 2 * n ≤ length (now refs)))))) ⌝ }
+    requires { ⌜ (e < 32) × ((sideOf inv (firstOf e n) ≤ 2 * n) × (Size n × ((2 * n ≤ length (now main)) × ((2 * n ≤ length (now side)) × (65 + n ≤ length (now refs)))))) ⌝ }
     ensures { λ _. ⌜ now (refs .exit) ≡ run (λ (i : ℕ). refAt (fromRows corner (now (main .entry)) (now (side .entry))) inv (firstOf e n + i)) (firstOf e n) (65 + n - firstOf e n) (now (refs .entry)) ⌝ }
 {
     let lo = lines::first(e as u32, n as u32);
@@ -355,7 +355,7 @@ fn vertical(
     pred: &mut [u16],
     refs: &mut [u16],
 )
-    requires { ⌜ Size n × ((d < 17) × ((2 * n ≤ length (now main)) × ((2 * n ≤ length (now side)) × ((n * n ≤ length (now pred)) × (65 + 2 * n ≤ length (now refs)))))) ⌝ }
+    requires { ⌜ Size n × ((d < 17) × ((2 * n ≤ length (now main)) × ((2 * n ≤ length (now side)) × ((n * n ≤ length (now pred)) × (65 + n ≤ length (now refs)))))) ⌝ }
     ensures { λ _. ⌜ now (pred .exit) ≡ block (sampleAt (fromRows corner (now (main .entry)) (now (side .entry))) (getD turns d 0) (getD bends d 0)) n (now (pred .entry)) ⌝ }
 {
     let e = turn(d);
@@ -385,7 +385,7 @@ fn horizontal(
     pred: &mut [u16],
     refs: &mut [u16],
 )
-    requires { ⌜ Size n × ((d < 17) × ((2 * n ≤ length (now main)) × ((2 * n ≤ length (now side)) × ((n * n ≤ length (now pred)) × (65 + 2 * n ≤ length (now refs)))))) ⌝ }
+    requires { ⌜ Size n × ((d < 17) × ((2 * n ≤ length (now main)) × ((2 * n ≤ length (now side)) × ((n * n ≤ length (now pred)) × (65 + n ≤ length (now refs)))))) ⌝ }
     ensures { λ _. ⌜ now (pred .exit) ≡ block (λ (r c : ℕ). sampleAt (fromRows corner (now (main .entry)) (now (side .entry))) (getD turns d 0) (getD bends d 0) c r) n (now (pred .entry)) ⌝ }
 {
     let e = turn(d);
@@ -463,7 +463,7 @@ fn work(
     pred: &mut [u16],
     refs: &mut [u16],
 )
-    requires { ⌜ Depth bits × (Size n × ((2 ≤ mode) × ((mode < 35) × ((2 * n ≤ length (now above)) × ((2 * n ≤ length (now left)) × ((n * n ≤ length (now pred)) × (65 + 2 * n ≤ length (now refs)))))))) ⌝ }
+    requires { ⌜ Depth bits × (Size n × ((2 ≤ mode) × ((mode < 35) × ((2 * n ≤ length (now above)) × ((2 * n ≤ length (now left)) × ((n * n ≤ length (now pred)) × (65 + n ≤ length (now refs)))))))) ⌝ }
     ensures { λ _. ⌜ now (pred .exit) ≡ block (λ (y x : ℕ). angular bits edge n mode (fromRows corner (now (above .entry)) (now (left .entry))) x y) n (now (pred .entry)) ⌝ }
 {
     match mode {

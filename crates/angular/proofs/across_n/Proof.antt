@@ -26,7 +26,7 @@ fraction-requires c κs = search needs
 
 col-requires : tie.Need-col-requires Inv-loop μ-loop
 col-requires c κs =
-    let w = mix-within (c .before .before .before .before .before .before .before .args .b) (c .before .before .before .before .before .before .before .args .e) (c .before .before .before .before .loop .c) (c .before .before .before .before .before .before .before .args .n) (c .before .before .before .before .before .before .before .pre .1 .0) (c .before .before .before .before .before .before .before .pre .1 .1 .base) (c .before .before .before .before .before .before .before .pre .1 .1 .size) (c .before .before .before .loop-test .taken) in
+    let w = mix-within (c .before .before .before .before .before .before .before .args .b) (c .before .before .before .before .before .before .before .args .e) (c .before .before .before .before .loop .c) (c .before .before .before .before .before .before .before .args .n) (c .before .before .before .before .before .before .before .pre .1 .1 .base) (c .before .before .before .before .before .before .before .pre .1 .1 .size) (c .before .before .before .loop-test .taken) (c .before .before .before .before .before .before .before .pre .1 .0) in
     search needs
 
 add-c : tie.Need-add-c Inv-loop μ-loop

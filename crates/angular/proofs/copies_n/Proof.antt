@@ -31,7 +31,7 @@ mul-through c = omega (arith, row-room _ _ (c .before .loop-test .taken))
 
 through-requires : tie.Need-through-requires Inv-loop μ-loop
 through-requires c κs =
-    let w = copy-within (c .before .before .before .before .before .before .args .b) (c .before .before .before .before .before .before .args .e) (c .before .before .before .loop .r) (c .before .before .before .before .before .before .args .n) (c .before .before .before .before .before .before .pre .1 .angle) (c .before .before .before .before .before .before .pre .1 .base) (c .before .before .before .before .before .before .pre .1 .size) (c .before .before .loop-test .taken) in
+    let w = copy-within (c .before .before .before .before .before .before .args .b) (c .before .before .before .before .before .before .args .e) (c .before .before .before .loop .r) (c .before .before .before .before .before .before .args .n) (c .before .before .before .before .before .before .pre .1 .base) (c .before .before .before .before .before .before .pre .1 .size) (c .before .before .loop-test .taken) (c .before .before .before .before .before .before .pre .1 .angle) in
     let h = row-room _ _ (c .before .before .loop-test .taken) in
     search needs
 

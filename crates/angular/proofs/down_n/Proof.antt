@@ -32,7 +32,7 @@ mul-row c = omega (arith, row-room _ _ (c .before .before .loop-test .taken))
 
 row-requires : tie.Need-row-requires Inv-loop μ-loop
 row-requires c κs =
-    let w = mix-within (c .before .before .before .before .before .before .before .args .b) (c .before .before .before .before .before .before .before .args .e) (c .before .before .before .before .loop .r) (c .before .before .before .before .before .before .before .args .n) (c .before .before .before .before .before .before .before .pre .0) (c .before .before .before .before .before .before .before .pre .1 .base) (c .before .before .before .before .before .before .before .pre .1 .size) (c .before .before .before .loop-test .taken) in
+    let w = mix-within (c .before .before .before .before .before .before .before .args .b) (c .before .before .before .before .before .before .before .args .e) (c .before .before .before .before .loop .r) (c .before .before .before .before .before .before .before .args .n) (c .before .before .before .before .before .before .before .pre .1 .base) (c .before .before .before .before .before .before .before .pre .1 .size) (c .before .before .before .loop-test .taken) (c .before .before .before .before .before .before .before .pre .0) in
     let h = row-room _ _ (c .before .before .before .loop-test .taken) in
     search needs
 

@@ -32,7 +32,7 @@ mul-mix-row c = omega (arith, row-room _ _ (c .before .before .loop-test .taken)
 
 mix-row-requires : tie.Need-mix-row-requires Inv-loop μ-loop
 mix-row-requires c κs =
-    let w = mix-within (c .before .before .before .before .before .before .before .args .b) (c .before .before .before .before .before .before .before .args .e) (c .before .before .before .before .loop .r) (c .before .before .before .before .before .before .before .args .n) (c .before .before .before .before .before .before .before .pre .0) (c .before .before .before .before .before .before .before .pre .1 .base) (c .before .before .before .before .before .before .before .pre .1 .size) (c .before .before .before .loop-test .taken) in
+    let w = mix-within (c .before .before .before .before .before .before .before .args .b) (c .before .before .before .before .before .before .before .args .e) (c .before .before .before .before .loop .r) (c .before .before .before .before .before .before .before .args .n) (c .before .before .before .before .before .before .before .pre .1 .base) (c .before .before .before .before .before .before .before .pre .1 .size) (c .before .before .before .loop-test .taken) (c .before .before .before .before .before .before .before .pre .0) in
     let h = row-room _ _ (c .before .before .before .loop-test .taken) in
     search needs
 

@@ -5,6 +5,7 @@ use Rattle.domain.specs.Facts.{size-small}
 use Rattle.laws.specs.Choose.{both-true}
 use Rattle.taps.specs.Laws.{largest-is}
 use borrow.Author.Tests.{ltb-true}
+use Rattle.angular.specs.Reach.{within}
 use Rattle.angular.specs.Grid.{column}
 use Rattle.angular.specs.Blocks.{upright, upright-edge}
 use borrow.Author.Needs.{needs}
@@ -15,7 +16,7 @@ copies-requires : tie.Need-copies-requires
 copies-requires c κs =
     let p = c .before .before .before .before .pre in
     let h = size-small _ (p .1 .0) .1 in
-    (p .1 .0, (refl, record { angle = omega arith; base = omega arith; near = omega arith; size = h; refs = search needs; room = search needs }))
+    (p .1 .0, (refl, record { angle = omega arith; base = omega arith; near = omega arith; size = h; refs = within _ _ _ _ (search needs); room = search needs }))
 
 filtered-requires : tie.Need-filtered-requires
 filtered-requires c κs = search needs

@@ -6,6 +6,7 @@ use lib.ListN.{getD}
 use Rattle.angular.specs.Lines.{turns, bends}
 use Rattle.domain.specs.Facts.{size-small}
 use Rattle.angular.specs.Blocks.{down-refs, down-main}
+use Rattle.angular.specs.Reach.{within, within-low}
 use Rattle.angular.specs.Tables.{turn-low, turn-high, bend-reach}
 use borrow.Author.Needs.{needs}
 use Rattle.angular.proofs.vertical.Statement.{statement}
@@ -29,27 +30,27 @@ copies-requires c κs =
     let p = c .before .before .before .before .before .before .before .before .before .before .before .before .before .before .pre in
     let l : c .before .before .before .before .before .before .before .before .before .turn .result < 32 = rw (c .before .before .before .before .before .before .before .before .before .turn .ensures) (turn-low _ (c .before .before .before .before .before .before .before .before .if1 .taken)) in
     let z : c .before .before .before .before .before .before .before .before .before .turn .result ≡ 0 = c .before .before .if2 .taken in
-    (p .0, (omega arith, let h = size-small _ (p .0) .1 in record { angle = omega arith; base = omega arith; near = omega arith; size = h; refs = search needs; room = search needs }))
+    (p .0, (omega arith, let h = size-small _ (p .0) .1 in record { angle = omega arith; base = omega arith; near = omega arith; size = h; refs = within-low _ _ _ _ l (search needs); room = search needs }))
 
 down-requires : tie.Need-down-requires
 down-requires c κs =
     let p = c .before .before .before .before .before .before .before .before .before .before .before .before .before .before .pre in
     let l : c .before .before .before .before .before .before .before .before .before .turn .result < 32 = rw (c .before .before .before .before .before .before .before .before .before .turn .ensures) (turn-low _ (c .before .before .before .before .before .before .before .before .if1 .taken)) in
-    (p .0, (omega arith, let h = size-small _ (p .0) .1 in record { angle = omega arith; base = omega arith; near = omega arith; size = h; refs = search needs; room = search needs }))
+    (p .0, (omega arith, let h = size-small _ (p .0) .1 in record { angle = omega arith; base = omega arith; near = omega arith; size = h; refs = within-low _ _ _ _ l (search needs); room = search needs }))
 
 copies-requires-2 : tie.Need-copies-requires-2
 copies-requires-2 c κs =
     let p = c .before .before .before .before .before .before .before .before .pre in
     let l : (32 ≤ c .before .before .before .turn .result) × (c .before .before .before .turn .result ≤ 64) = rw (c .before .before .before .turn .ensures) (turn-high _ (c .before .before .if1 .left) (p .1 .0)) in
     let z : c .before .before .before .turn .result ≡ 64 = c .before .if3 .taken in
-    (p .0, (omega arith, let h = size-small _ (p .0) .1 in record { angle = omega arith; base = omega arith; near = omega arith; size = h; refs = search needs; room = search needs }))
+    (p .0, (omega arith, let h = size-small _ (p .0) .1 in record { angle = omega arith; base = omega arith; near = omega arith; size = h; refs = within _ _ _ _ (search needs); room = search needs }))
 
 down-requires-2 : tie.Need-down-requires-2
 down-requires-2 c κs =
     let p = c .before .before .before .before .before .before .before .before .pre in
     let l : (32 ≤ c .before .before .before .turn .result) × (c .before .before .before .turn .result ≤ 64) = rw (c .before .before .before .turn .ensures) (turn-high _ (c .before .before .if1 .left) (p .1 .0)) in
     let z = c .before .if3 .left in
-    (p .0, (omega arith, let h = size-small _ (p .0) .1 in record { angle = omega arith; base = omega arith; near = omega arith; size = h; refs = search needs; room = search needs }))
+    (p .0, (omega arith, let h = size-small _ (p .0) .1 in record { angle = omega arith; base = omega arith; near = omega arith; size = h; refs = within _ _ _ _ (search needs); room = search needs }))
 
 same-length : tie.Need-same-length
 same-length c = search needs
