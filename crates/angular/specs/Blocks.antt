@@ -14,10 +14,11 @@ use Rattle.domain.specs.Facts.{Size, size-small}
 use Rattle.h265.specs.Notation.{Neighbours, fromRows}
 use Rattle.h265.specs.Angular.{angular}
 use Rattle.taps.specs.Taps.{interpOf, edgeOf}
-use Rattle.angular.specs.Unsigned.{angles, inverses, startOf, fractionOf, refAt, sampleAt, angularAt}
+use Rattle.angular.specs.Unsigned.{angles, inverses, startOf, refAt, sampleAt, angularAt}
 use Rattle.angular.specs.Bridge.{angular-same}
-use Rattle.lines.specs.Starts.{lineStart, firstOf}
-use Rattle.angular.specs.Lines.{turns, bends, lineAt, first-le}
+use Rattle.lines.specs.Starts.{lineStart, fractionOf, firstOf}
+use Rattle.lines.specs.Angles.{turns, bends}
+use Rattle.angular.specs.Lines.{lineAt, first-le}
 use Rattle.angular.specs.Tables.{turn-angle, bend-inverse}
 use Rattle.angular.specs.Grid.{column, column-block, row-block}
 use Rattle.angular.specs.Reach.{ref-main, whole}

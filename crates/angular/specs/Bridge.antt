@@ -14,9 +14,10 @@ use lib.IntN.{ℤ, pos, negsuc, negℤ, subℕ, _+ℤ_, _*ℤ_}
 use lib.Signed.{shrZ, ltZ, leZ}
 use Rattle.h265.specs.Notation.{Neighbours, near, _>>_, low5}
 use Rattle.h265.specs.Angular.{intraPredAngle, invAngle, ref, project, angular}
+use Rattle.lines.specs.Starts.{fractionOf}
 use Rattle.angular.specs.Lines.{first-le}
 use Rattle.taps.specs.Taps.{interpOf}
-use Rattle.angular.specs.Unsigned.{angles, inverses, startOf, fractionOf, sideOf, refAt, sampleAt, mirror, angularAt}
+use Rattle.angular.specs.Unsigned.{angles, inverses, startOf, sideOf, refAt, sampleAt, mirror, angularAt}
 use Rattle.laws.specs.Diff.{order, sub-neg, sub-pos, as-sub, sub-eq, sub-add, sub-mul, sub-shr, sub-le, sub-lt}
 
 -- the two tables

@@ -1,23 +1,17 @@
--- What the code's rows and tables hold: an angle's references as a row of entries, and the tables by the distance of a mode from 18. Assumes nothing.
+-- What the code's rows hold: an angle's references as a row of entries. Assumes nothing.
 use mathlib.Core.Path.{_≡_, sym, ap, _∙_}
 use mathlib.Core.Bool.{cond}
-use mathlib.Core.List.{List, [], _∷_}
+use mathlib.Core.List.{List}
 use Prim.Native.Nat.{ℕ, _+_, _-_, _*_, _/_, _≤_, _<_}
 use native.Mathlib.Nat.{mul-le-mul-left, add-mul}
 use native.Mathlib.Omega.{arith}
 use lib.Dec.{leb}
 use lib.ListN.{getD}
-use Rattle.lines.specs.Starts.{lineStart, firstOf}
+use Rattle.lines.specs.Starts.{lineStart, fractionOf, firstOf}
 use Rattle.taps.specs.Taps.{interpOf}
-use Rattle.angular.specs.Unsigned.{startOf, fractionOf}
+use Rattle.angular.specs.Unsigned.{startOf}
 
--- the angle plus 32, and the inverse angle turned positive, by how far the mode is from 18
-abbrev pub turns : List ℕ
-turns = 0 ∷ 6 ∷ 11 ∷ 15 ∷ 19 ∷ 23 ∷ 27 ∷ 30 ∷ 32 ∷ 34 ∷ 37 ∷ 41 ∷ 45 ∷ 49 ∷ 53 ∷ 58 ∷ 64 ∷ []
-
-abbrev pub bends : List ℕ
-bends = 256 ∷ 315 ∷ 390 ∷ 482 ∷ 630 ∷ 910 ∷ 1638 ∷ 4096 ∷ []
-
+-- a sample of a line, between two references
 abbrev pub lineAt : List ℕ → ℕ → ℕ → ℕ → ℕ → ℕ
 lineAt refs b e r c = interpOf (fractionOf e r) (getD refs (lineStart b e r + c) 0) (getD refs (lineStart b e r + c + 1) 0)
 

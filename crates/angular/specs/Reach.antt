@@ -13,8 +13,8 @@ use Rattle.laws.specs.Diff.{order}
 use Rattle.domain.specs.Facts.{Size, at-size}
 use Rattle.h265.specs.Notation.{Neighbours}
 use Rattle.taps.specs.Taps.{interpOf}
-use Rattle.angular.specs.Unsigned.{fractionOf, sideOf, refAt}
-use Rattle.lines.specs.Starts.{lineStart, firstOf}
+use Rattle.angular.specs.Unsigned.{sideOf, refAt}
+use Rattle.lines.specs.Starts.{lineStart, fractionOf, firstOf}
 use Rattle.angular.specs.Lines.{reachOf}
 use Rattle.angular.specs.Grid.{column}
 

@@ -1,9 +1,7 @@
 -- The tables by the distance of a mode from 18 are the standard's, and how far they reach. Assumes nothing.
-use mathlib.Core.Path.{_≡_, sym, subst, ap, _∙_}
+use mathlib.Core.Path.{_≡_, subst, ap, _∙_}
 use mathlib.Core.Bool.{Bool, true, cond}
-use mathlib.Core.Logic.{⊎-elim}
 use Prim.Native.Nat.{ℕ, _+_, _-_, _*_, _≤_, _<_}
-use native.Mathlib.Nat.{eq-or-lt-of-le}
 use native.Mathlib.Omega.{arith}
 use lib.Dec.{leb, leb→le, ltb, eqb, eqb→eq, T}
 use lib.ListN.{getD}
@@ -12,7 +10,7 @@ use Rattle.laws.specs.Table.{at}
 use Rattle.domain.specs.Facts.{Size, at-size}
 use Rattle.angular.specs.Unsigned.{angles, inverses, sideOf}
 use Rattle.lines.specs.Starts.{firstOf}
-use Rattle.angular.specs.Lines.{turns, bends}
+use Rattle.lines.specs.Angles.{turns, bends}
 
 pub turn-angle : (mode : ℕ) → 2 ≤ mode → mode < 35 → getD turns (mode - 18 + (18 - mode)) 0 ≡ getD angles mode 0
 turn-angle mode l h =
@@ -49,7 +47,3 @@ bend-reach d n h s =
     let e : getD turns d 0 ≡ getD angles (18 + d) 0 = ap (λ (k : ℕ). getD turns k 0) q ∙ turn-angle (18 + d) (omega arith) (omega arith) in
     let i : getD bends d 0 ≡ getD inverses (18 + d) 0 = ap (λ (k : ℕ). getD bends k 0) q ∙ bend-inverse (18 + d) (omega arith) (omega arith) in
     rw (e, i) (side-reach (18 + d) n (omega arith) s)
-
--- past the arms of a match, one after the other
-pub next : (d k : ℕ) → k ≤ d → (d ≡ k → ⊥) → k + 1 ≤ d
-next d k h f = ⊎-elim (λ e. absurd (f (sym e))) (λ l. omega arith) (eq-or-lt-of-le h)

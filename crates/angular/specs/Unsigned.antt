@@ -1,11 +1,12 @@
 -- 8.4.4.2.6 with no number below 0: an angle stands as the angle plus 32, ref[i] at 64 + i. Bridge.antt shows that it is the standard's. Assumes nothing.
-use Prim.Native.Nat.{ℕ, _+_, _-_, _*_, _/_, _%_, _^_}
+use Prim.Native.Nat.{ℕ, _+_, _-_, _*_, _/_, _^_}
 use mathlib.Core.Bool.{Bool, cond, _&&_}
 use mathlib.Core.List.{List, [], _∷_}
 use lib.Dec.{leb, ltb, eqb}
 use lib.ListN.{getD}
 use Rattle.h265.specs.Notation.{Neighbours}
 use Rattle.taps.specs.Taps.{interpOf, edgeOf}
+use Rattle.lines.specs.Starts.{fractionOf}
 
 -- intraPredAngle plus 32, by mode
 abbrev pub angles : List ℕ
@@ -17,12 +18,9 @@ abbrev pub inverses : List ℕ
 inverses =
     0 ∷ 0 ∷ 0 ∷ 0 ∷ 0 ∷ 0 ∷ 0 ∷ 0 ∷ 0 ∷ 0 ∷ 0 ∷ 4096 ∷ 1638 ∷ 910 ∷ 630 ∷ 482 ∷ 390 ∷ 315 ∷ 256 ∷ 315 ∷ 390 ∷ 482 ∷ 630 ∷ 910 ∷ 1638 ∷ 4096 ∷ 0 ∷ 0 ∷ 0 ∷ 0 ∷ 0 ∷ 0 ∷ 0 ∷ 0 ∷ 0 ∷ []
 
--- where row r of an angle starts among the references, and its fraction
+-- where row r of an angle starts among the references
 abbrev pub startOf : ℕ → ℕ → ℕ
 startOf e r = 64 + (r + 1) * e / 32 - r
-
-abbrev pub fractionOf : ℕ → ℕ → ℕ
-fractionOf e r = (r + 1) * e % 32
 
 -- which entry of the side row reference j is projected from, counted from 1; 0 is the corner
 abbrev pub sideOf : ℕ → ℕ → ℕ

@@ -12,9 +12,10 @@ ghost use Rattle.h265.specs.Angular.{angular};
 ghost use Rattle.domain.specs.Facts.{Depth, Size};
 ghost use Rattle.taps.specs.Taps.{interpOf, edgeOf};
 ghost use Rattle.numbers.specs.Numbers.{angularNo, angularShortNo};
-ghost use Rattle.angular.specs.Unsigned.{fractionOf, sideOf, refAt, sampleAt, angularAt};
-ghost use Rattle.lines.specs.Starts.{lineStart, firstOf};
-ghost use Rattle.angular.specs.Lines.{turns, bends, lineAt, Reads};
+ghost use Rattle.angular.specs.Unsigned.{sideOf, refAt, sampleAt, angularAt};
+ghost use Rattle.lines.specs.Starts.{lineStart, fractionOf, firstOf};
+ghost use Rattle.lines.specs.Angles.{turns, bends};
+ghost use Rattle.angular.specs.Lines.{lineAt, Reads};
 ghost use Rattle.angular.specs.Grid.{column};
 
 // Where row r of an angle starts in a row of references whose entry b is ref[1], and its fraction.
@@ -29,7 +30,7 @@ fn fraction(e: usize, r: usize) -> u32
     requires { ⌜ (e ≤ 64) × (r < 32) ⌝ }
     ensures { λ f. ⌜ (f ≡ fractionOf e r) × (f < 32) ⌝ }
 {
-    ((r + 1) * e % 32) as u32
+    lines::fraction(e as u32, r as u32)
 }
 
 // n references from s on, into a row.
@@ -301,49 +302,6 @@ fn build(corner: u16, main: &[u16], side: &[u16], e: usize, inv: usize, n: usize
     main_refs(main, n, &mut *refs);
 }
 
-// By how far a mode is from 18: the angle plus 32, and the inverse angle turned positive.
-// The tables are matches, which the compiler lays out as constant data; an array would be written to the stack at each use.
-fn turn(d: usize) -> usize
-    requires { ⌜ d < 17 ⌝ }
-    ensures { λ r. ⌜ r ≡ getD turns d 0 ⌝ }
-{
-    match d {
-        0 => 0,
-        1 => 6,
-        2 => 11,
-        3 => 15,
-        4 => 19,
-        5 => 23,
-        6 => 27,
-        7 => 30,
-        8 => 32,
-        9 => 34,
-        10 => 37,
-        11 => 41,
-        12 => 45,
-        13 => 49,
-        14 => 53,
-        15 => 58,
-        _ => 64,
-    }
-}
-
-fn bend(d: usize) -> usize
-    ensures { λ r. ⌜ r ≡ getD bends d 0 ⌝ }
-{
-    match d {
-        0 => 256,
-        1 => 315,
-        2 => 390,
-        3 => 482,
-        4 => 630,
-        5 => 910,
-        6 => 1638,
-        7 => 4096,
-        _ => 0,
-    }
-}
-
 // Angles are below 0 where d is below 8; a test of e itself would turn the table into branches.
 // A vertical mode that is not 26: main is the row above, side the one to the left.
 fn vertical(
@@ -358,9 +316,9 @@ fn vertical(
     requires { ⌜ Size n × ((d < 17) × ((2 * n ≤ length (now main)) × ((2 * n ≤ length (now side)) × ((n * n ≤ length (now pred)) × (65 + n ≤ length (now refs)))))) ⌝ }
     ensures { λ _. ⌜ now (pred .exit) ≡ block (sampleAt (fromRows corner (now (main .entry)) (now (side .entry))) (getD turns d 0) (getD bends d 0)) n (now (pred .entry)) ⌝ }
 {
-    let e = turn(d);
+    let e = lines::turn(d);
     if d < 8 {
-        build(corner, main, side, e, bend(d), n, &mut *refs);
+        build(corner, main, side, e, lines::bend(d), n, &mut *refs);
         if e == 0 {
             copies(&*refs, 65, e, n, &mut *pred);
         } else {
@@ -388,9 +346,9 @@ fn horizontal(
     requires { ⌜ Size n × ((d < 17) × ((2 * n ≤ length (now main)) × ((2 * n ≤ length (now side)) × ((n * n ≤ length (now pred)) × (65 + n ≤ length (now refs)))))) ⌝ }
     ensures { λ _. ⌜ now (pred .exit) ≡ block (λ (r c : ℕ). sampleAt (fromRows corner (now (main .entry)) (now (side .entry))) (getD turns d 0) (getD bends d 0) c r) n (now (pred .entry)) ⌝ }
 {
-    let e = turn(d);
+    let e = lines::turn(d);
     if d < 8 {
-        build(corner, main, side, e, bend(d), n, &mut *refs);
+        build(corner, main, side, e, lines::bend(d), n, &mut *refs);
         across(&*refs, 65, e, n, &mut *pred);
     } else {
         if e == 64 {

@@ -1,10 +1,14 @@
 -- H.265 8.4.4.2.6, iIdx and the first reference, with no number below 0: an angle stands as the angle plus 32. Assumes nothing.
-use Prim.Native.Nat.{ℕ, _+_, _-_, _*_, _/_, _≤_}
+use Prim.Native.Nat.{ℕ, _+_, _-_, _*_, _/_, _%_, _≤_}
 use native.Mathlib.Nat.{mul-le-mul}
 
 -- where line r of an angle starts in a row of references whose entry b is ref[1]
 abbrev pub lineStart : ℕ → ℕ → ℕ → ℕ
 lineStart b e r = b + (r + 1) * e / 32 - (r + 1)
+
+-- and its fraction
+abbrev pub fractionOf : ℕ → ℕ → ℕ
+fractionOf e r = (r + 1) * e % 32
 
 -- the first reference that a negative angle uses
 abbrev pub firstOf : ℕ → ℕ → ℕ

@@ -12,8 +12,8 @@ use Rattle.domain.specs.Facts.{Size, size-small}
 use Rattle.h265.specs.Notation.{Neighbours}
 use Rattle.h265.specs.Angular.{angular}
 use Rattle.taps.specs.Taps.{interpOf}
-use Rattle.angular.specs.Unsigned.{angles, inverses, startOf, fractionOf, sideOf, refAt, sampleAt, mirror, angularAt}
-use Rattle.lines.specs.Starts.{firstOf}
+use Rattle.angular.specs.Unsigned.{angles, inverses, startOf, sideOf, refAt, sampleAt, mirror, angularAt}
+use Rattle.lines.specs.Starts.{fractionOf, firstOf}
 use Rattle.angular.specs.Lines.{first-le}
 use Rattle.angular.specs.Tables.{side-reach}
 use Rattle.angular.specs.Reach.{side-falls}

@@ -4,8 +4,7 @@ use Prim.Native.Nat.{_*_, _-_, _≤_}
 use native.Mathlib.Omega.{arith}
 use borrow.Author.Needs.{needs}
 use lib.ListN.{length}
-use Rattle.angular.specs.Unsigned.{fractionOf}
-use Rattle.lines.specs.Starts.{lineStart}
+use Rattle.lines.specs.Starts.{lineStart, fractionOf}
 use Rattle.angular.specs.Lines.{lineAt}
 use Rattle.laws.specs.Weigh.{row-room}
 use Rattle.laws.specs.Fill.{rows}

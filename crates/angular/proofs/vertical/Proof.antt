@@ -3,7 +3,7 @@ use mathlib.Core.Path.{_≡_, _∙_}
 use Prim.Native.Nat.{_≤_, _<_}
 use native.Mathlib.Omega.{arith}
 use lib.ListN.{getD}
-use Rattle.angular.specs.Lines.{turns, bends}
+use Rattle.lines.specs.Angles.{turns, bends}
 use Rattle.domain.specs.Facts.{size-small}
 use Rattle.angular.specs.Blocks.{down-refs, down-main}
 use Rattle.angular.specs.Reach.{within, within-low}
@@ -13,7 +13,7 @@ use Rattle.angular.proofs.vertical.Statement.{statement}
 use Rattle.angular.proofs.vertical.Tie as tie
 
 turn-requires : tie.Need-turn-requires
-turn-requires c κs = c .before .before .before .before .pre .1 .0
+turn-requires c κs = search needs
 
 bend-requires : tie.Need-bend-requires
 bend-requires c κs = search needs

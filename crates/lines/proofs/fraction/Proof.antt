@@ -1,16 +1,16 @@
--- `angular::fraction` meets its contract. Assumes nothing.
+-- `lines::fraction` meets its contract. A line and an angle of 32 bits have a product of 64. Assumes nothing.
 use Prim.Native.Nat.{_+_}
 use native.Mathlib.Omega.{arith}
-use Rattle.laws.specs.Weigh.{most}
+use Rattle.lines.specs.Starts.{product}
 use borrow.Author.Needs.{needs}
-use Rattle.angular.proofs.fraction.Statement.{statement}
-use Rattle.angular.proofs.fraction.Tie as tie
+use Rattle.lines.proofs.fraction.Statement.{statement}
+use Rattle.lines.proofs.fraction.Tie as tie
 
 add-result : tie.Need-add-result
 add-result c = search needs
 
 mul-result : tie.Need-mul-result
-mul-result c = omega (arith, most 64 (c .args .r + 1) (c .args .e) (c .pre .0))
+mul-result c = omega (arith, product (c .args .r + 1) (c .args .e) (omega arith) (omega arith))
 
 cast-result : tie.Need-cast-result
 cast-result c = search needs

@@ -1,12 +1,12 @@
--- `angular::bend` meets its contract. Each arm is the table's entry. Assumes nothing.
+-- `lines::bend` meets its contract. Each arm is the table's entry. Assumes nothing.
 use mathlib.Core.Path.{sym}
 use Prim.Native.Nat.{_≤_, zero-le}
-use Rattle.angular.specs.Tables.{next}
+use Rattle.lines.specs.Angles.{next}
 use lib.ListN.{List·getD-eq-default}
-use Rattle.angular.specs.Lines.{bends}
+use Rattle.lines.specs.Angles.{bends}
 use borrow.Author.Needs.{needs}
-use Rattle.angular.proofs.bend.Statement.{statement}
-use Rattle.angular.proofs.bend.Tie as tie
+use Rattle.lines.proofs.bend.Statement.{statement}
+use Rattle.lines.proofs.bend.Tie as tie
 
 returns : tie.Need-returns
 returns c = search needs
