@@ -1,0 +1,2 @@
+-- Even: bytes that are whole samples.
+pub mod Even
