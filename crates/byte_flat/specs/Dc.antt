@@ -1,13 +1,12 @@
 -- The DC block on bytes: what its samples are, and that DC reads no further than 2n of each row. Rests on the standard's clause.
 use Prim.Native.Nat.{ℕ, _*_, _%_, _≤_}
-use mathlib.Core.Path.{_≡_, sym, _∙_}
+use mathlib.Core.Path.{_≡_, _∙_}
 use mathlib.Core.Bool.{Bool, true}
 use mathlib.Core.List.{List, _++_}
 use native.Mathlib.Omega.{arith}
-use lib.ListN.{length, getD, take, drop, replicate, length-replicate}
+use lib.ListN.{length, take, drop}
 use lib.Seq.{length-take-le}
 use Rattle.laws.specs.Fill.{block}
-use Rattle.laws.specs.FillLaws.{fill-at}
 use Rattle.bytes.specs.Bytes.{samplesOf}
 use Rattle.bytes.specs.Laws.{AreBytes}
 use Rattle.domain.specs.Domain.{sizeOk}
@@ -20,12 +19,7 @@ use Rattle.byte_entry.specs.Entries.{rowOf, blockIn}
 use Rattle.byte_entry.specs.Checks.{Fit}
 use Rattle.byte_entry.specs.Spelt.{lent-part, spelt-block}
 use Rattle.byte_flat.specs.Entries.{dcIn}
-use Rattle.byte_flat.specs.Blocks.{Alike, block-same}
-
--- the samples of a row, as prediction reads them
-same-row : (n : ℕ) (b : List ℕ) → n ≤ 32 → Alike n (samplesOf b) (rowOf b)
-same-row n b most i h =
-    sym (fill-at (λ (k : ℕ). getD (samplesOf b) k 0) 65 (replicate 65 0) i 0 (omega arith) (let q = length-replicate {A = ℕ} 65 0 in omega arith))
+use Rattle.byte_flat.specs.Blocks.{same-row, block-same}
 
 -- what the loops ask of a side, and of the part of a buffer that the block fills
 pub side-in : (n : ℕ) → sizeOk n ≡ true → (4 ≤ n) × ((n ≤ 32) × (n ≤ n * n))

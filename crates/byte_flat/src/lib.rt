@@ -1,5 +1,6 @@
 // Planar and DC prediction from bytes to bytes, samples of two bytes, the lower first. The side is a constant of each arm, so that the lengths
-// of all loops are, too. Rests on the contracts of crates flat and pairs, and on the number of crate byte_entry.
+// of all loops are, too. Rests on the number of crate byte_entry; planar on crates flat and pairs, DC on the arithmetic of one sample (taps) and of its
+// bytes (bytes).
 ghost use mathlib.Core.Path.{_≡_};
 ghost use Prim.Native.Nat.{ℕ, _+_, _*_, _%_, _≤_, _<_};
 ghost use lib.ListN.{length, getD, set};
@@ -75,6 +76,9 @@ pub fn planar(n: u32, above: &[u8], left: &[u8], out: &mut [u8]) -> u32
     }
     no
 }
+
+// DC reads and stores bytes where they stand, as crate flat does samples. Its contracts speak of the samples that the bytes spell; the bytes that are
+// stored to are an even number, so that these are all of them.
 
 // Sample i of a row.
 fn sample_in(row: &[u8], i: usize) -> u16
@@ -154,7 +158,7 @@ fn edge_column(left: &[u8], dc: u16, n: usize, out: &mut [u8])
     }
 }
 
-// The block of side n, of the sum of both rows. The stores are made where the bytes stand, with a side that is a constant of the call.
+// The block of side n, of the sum of both rows: n is a constant of each call.
 fn dc_n(above: &[u8], left: &[u8], all: u32, n: usize, edge: bool, out: &mut [u8])
     requires { ⌜ Fit n (length (now above)) (length (now left)) (length (now out)) × ((length (now out) % 2 ≡ 0) × Total (fromRows 0 (samplesOf (now above)) (samplesOf (now left))) n all) ⌝ }
     ensures { λ _. ⌜ samplesOf (now (out .exit)) ≡ block (λ (y x : ℕ). dc edge n (fromRows 0 (samplesOf (now (above .entry))) (samplesOf (now (left .entry)))) x y) n (samplesOf (now (out .entry))) ⌝ }
@@ -172,6 +176,7 @@ fn dc_n(above: &[u8], left: &[u8], all: u32, n: usize, edge: bool, out: &mut [u8
     }
 }
 
+// The sum is made once for all arms: there n is a variable.
 fn dc_block(n: usize, edge: bool, above: &[u8], left: &[u8], out: &mut [u8])
     requires { ⌜ Fit n (length (now above)) (length (now left)) (length (now out)) × (length (now out) % 2 ≡ 0) ⌝ }
     ensures { λ _. ⌜ samplesOf (now (out .exit)) ≡ block (λ (y x : ℕ). dc edge n (fromRows 0 (samplesOf (now (above .entry))) (samplesOf (now (left .entry)))) x y) n (samplesOf (now (out .entry))) ⌝ }
@@ -185,7 +190,7 @@ fn dc_block(n: usize, edge: bool, above: &[u8], left: &[u8], out: &mut [u8])
     }
 }
 
-// The DC block; an edge flag that is not 0 asks for filtered edges. Numbers 2, 5.
+// The DC block; an edge flag that is not 0 asks for filtered edges. Numbers 2, 5. The work is lent the bytes that the block fills.
 pub fn dc(n: u32, edge: u32, above: &[u8], left: &[u8], out: &mut [u8]) -> u32
     ensures { λ r. ⌜ wrote r (now (out .exit)) ≡ dcEntry n edge (now (above .entry)) (now (left .entry)) (now (out .entry)) ⌝ }
 {
