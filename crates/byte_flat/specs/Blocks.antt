@@ -1,6 +1,6 @@
 -- A block that a predictor made of rows in bytes, and that was stored as bytes. Assumes nothing.
 use mathlib.Core.Path.{_≡_, sym, ap, _∙_}
-use mathlib.Core.Bool.{Bool, true}
+use mathlib.Core.Bool.{true}
 use mathlib.Core.List.{List}
 use Prim.Native.Nat.{ℕ, _*_, _/_, _%_, _^_, _≤_, _<_}
 use native.Mathlib.Nat.{div-lt-iff-lt-mul, mod-lt}
@@ -43,13 +43,12 @@ sampleIn b i = getD (samplesOf b) i 0
 abbrev pub Alike : ℕ → List ℕ → List ℕ → Type 0
 Alike n a b = (i : ℕ) → i < 2 * n → getD a i 0 ≡ getD b i 0
 
--- a sample of a row, as it is read
-pub row-at : (b d : List ℕ) (k i : ℕ) → i < 65 → i < k → k ≤ length d → getD (fill (sampleIn b) k d) i 0 ≡ getD (rowOf b) i 0
-row-at b d k i few h long =
-    fill-at (sampleIn b) k d i 0 h (omega arith) ∙ sym (fill-at (sampleIn b) 65 (replicate 65 0) i 0 few (let q = length-replicate {A = ℕ} 65 0 in omega arith))
+-- the samples of a row, where they lie, and as they were read into a list
+pub same-row : (n : ℕ) (b : List ℕ) → n ≤ 32 → Alike n (samplesOf b) (rowOf b)
+same-row n b most i h = sym (fill-at (sampleIn b) 65 (replicate 65 0) i 0 (omega arith) (let q = length-replicate {A = ℕ} 65 0 in omega arith))
 
 alike : (n : ℕ) (b d : List ℕ) → n ≤ 32 → 2 * n ≤ length d → {a : List ℕ} → a ≡ fill (sampleIn b) (2 * n) d → Alike n a (rowOf b)
-alike n b d most long e i h = ap (λ (k : List ℕ). getD k i 0) e ∙ row-at b d (2 * n) i (omega arith) h long
+alike n b d most long e i h = ap (λ (k : List ℕ). getD k i 0) e ∙ fill-at (sampleIn b) (2 * n) d i 0 h (omega arith) ∙ same-row n b most i h
 
 -- a block that was stored: g is its sample, and reads no further than the first 2n samples of each row
 module _ (g : List ℕ → List ℕ → ℕ → ℕ → ℕ) (n : ℕ) (above left a₀ l₀ p d : List ℕ) (fit : Fit n (length above) (length left) (length d))

@@ -3,13 +3,8 @@ use Prim.Native.Nat.{ℕ, _+_, _-_, _*_, _/_, _^_, _≤_, _<_}
 use mathlib.Core.Path.{_≡_, refl, ap, _∙_, subst}
 use native.Mathlib.Numerals.{add-one}
 use native.Mathlib.Omega.{arith}
-use mathlib.Core.Bool.{cond, _&&_}
-use mathlib.Core.List.{List}
-use lib.Dec.{leb}
-use lib.ListN.{length}
-use Rattle.domain.specs.Domain.{sizeOk}
 use Rattle.domain.specs.Facts.{Size, at-size}
-use Rattle.h265.specs.Notation.{Neighbours, fromRows, log2, halvings}
+use Rattle.h265.specs.Notation.{Neighbours, log2, halvings}
 use Rattle.h265.specs.Planar.{planar}
 use Rattle.h265.specs.Dc.{sum, dcVal}
 use Rattle.taps.specs.Taps.{meanOf}

@@ -247,15 +247,3 @@ pub fn predict_dc_into(
     }
     no
 }
-
-// DC from rows of 2n entries.
-pub fn dc_2n(above: &[u16], left: &[u16], n: usize, filter_boundary: bool, pred: &mut [u16]) -> u32
-    ensures { λ r. ⌜ (r ≡ flatShortNo n (length (now (above .entry))) (length (now (left .entry))) (length (now (pred .entry)))) × (now (pred .exit) ≡ served r (block (λ (y x : ℕ). dc «filter_boundary» n (fromRows 0 (now (above .entry)) (now (left .entry))) x y) n (now (pred .entry))) (now (pred .entry))) ⌝ }
-{
-    let no = numbers::flat_short_no(n, above.len(), left.len(), pred.len());
-    if no == 0 {
-        let all = total(above, left, n);
-        dc_n(above, left, all, n, filter_boundary, &mut *pred);
-    }
-    no
-}

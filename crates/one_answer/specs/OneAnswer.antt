@@ -144,7 +144,6 @@ use Rattle.walk_probes.proofs.salvrunde_probe_check_plan.Reads as walk-probes-s
 use Rattle.flat.proofs.predict_planar_into.Reads as flat-predict-planar-into
 use Rattle.flat.proofs.predict_dc_into.Reads as flat-predict-dc-into
 use Rattle.flat.proofs.planar_2n.Reads as flat-planar-2n
-use Rattle.flat.proofs.dc_2n.Reads as flat-dc-2n
 use Rattle.angular.proofs.predict_angular_slices.Reads as angular-predict-angular-slices
 use Rattle.angular.proofs.angular_2n.Reads as angular-angular-2n
 use Rattle.predict.proofs.predict_chroma_tb_slices.Reads as predict-predict-chroma-tb-slices
@@ -175,9 +174,7 @@ use Rattle.walk_probes.proofs.salvrunde_probe_replay_records as walk-probes-sal
 use Rattle.byte_rows.proofs.store_rows.Reads as byte-rows-store-rows
 use Rattle.byte_rows.proofs.room_no.Reads as byte-rows-room-no
 use Rattle.pairs.proofs.read.Reads as pairs-read
-use Rattle.pairs.proofs.total.Reads as pairs-total
 use Rattle.pairs.proofs.store.Reads as pairs-store
-use Rattle.pairs.proofs.flood.Reads as pairs-flood
 use Rattle.byte_entry.proofs.flat_no.Reads as byte-entry-flat-no
 use Rattle.byte_entry.proofs.mode_no.Reads as byte-entry-mode-no
 use Rattle.byte_flat.proofs.planar.Reads as byte-flat-planar
@@ -618,9 +615,6 @@ flat-predict-dc-into-once κs a x y s t p q = by-number _ _ (p .0) (q .0) (p .1)
 flat-planar-2n-once : (κs : Lfts 3) → OnceLeft (λ s. now (s .1 .1 .1 .0)) (flat-planar-2n.Post κs)
 flat-planar-2n-once κs a x y s t p q = by-number _ _ (p .0) (q .0) (p .1) (q .1)
 
-flat-dc-2n-once : (κs : Lfts 3) → OnceLeft (λ s. now (s .1 .1 .1 .1 .0)) (flat-dc-2n.Post κs)
-flat-dc-2n-once κs a x y s t p q = by-number _ _ (p .0) (q .0) (p .1) (q .1)
-
 -- angular
 angular-predict-angular-slices-once : (κs : Lfts 6) → OnceLeft (λ s. now (s .1 .1 .1 .1 .1 .1 .1 .0)) (angular-predict-angular-slices.Post κs)
 angular-predict-angular-slices-once κs a x y s t p q = by-number _ _ (p .0) (q .0) (p .1 .0) (q .1 .0)
@@ -725,14 +719,8 @@ byte-rows-room-no-once a x y s t p q = p ∙ sym q
 pairs-read-once : (κs : Lfts 2) → OnceLeft (λ s. now (s .1 .1 .0)) (pairs-read.Post κs)
 pairs-read-once κs a x y s t p q = (refl, p ∙ sym q)
 
-pairs-total-once : (κs : Lfts 1) → Once (pairs-total.Post κs)
-pairs-total-once κs a x y s t p q = p .0 ∙ sym (q .0)
-
 pairs-store-once : (κs : Lfts 2) → OnceLeft (λ s. now (s .1 .1 .0)) (pairs-store.Post κs)
 pairs-store-once κs a x y s t p q = (refl, p ∙ sym q)
-
-pairs-flood-once : (κs : Lfts 1) → OnceLeft (λ s. now (s .1 .1 .0)) (pairs-flood.Post κs)
-pairs-flood-once κs a x y s t p q = (refl, p ∙ sym q)
 
 -- byte_entry
 byte-entry-flat-no-once : Once (byte-entry-flat-no.Post tt)

@@ -1,14 +1,13 @@
 -- Samples of two bytes, the lower first: what a list holds after they were read into it, or a buffer after they were stored.
 -- A count is one of pairs of samples. Where a list is too short for it, nothing is written. Assumes nothing.
-use Prim.Native.Nat.{ℕ, _+_, _*_, _%_}
+use Prim.Native.Nat.{ℕ, _*_}
 use mathlib.Core.Bool.{Bool, cond, _&&_}
 use mathlib.Core.List.{List}
 use lib.Dec.{leb}
-use lib.ListN.{length, getD, set}
+use lib.ListN.{length, getD}
 use Rattle.laws.specs.Fill.{fill}
 use Rattle.laws.specs.Bytes.{byteOf}
-use Rattle.bytes.specs.Bytes.{byte1, samplesOf}
-use Rattle.h265.specs.Dc.{sum}
+use Rattle.bytes.specs.Bytes.{samplesOf}
 
 -- work that is done where its count is at most m and its lists are long enough
 abbrev pub within : ℕ → ℕ → Bool → List ℕ → List ℕ → List ℕ
@@ -18,19 +17,7 @@ within m count long work kept = cond (leb count m) (cond long work kept) kept
 unfoldable pub readInto : ℕ → List ℕ → List ℕ → List ℕ
 readInto count row d = within 32 count (leb (4 * count) (length row) && leb (2 * count) (length d)) (fill (λ i. getD (samplesOf row) i 0) (2 * count) d) d
 
--- their sum
-unfoldable pub sumIn : ℕ → List ℕ → ℕ
-sumIn count row = cond (leb count 32) (cond (leb (4 * count) (length row)) (sum (λ i. getD (samplesOf row) i 0) (2 * count)) 0) 0
-
 -- the bytes of the first samples
 unfoldable pub storeInto : ℕ → List ℕ → List ℕ → List ℕ
 storeInto count samples d =
     within 512 count (leb (2 * count) (length samples) && leb (4 * count) (length d)) (fill (byteOf 2 (λ i. getD samples i 0)) (4 * count) d) d
-
--- the bytes of one sample, over and over; here the count is one of samples
-unfoldable pub floodInto : ℕ → ℕ → List ℕ → List ℕ
-floodInto v count d = within 1024 count (leb (2 * count) (length d)) (fill (byteOf 2 (λ i. v)) (2 * count) d) d
-
--- sample i of a buffer
-abbrev pub put : ℕ → ℕ → List ℕ → List ℕ
-put i v d = set (set d (2 * i) (v % 256)) (2 * i + 1) (byte1 v)

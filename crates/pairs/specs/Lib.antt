@@ -1,4 +1,4 @@
--- Into: what a list holds after samples were read or stored. Words: samples in pairs. Laws: stores into bytes that stand for a list of samples.
+-- Into: what a list holds after samples were read or stored. Words: samples in pairs. Laws: what is done where lists are long enough.
 pub mod Into
 pub mod Words
 pub mod Laws

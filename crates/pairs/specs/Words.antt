@@ -1,18 +1,15 @@
 -- Two samples as one number of 32 bits: a list of samples put together in pairs and taken apart, and its bytes. Assumes nothing.
-use mathlib.Core.Path.{_≡_, refl, sym, ap, subst, _∙_}
+use mathlib.Core.Path.{_≡_, sym, ap, subst, _∙_}
 use mathlib.Core.List.{List}
 use mathlib.Core.Logic.{⊎-elim}
 use Prim.Native.Nat.{ℕ, _+_, _*_, _/_, _%_, _^_, _≤_, _<_}
 use native.Mathlib.Nat.{div-one, eq-or-lt-of-le}
-use native.Mathlib.Numerals.{add-one}
-use native.Mathlib.Decide.{decLt}
 use native.Mathlib.Omega.{arith}
-use lib.ListN.{length, getD, set, replicate, length-replicate, getD-replicate, List·getD-eq-default}
+use lib.ListN.{length, getD, set}
 use Rattle.laws.specs.Fill.{fill}
 use Rattle.laws.specs.FillLaws.{fill-none, fill-more, fill-same, fill-at}
 use Rattle.laws.specs.Bytes.{byteOf, byte-at}
-use Rattle.bytes.specs.Bytes.{le2, byte1, byte2, byte3, samplesOf}
-use Rattle.h265.specs.Dc.{sum}
+use Rattle.bytes.specs.Bytes.{byte1, byte2, byte3, samplesOf}
 use Rattle.bytes.specs.Laws.{Below, sample-at}
 
 -- samples 2i and 2i + 1, the first in the lower half
@@ -153,39 +150,3 @@ module _ (s : List ℕ) (count : ℕ) (w₀ : List ℕ) (room : count ≤ length
         let b = p .small (omega arith) (2 * q) in
         word q 3 (omega arith) ∙ (let r : getD w q 0 / 16777216 % 256 ≡ getD s (2 * q + 1) 0 / 256 % 256 = omega arith in r)
         ∙ half (2 * q + 1) 1 (4 * q + 3) (omega arith) (omega arith)
-
--- one sample sixteen times is one number of 32 bits eight times
-sixteen-below : (v : ℕ) → v < 65536 → Below (replicate 16 v)
-sixteen-below v h i = go (decLt i 16)
-  where
-    go : Dec (i < 16) → getD (replicate 16 v) i 0 < 65536
-    go (yes l) = let e = getD-replicate 16 i v 0 l in omega arith
-    go (no l) = let e = List·getD-eq-default (replicate 16 v) 0 {n = i} (let k = length-replicate {A = ℕ} 16 v in omega arith) in omega arith
-
-eight : (v : ℕ) → replicate 8 (v + 65536 * v) ≡ fill (pairOf (replicate 16 v)) 8 (replicate 8 0)
-unfolding fill
-eight v = refl
-
-pub sixteen : (v : ℕ) (d : List ℕ) → v < 65536 → fill (byteOf 4 (λ i. getD (replicate 8 (v + 65536 * v)) i 0)) 32 d ≡ fill (byteOf 2 (λ i. v)) 32 d
-sixteen v d h =
-    let same : Paired (replicate 16 v) 8 (replicate 8 0) (replicate 8 (v + 65536 * v)) = record { is = eight v; small = λ k. sixteen-below v h } in
-    spread-is (replicate 16 v) 8 (replicate 8 0) (omega arith) same d
-    ∙ fill-same (byteOf 2 (λ i. getD (replicate 16 v) i 0)) (byteOf 2 (λ i. v)) 32 d (λ j l. ap (λ (x : ℕ). x / 256 ^ (j % 2) % 256) (getD-replicate 16 (j / 2) v 0 (omega arith)))
-
--- the sum of two more samples, out of the number that they make
-pub sum-pair : (s : List ℕ) (i : ℕ) {v w : ℕ} → Below s → v ≡ sum (λ (k : ℕ). getD s k 0) (2 * i) → v ≤ 131070 * i → w ≡ pairOf s i
-    → (v + (w % 65536 + w / 65536) ≡ sum (λ (k : ℕ). getD s k 0) (2 * (i + 1))) × (v + (w % 65536 + w / 65536) ≤ 131070 * (i + 1))
-sum-pair s i {v} {w} b e m p =
-    let x = b (2 * i) in
-    let y = b (2 * i + 1) in
-    let q : w % 65536 + w / 65536 ≡ getD s (2 * i) 0 + getD s (2 * i + 1) 0 = omega arith in
-    let t : sum (λ (k : ℕ). getD s k 0) (2 * i + 1 + 1) ≡ sum (λ (k : ℕ). getD s k 0) (2 * i) + getD s (2 * i) 0 + getD s (2 * i + 1) 0 = unfold sum in rw (add-one, add-one) in
-    let r : 2 * (i + 1) ≡ 2 * i + 1 + 1 = omega arith in
-    (rw r (omega arith), omega arith)
-
-pub sum-none : (f : ℕ → ℕ) → 0 ≡ sum f (2 * 0)
-unfolding sum
-sum-none f = refl
-
-pub sum-done : (f : ℕ → ℕ) {i k v : ℕ} → i ≤ k → k ≤ i → (v ≡ sum f (2 * i)) × (v ≤ 131070 * i) → (v ≡ sum f (2 * k)) × (v ≤ 131070 * k)
-sum-done f {i} {k} {v} p q h = subst (λ (m : ℕ). (v ≡ sum f (2 * m)) × (v ≤ 131070 * m)) (let e : i ≡ k = omega arith in e) h

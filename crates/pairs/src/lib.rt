@@ -8,8 +8,7 @@ ghost use Rattle.laws.specs.Bytes.{byteOf};
 ghost use Rattle.bytes.specs.Bytes.{byte1, byte2, byte3, samplesOf};
 ghost use Rattle.bytes.specs.Laws.{AreBytes, Below};
 ghost use Rattle.pairs.specs.Words.{pairOf, Paired, halfOf};
-ghost use Rattle.h265.specs.Dc.{sum};
-ghost use Rattle.pairs.specs.Into.{readInto, sumIn, storeInto, floodInto, put};
+ghost use Rattle.pairs.specs.Into.{readInto, storeInto};
 
 // A byte as a wider number, and that it is one.
 fn byte_at(row: &[u8], k: usize) -> u32
@@ -68,31 +67,6 @@ pub fn read(row: &[u8], count: usize, out: &mut [u16])
     if (row.len() >= 4 * count) & (out.len() >= 2 * count) {
         read_all(row, count, &mut *out);
     }
-}
-
-fn sum_all(row: &[u8], count: usize) -> u32
-    requires { ⌜ (count ≤ 32) × (4 * count ≤ length (now row)) ⌝ }
-    ensures { λ r. ⌜ (r ≡ sum (λ (i : ℕ). getD (samplesOf (now (row .entry))) i 0) (2 * count)) × (r ≤ 131070 * count) ⌝ }
-{
-    let mut all: u32 = 0;
-    for i in 0..count {
-        let w = pair_in(row, i);
-        all = all + (w % 65536 + w / 65536);
-    }
-    all
-}
-
-// The sum of the first 2 · count samples of a row, at most 64, in pairs as they stand: 0 where the row is too short.
-pub fn total(row: &[u8], count: usize) -> u32
-    ensures { λ r. ⌜ (r ≡ sumIn count (now (row .entry))) × (r ≤ 131070 * count) ⌝ }
-{
-    if count > 32 {
-        return 0;
-    }
-    if row.len() >= 4 * count {
-        return sum_all(row, count);
-    }
-    0
 }
 
 fn sample_at(samples: &[u16], k: usize) -> u32
@@ -156,49 +130,5 @@ pub fn store(samples: &[u16], count: usize, out: &mut [u8])
     }
     if (samples.len() >= 2 * count) & (out.len() >= 4 * count) {
         store_all(samples, count, &mut *out);
-    }
-}
-
-fn put_sample(out: &mut [u8], i: usize, v: u16)
-    requires { ⌜ 2 * i + 1 < length (now out) ⌝ }
-    ensures { λ _. ⌜ now (out .exit) ≡ put i v (now (out .entry)) ⌝ }
-{
-    let k = 2 * i;
-    out[k] = bytes::byte_0(v as u32);
-    out[k + 1] = bytes::byte_1(v as u32);
-}
-
-// Sample by sample: of a number that stays the same the compiler does not join four bytes.
-fn flood_all(v: u16, count: usize, out: &mut [u8])
-    requires { ⌜ 2 * count ≤ length (now out) ⌝ }
-    ensures { λ _. ⌜ now (out .exit) ≡ fill (byteOf 2 (λ (i : ℕ). v)) (2 * count) (now (out .entry)) ⌝ }
-{
-    for i in 0..count {
-        put_sample(&mut *out, i, v);
-    }
-}
-
-// Sixteen of them go by way of numbers of 32 bits: blocks of four and of eight have no stores alike then, which the compiler would make one of.
-fn flood_few(v: u16, out: &mut [u8])
-    requires { ⌜ 32 ≤ length (now out) ⌝ }
-    ensures { λ _. ⌜ now (out .exit) ≡ fill (byteOf 2 (λ (i : ℕ). v)) 32 (now (out .entry)) ⌝ }
-{
-    let words = [(v as u32) + 65536 * (v as u32); 8];
-    spread(&words, 8, &mut *out);
-}
-
-// One sample `count` times, at most 1024.
-pub fn flood(v: u16, count: usize, out: &mut [u8])
-    ensures { λ _. ⌜ now (out .exit) ≡ floodInto v count (now (out .entry)) ⌝ }
-{
-    if count > 1024 {
-        return;
-    }
-    if out.len() >= 2 * count {
-        if count == 16 {
-            flood_few(v, &mut *out);
-        } else {
-            flood_all(v, count, &mut *out);
-        }
     }
 }

@@ -1,6 +1,5 @@
 -- The number, then the work. Assumes nothing.
 use mathlib.Core.Path.{sym, _∙_}
-use native.Mathlib.Omega.{arith}
 use Rattle.byte_flat.specs.Entries.{planarEntry}
 use Rattle.byte_entry.specs.Checks.{flat-fit, done, refused}
 use borrow.Author.Needs.{needs}

@@ -1,8 +1,8 @@
 -- `pairs::apart` meets its contract: the numbers passed are taken apart. Assumes nothing.
-use mathlib.Core.Path.{_≡_, refl, _∙_}
-use Prim.Native.Nat.{ℕ, _-_, _*_, _≤_}
+use mathlib.Core.Path.{_≡_, refl}
+use Prim.Native.Nat.{_-_, _*_, _≤_}
 use native.Mathlib.Omega.{arith}
-use lib.ListN.{length, getD}
+use lib.ListN.{length}
 use Rattle.laws.specs.Fill.{fill}
 use Rattle.laws.specs.FillLaws.{fill-none, fill-done}
 use Rattle.pairs.specs.Words.{halfOf, apart-more}

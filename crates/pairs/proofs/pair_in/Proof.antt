@@ -1,5 +1,4 @@
 -- Four bytes are two samples. Assumes nothing.
-use mathlib.Core.Path.{_∙_}
 use native.Mathlib.Omega.{arith}
 use Rattle.bytes.specs.Laws.{samples-below}
 use Rattle.pairs.specs.Words.{four-bytes}

@@ -1,7 +1,6 @@
 -- `pairs::pairs_of` meets its contract: the pairs passed are there. Assumes nothing.
 use mathlib.Core.Path.{_≡_}
-use Prim.Native.Nat.{ℕ, _-_, _≤_}
-use native.Mathlib.Omega.{arith}
+use Prim.Native.Nat.{_-_, _≤_}
 use lib.ListN.{length}
 use Rattle.pairs.specs.Words.{Paired, paired-none, paired-more, paired-done}
 use borrow.Author.Needs.{needs}

@@ -1,9 +1,6 @@
 -- `pairs::put_word` meets its contract: the four bytes of a number. Assumes nothing.
-use mathlib.Core.Path.{ap, ap₂, _∙_}
-use mathlib.Core.List.{List}
-use Prim.Native.Nat.{ℕ, _+_, _*_}
 use native.Mathlib.Omega.{arith}
-use lib.ListN.{set, length-set}
+use lib.ListN.{length-set}
 use borrow.Author.Needs.{needs}
 use Rattle.pairs.proofs.put_word.Statement.{statement}
 use Rattle.pairs.proofs.put_word.Tie as tie

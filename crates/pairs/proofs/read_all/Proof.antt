@@ -1,6 +1,5 @@
 -- The first samples of a row: put together in pairs and taken apart, they are what the bytes spell. Assumes nothing.
 use mathlib.Core.Path.{_∙_}
-use native.Mathlib.Omega.{arith}
 use Rattle.bytes.specs.Bytes.{samplesOf}
 use Rattle.pairs.specs.Words.{apart-is}
 use borrow.Author.Needs.{needs}

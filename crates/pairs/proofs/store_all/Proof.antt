@@ -1,6 +1,5 @@
 -- Samples of a list: put together in pairs, their bytes are stored. Assumes nothing.
 use mathlib.Core.Path.{_∙_}
-use native.Mathlib.Omega.{arith}
 use Rattle.pairs.specs.Words.{spread-is}
 use borrow.Author.Needs.{needs}
 use Rattle.pairs.proofs.store_all.Statement.{statement}
