@@ -4,6 +4,8 @@
 --   salvrunde_chroma_refs   chroma-refs      salvrunde_chroma_block   chroma-block
 --   salvrunde_planar        planar           salvrunde_replay         replay
 --   salvrunde_dc            dc
+--
+-- refs::store_reference_samples, to which salvrunde_luma_refs forwards, has luma-refs too.
 use mathlib.Core.Path.{_≡_, refl}
 use mathlib.Core.Bool.{Bool}
 use mathlib.Core.List.{List, [], _∷_}
