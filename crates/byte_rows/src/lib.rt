@@ -45,11 +45,9 @@ fn lay_rows(rows: Rows, out: &mut [u8], at: usize)
     requires { ⌜ 2 * (at + 131) ≤ length (now out) ⌝ }
     ensures { λ _. ⌜ now (out .exit) ≡ rowsAt (2 * at) rows (now (out .entry)) ⌝ }
 {
-    let above = rows.above;
-    let left = rows.left;
     put(&mut *out, at, rows.corner);
-    store_row(&above, &mut *out, at + 1);
-    store_row(&left, &mut *out, at + 66);
+    store_row(&rows.above, &mut *out, at + 1);
+    store_row(&rows.left, &mut *out, at + 66);
 }
 
 // Stores rows from a place on, counted in samples, where the buffer has room for them.

@@ -5,7 +5,8 @@ ghost use Rattle.byte_replay.specs.Door.{replayed};
 ghost use Rattle.byte_entry.specs.Entries.{wrote};
 ghost use Rattle.byte_flat.specs.Entries.{planarEntry, dcEntry};
 ghost use Rattle.byte_predict.specs.Entries.{angularEntry, chromaBlockEntry};
-ghost use Rattle.camera.specs.Entries.{lumaEntry, chromaEntry};
+ghost use Rattle.refs.specs.Entry.{lumaEntry};
+ghost use Rattle.camera.specs.Entries.{chromaEntry};
 use fmt::ChromaCol;
 use fmt::ChromaRow;
 use fmt::LumaCol;
@@ -46,12 +47,7 @@ pub extern "C" fn salvrunde_luma_refs(
         block_col: LumaCol(col),
         n: n as usize,
     };
-    let a = refs::get_reference_samples_bytes(plane, geo);
-    let no = byte_rows::room_no(a.no, 1, out.len());
-    if no == 0 {
-        byte_rows::store_rows(a.rows, &mut *out, 0);
-    }
-    no
+    refs::store_reference_samples(plane, geo, out)
 }
 
 // The reference rows of a chroma block, out of the planes of Cb and of Cr: Cb's corner, above and left in the first 262 bytes of `out`,

@@ -100,6 +100,7 @@ use Rattle.refs.proofs.get_reference_samples.Reads as refs-get-reference-sample
 use Rattle.refs.proofs.get_reference_samples_chroma_pair.Reads as refs-get-reference-samples-chroma-pair
 use Rattle.refs.proofs.get_reference_samples_bytes.Reads as refs-get-reference-samples-bytes
 use Rattle.refs.proofs.get_reference_samples_chroma_pair_bytes.Reads as refs-get-reference-samples-chroma-pair-bytes
+use Rattle.refs.proofs.store_reference_samples.Reads as refs-store-reference-samples
 use Rattle.tiling.proofs.picture_ok.Reads as tiling-picture-ok
 use Rattle.tiling.proofs.block_no.Reads as tiling-block-no
 use Rattle.records.proofs.record_at.Reads as records-record-at
@@ -474,6 +475,12 @@ refs-get-reference-samples-bytes-once κs a x y s t p q = p ∙ sym q
 refs-get-reference-samples-chroma-pair-bytes-once : (κs : Lfts 2) → Once (refs-get-reference-samples-chroma-pair-bytes.Post κs)
 refs-get-reference-samples-chroma-pair-bytes-once κs a x y s t p q = p ∙ sym q
 
+by-written : {x y : ℕ} {l m : List ℕ} {w : Written} → wrote x l ≡ w → wrote y m ≡ w → (x ≡ y) × (l ≡ m)
+by-written p q = (ap (λ (v : Written). v .number) (p ∙ sym q), ap (λ (v : Written). v .bytes) (p ∙ sym q))
+
+refs-store-reference-samples-once : (κs : Lfts 2) → OnceLeft (λ s. now (s .1 .1 .0)) (refs-store-reference-samples.Post κs)
+refs-store-reference-samples-once κs a x y s t p q = by-written p q
+
 -- tiling
 tiling-picture-ok-once : Once (tiling-picture-ok.Post tt)
 tiling-picture-ok-once a x y s t p q = p ∙ sym q
@@ -730,9 +737,6 @@ byte-entry-mode-no-once : Once (byte-entry-mode-no.Post tt)
 byte-entry-mode-no-once a x y s t p q = p ∙ sym q
 
 -- byte_flat
-by-written : {x y : ℕ} {l m : List ℕ} {w : Written} → wrote x l ≡ w → wrote y m ≡ w → (x ≡ y) × (l ≡ m)
-by-written p q = (ap (λ (v : Written). v .number) (p ∙ sym q), ap (λ (v : Written). v .bytes) (p ∙ sym q))
-
 byte-flat-planar-once : (κs : Lfts 3) → OnceLeft (λ s. now (s .1 .1 .1 .0)) (byte-flat-planar.Post κs)
 byte-flat-planar-once κs a x y s t p q = by-written p q
 

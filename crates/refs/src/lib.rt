@@ -1,5 +1,5 @@
 // Reference samples: the luma gather and the chroma pair gather (document 01, modules 3 and 4).
-// Rests on the contracts of order (which neighbours are there) and on substitution; a sample's value never says whether it is there.
+// Rests on the contracts of order (which neighbours are there), on substitution and on how rows are stored; a sample's value never says whether it is there.
 ghost use mathlib.Core.Path.{_≡_};
 ghost use mathlib.Core.List.{[], _∷_};
 ghost use Prim.Native.Nat.{ℕ, _+_, _-_, _*_, _/_, _≤_, _<_};
@@ -10,7 +10,9 @@ ghost use Rattle.laws.specs.Fill.{fill};
 ghost use Rattle.bytes.specs.Bytes.{samplesOf};
 ghost use Rattle.order.specs.Edges.{Step};
 ghost use Rattle.order.specs.Reach.{lumaReach, chromaReach, chromaWidth};
-ghost use Rattle.refs.specs.Door.{lumaBlock, lumaLength, lumaNo, lumaRows, lumaDoor, lumaBytesDoor, formatOf, chromaBlock, chromaLength, chromaNo, chromaRows, chromaDoor, chromaBytesDoor};
+ghost use Rattle.byte_entry.specs.Entries.{wrote};
+ghost use Rattle.refs.specs.Entry.{lumaEntry};
+ghost use Rattle.refs.specs.Door.{lumaBlock, lumaLength, lumaNo, lumaRows, lumaDoor, lumaBytesNo, lumaBytesDoor, formatOf, chromaBlock, chromaLength, chromaNo, chromaRows, chromaDoor, chromaBytesDoor};
 ghost use Rattle.refs.specs.Served.{gatherNo};
 ghost use Rattle.substitution.specs.Line.{restBy};
 ghost use Rattle.refs.specs.Spots.{spotOf, onEdge, cornerOn, aboveOn, leftOn, planeRows, Few, Reads};
@@ -298,16 +300,21 @@ fn luma_rows_in(plane: &[u8], geo: LumaRefGeometry, reach: Reach) -> Rows
     plane_rows_in(plane, s, reach, geo.n, substitution::neutral_of(geo.bits))
 }
 
+// The number of a gather out of a plane of so many bytes.
+fn luma_no_in(len: usize, geo: LumaRefGeometry, reach: Reach) -> u32
+    requires { ⌜ reach ≡ lumaReach (lumaBlock geo) ⌝ }
+    ensures { λ r. ⌜ r ≡ lumaBytesNo len geo ⌝ }
+{
+    let whole = bytes::whole_in(len, luma_length(geo));
+    gather_no(geo.bits, reach.no, whole)
+}
+
 // The same out of a plane of bytes: two a sample, the lower first.
 pub fn get_reference_samples_bytes(plane: &[u8], geo: LumaRefGeometry) -> Gathered
     ensures { λ r. ⌜ r ≡ lumaBytesDoor (now (plane .entry)) geo ⌝ }
 {
     let reach = order::luma_reach(luma_block(geo));
-    let no = gather_no(
-        geo.bits,
-        reach.no,
-        bytes::whole_in(plane.len(), luma_length(geo)),
-    );
+    let no = luma_no_in(plane.len(), geo, reach);
     if no != 0 {
         return Gathered {
             no,
@@ -318,6 +325,20 @@ pub fn get_reference_samples_bytes(plane: &[u8], geo: LumaRefGeometry) -> Gather
         no: 0,
         rows: luma_rows_in(plane, geo, reach),
     }
+}
+
+// The same, stored as bytes: the corner, the row above and the left column. A door of its own, so that the rows are stored as they are made:
+// handed back first they go through memory once more.
+pub fn store_reference_samples(plane: &[u8], geo: LumaRefGeometry, out: &mut [u8]) -> u32
+    ensures { λ r. ⌜ wrote r (now (out .exit)) ≡ lumaEntry (now (plane .entry)) geo (now (out .entry)) ⌝ }
+{
+    let reach = order::luma_reach(luma_block(geo));
+    let early = luma_no_in(plane.len(), geo, reach);
+    let no = byte_rows::room_no(early, 1, out.len());
+    if no == 0 {
+        byte_rows::store_rows(luma_rows_in(plane, geo, reach), &mut *out, 0);
+    }
+    no
 }
 
 // The format that a chroma_format_idc names; monochrome where it names none, which is refused as monochrome is.

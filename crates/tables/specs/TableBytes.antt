@@ -4,6 +4,8 @@
 --   salvrunde_chroma_refs   chroma-refs      salvrunde_chroma_block   chroma-block
 --   salvrunde_planar        planar           salvrunde_replay         replay
 --   salvrunde_dc            dc
+--
+-- refs::store_reference_samples, to which salvrunde_luma_refs forwards, has luma-refs too.
 use mathlib.Core.Path.{_≡_, refl}
 use mathlib.Core.Bool.{Bool}
 use mathlib.Core.List.{List, [], _∷_}
@@ -24,7 +26,8 @@ use Rattle.byte_replay.specs.Door.{blockWritten}
 use Rattle.byte_entry.specs.Entries.{entry, room, flatEntryNo, modeEntryNo}
 use Rattle.byte_flat.specs.Entries.{planarEntry, dcEntry}
 use Rattle.byte_predict.specs.Entries.{angularEntry, chromaBlockEntry}
-use Rattle.camera.specs.Entries.{lumaEntry, chromaEntry}
+use Rattle.refs.specs.Entry.{lumaEntry}
+use Rattle.camera.specs.Entries.{chromaEntry}
 use Rattle.tables.specs.Exact.{_when_, _or_, Exact, ExactFirst, Tells, exact-none, exact-row, first-row, all-of, at-most, same}
 use Rattle.tables.specs.Table.{BadPicture, depth, size, picture, lumaTable, luma-number, chromaTable, chroma-number, angularTable, predictTable}
 use Rattle.tables.specs.TableWalk.{about, done, Some, every-one, lastRows, last-first, number-exact}
