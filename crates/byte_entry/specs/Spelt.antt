@@ -1,18 +1,18 @@
--- A block that was written over the samples of a part, said of the bytes of the whole. Rests on the laws of bytes.
+-- A block that was written over the samples of a part, said of the bytes of the whole; and rows of samples, where they lie. Rests on the laws of bytes.
 use mathlib.Core.Path.{_≡_, sym, ap, ap₂, _∙_}
 use mathlib.Core.List.{List, [], _∷_, _++_}
 use Prim.Native.Nat.{ℕ, zero, suc, _+_, _-_, _*_, _/_, _%_, _^_, _≤_, _<_}
-use native.Mathlib.Nat.{mod-eq-of-lt}
+use native.Mathlib.Nat.{mod-eq-of-lt, mod-lt, div-lt-iff-lt-mul}
 use native.Mathlib.Decide.{decLt}
 use native.Mathlib.Omega.{arith}
-use lib.ListN.{length, getD, take, drop, length-append, length-drop, List·getD-append}
+use lib.ListN.{length, getD, take, drop, replicate, length-replicate, length-append, length-drop, List·getD-append}
 use lib.Seq.{length-take-le, ext-getD, getD-append-add, getD-drop}
 use Rattle.laws.specs.Fill.{fill, rows, block}
-use Rattle.laws.specs.FillLaws.{length-fill, length-rows, fill-at, fill-past}
+use Rattle.laws.specs.FillLaws.{length-fill, length-rows, fill-same, fill-at, fill-past}
 use Rattle.laws.specs.Bytes.{byteOf}
 use Rattle.bytes.specs.Bytes.{le2, samplesOf}
 use Rattle.bytes.specs.Laws.{AreBytes, length-samples}
-use Rattle.byte_entry.specs.Entries.{blockIn}
+use Rattle.byte_entry.specs.Entries.{rowOf, blockIn}
 
 -- each byte is one of its sample's two
 spells : (p : List ℕ) → AreBytes p → length p % 2 ≡ 0 → (j : ℕ) → j < length p → getD p j 0 ≡ byteOf 2 (λ i. getD (samplesOf p) i 0) j
@@ -72,3 +72,18 @@ module _ (g : ℕ → ℕ → ℕ) (n : ℕ) (p s d : List ℕ) (e : samplesOf p
       by : (j : ℕ) → Dec (j < 2 * (n * n)) → getD (p ++ drop (2 * (n * n)) d) j 0 ≡ getD (fill f (2 * (n * n)) d) j 0
       by j (yes l) = List·getD-append p (drop (2 * (n * n)) d) 0 j (omega arith) ∙ ours j l ∙ sym (fill-at f (2 * (n * n)) d j 0 l (omega arith))
       by j (no l) = let m : 2 * (n * n) ≤ j = omega arith in beyond j m ∙ sym (fill-past f (2 * (n * n)) d j 0 m)
+
+-- blocks whose samples are the same
+pub block-same : (f g : ℕ → ℕ → ℕ) (n : ℕ) (d : List ℕ) → 0 < n → ((y x : ℕ) → y < n → x < n → f y x ≡ g y x) → blockIn f n d ≡ blockIn g n d
+unfolding blockIn
+block-same f g n d p same =
+    fill-same _ _ (2 * (n * n)) d
+    (λ j h. ap (λ (v : ℕ). v / 256 ^ (j % 2) % 256) (same (j / 2 / n) (j / 2 % n) (div-lt-iff-lt-mul p .1 (omega arith)) (mod-lt (j / 2) p)))
+
+-- lists that agree where prediction reads them
+abbrev pub Alike : ℕ → List ℕ → List ℕ → Type 0
+Alike n a b = (i : ℕ) → i < 2 * n → getD a i 0 ≡ getD b i 0
+
+-- the samples of a row, where they lie, and as they were read into a list
+pub same-row : (n : ℕ) (b : List ℕ) → n ≤ 32 → Alike n (samplesOf b) (rowOf b)
+same-row n b most i h = sym (fill-at (λ i. getD (samplesOf b) i 0) 65 (replicate 65 0) i 0 (omega arith) (let q = length-replicate {A = ℕ} 65 0 in omega arith))

@@ -22,13 +22,7 @@ use Rattle.pairs.specs.Into.{readInto, storeInto}
 use Rattle.pairs.specs.Laws.{read-done, store-done}
 use Rattle.byte_entry.specs.Entries.{rowOf, blockIn}
 use Rattle.byte_entry.specs.Checks.{Fit, halves}
-
--- blocks whose samples are the same
-pub block-same : (f g : ℕ → ℕ → ℕ) (n : ℕ) (d : List ℕ) → 0 < n → ((y x : ℕ) → y < n → x < n → f y x ≡ g y x) → blockIn f n d ≡ blockIn g n d
-unfolding blockIn
-block-same f g n d p same =
-    fill-same _ _ (2 * (n * n)) d
-    (λ j h. ap (λ (v : ℕ). v / 256 ^ (j % 2) % 256) (same (j / 2 / n) (j / 2 % n) (div-lt-iff-lt-mul p .1 (omega arith)) (mod-lt (j / 2) p)))
+use Rattle.byte_entry.specs.Spelt.{Alike, same-row}
 
 -- a predictor serves rows of 2n samples and a buffer that has room for the block
 pub flat-serves : (n a l p : ℕ) → sizeOk n ≡ true → 2 * n ≤ a → 2 * n ≤ l → n * n ≤ p → flatShortNo n a l p ≡ 0
@@ -38,14 +32,6 @@ flat-serves n a l p size ha hl hp = rw (size, le-leb (2 * n) a ha, le-leb (2 * n
 -- the samples of a row in bytes
 abbrev sampleIn : List ℕ → ℕ → ℕ
 sampleIn b i = getD (samplesOf b) i 0
-
--- lists that agree where prediction reads them
-abbrev pub Alike : ℕ → List ℕ → List ℕ → Type 0
-Alike n a b = (i : ℕ) → i < 2 * n → getD a i 0 ≡ getD b i 0
-
--- the samples of a row, where they lie, and as they were read into a list
-pub same-row : (n : ℕ) (b : List ℕ) → n ≤ 32 → Alike n (samplesOf b) (rowOf b)
-same-row n b most i h = sym (fill-at (sampleIn b) 65 (replicate 65 0) i 0 (omega arith) (let q = length-replicate {A = ℕ} 65 0 in omega arith))
 
 alike : (n : ℕ) (b d : List ℕ) → n ≤ 32 → 2 * n ≤ length d → {a : List ℕ} → a ≡ fill (sampleIn b) (2 * n) d → Alike n a (rowOf b)
 alike n b d most long e i h = ap (λ (k : List ℕ). getD k i 0) e ∙ fill-at (sampleIn b) (2 * n) d i 0 h (omega arith) ∙ same-row n b most i h

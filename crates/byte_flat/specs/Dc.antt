@@ -17,9 +17,8 @@ use Rattle.flat.specs.Flat.{wide}
 use Rattle.modes.specs.Flat.{dc-alone}
 use Rattle.byte_entry.specs.Entries.{rowOf, blockIn}
 use Rattle.byte_entry.specs.Checks.{Fit}
-use Rattle.byte_entry.specs.Spelt.{lent-part, spelt-block}
+use Rattle.byte_entry.specs.Spelt.{lent-part, spelt-block, same-row, block-same}
 use Rattle.byte_flat.specs.Entries.{dcIn}
-use Rattle.byte_flat.specs.Blocks.{same-row, block-same}
 
 -- what the loops ask of a side, and of the part of a buffer that the block fills
 pub side-in : (n : ℕ) → sizeOk n ≡ true → (4 ≤ n) × ((n ≤ 32) × (n ≤ n * n))
