@@ -15,7 +15,9 @@ ghost use Rattle.lines.specs.Angles.{turns, bends};
 ghost use Rattle.angular.specs.Unsigned.{sideOf, refAt, sampleAt, angularAt};
 ghost use Rattle.angular.specs.Lines.{lineAt, Reads};
 ghost use Rattle.angular.specs.Grid.{column};
+ghost use Rattle.byte_entry.specs.Entries.{wrote};
 ghost use Rattle.byte_angular.specs.Even.{Even};
+ghost use Rattle.byte_angular.specs.Entries.{angularEntry};
 
 // The sample that two bytes spell.
 fn sample_in(row: &[u8], i: usize) -> u16
@@ -449,4 +451,36 @@ fn work(
             }
         }
     }
+}
+
+// The block of an angular mode, 2 to 34. Numbers 1, 2, 3, 5.
+pub fn angular(
+    bits: u32,
+    n: u32,
+    mode: u32,
+    edge: u32,
+    corner: u16,
+    above: &[u8],
+    left: &[u8],
+    out: &mut [u8],
+) -> u32
+    ensures { λ r. ⌜ wrote r (now (out .exit)) ≡ angularEntry bits n mode edge corner (now (above .entry)) (now (left .entry)) (now (out .entry)) ⌝ }
+{
+    let side = n as usize;
+    let taken = (mode >= 2) & (mode <= 34);
+    let no = byte_entry::mode_no(bits, side, taken, above.len(), left.len(), out.len());
+    if no == 0 {
+        let end = 2 * (side * side);
+        work(
+            corner,
+            above,
+            left,
+            side,
+            mode as usize,
+            edge != 0,
+            bits,
+            &mut out[..end],
+        );
+    }
+    no
 }
