@@ -1,5 +1,5 @@
 -- What a call to the angular door has where its number is 0. Rests on the numbers.
-use mathlib.Core.Path.{_≡_, subst}
+use mathlib.Core.Path.{_≡_}
 use mathlib.Core.Bool.{_&&_}
 use Prim.Native.Nat.{ℕ, _+_, _*_, _≤_, _<_}
 use native.Mathlib.Omega.{arith}
@@ -8,7 +8,7 @@ use borrow.Author.Tests.{leb-true}
 use Rattle.laws.specs.Choose.{passed, both-true}
 use Rattle.domain.specs.Domain.{depthOk, sizeOk, modeOk, predictorRow}
 use Rattle.domain.specs.Facts.{Depth, Size, at-size, depth-of, size-of, size-small}
-use Rattle.numbers.specs.Numbers.{Lent, enough, angularNo, angularShortNo}
+use Rattle.numbers.specs.Numbers.{Lent, enough, angularNo}
 
 -- what a call that is served has
 pub record Fit (bits n mode : ℕ) (l : Lent) : Type 0 where
@@ -49,34 +49,3 @@ fit bits n mode l e =
       room = leb-true _ _ (d .1);
       refs = let h : 193 ≤ l .refs = leb-true _ _ (c .1) in omega (arith, size-small n size);
     }
-
--- what a call from rows of 2n entries lends, with a table of its own
-abbrev short : ℕ → ℕ → ℕ → ℕ → Lent
-short above left pred n = record { above = above; left = left; pred = pred; refs = 65 + n; indices = 0; fractions = 0 }
-
-pub fit-short : (bits n mode above left pred : ℕ) → angularShortNo bits n mode above left pred ≡ 0
-    → Fit bits n mode (short above left pred n)
-unfolding angularShortNo
-fit-short bits n mode above left pred e =
-    let p = passed (depthOk bits) _ 1 (omega arith) e in
-    let q = passed (sizeOk n) _ 2 (omega arith) (p .1) in
-    let r = passed (leb 2 mode && modeOk mode) _ 3 (omega arith) (q .1) in
-    let s = passed (leb (2 * n) above && leb (2 * n) left && leb (n * n) pred) _ 5 (omega arith) (r .1) in
-    let m = both-true (leb 2 mode) (modeOk mode) (r .0) in
-    let d = both-true _ (leb (n * n) pred) (s .0) in
-    let f = both-true (leb (2 * n) above) (leb (2 * n) left) (d .0) in
-    let top : mode ≤ 34 = leb-true mode 34 (m .1) in
-    record {
-      depth = depth-of bits (p .0);
-      size = size-of n (q .0);
-      low = leb-true 2 mode (m .0);
-      high = omega arith;
-      above = leb-true _ _ (f .0);
-      left = leb-true _ _ (f .1);
-      room = leb-true _ _ (d .1);
-      refs = omega arith;
-    }
-
--- the same at the number that n was found to be
-pub fit-at : (bits n mode above left pred m : ℕ) → n ≡ m → angularShortNo bits n mode above left pred ≡ 0 → Fit bits m mode (short above left pred m)
-fit-at bits n mode above left pred m e h = subst (λ (k : ℕ). Fit bits k mode (short above left pred k)) e (fit-short bits n mode above left pred h)

@@ -11,7 +11,7 @@ ghost use Rattle.h265.specs.Notation.{fromRows};
 ghost use Rattle.h265.specs.Angular.{angular};
 ghost use Rattle.domain.specs.Facts.{Depth, Size};
 ghost use Rattle.taps.specs.Taps.{interpOf, edgeOf};
-ghost use Rattle.numbers.specs.Numbers.{angularNo, angularShortNo};
+ghost use Rattle.numbers.specs.Numbers.{angularNo};
 ghost use Rattle.angular.specs.Unsigned.{sideOf, refAt, sampleAt, angularAt};
 ghost use Rattle.lines.specs.Starts.{lineStart, fractionOf, firstOf};
 ghost use Rattle.lines.specs.Angles.{turns, bends};
@@ -476,83 +476,6 @@ pub fn predict_angular_slices(
             &mut *pred,
             &mut *refs,
         );
-    }
-    no
-}
-
-// From rows of 2n entries, all that is read, with a table of its own, as long as the side asks: a short one is cleared in place.
-pub fn angular_2n(
-    corner: u16,
-    above: &[u16],
-    left: &[u16],
-    n: usize,
-    mode: u8,
-    filter_boundary: bool,
-    bits: u32,
-    pred: &mut [u16],
-) -> u32
-    ensures { λ r. ⌜ (r ≡ angularShortNo bits n mode (length (now (above .entry))) (length (now (left .entry))) (length (now (pred .entry)))) × (now (pred .exit) ≡ served r (block (λ (y x : ℕ). angular bits «filter_boundary» n mode (fromRows corner (now (above .entry)) (now (left .entry))) x y) n (now (pred .entry))) (now (pred .entry))) ⌝ }
-{
-    let no = numbers::angular_short_no(bits, n, mode, above.len(), left.len(), pred.len());
-    if no == 0 {
-        match n {
-            4 => {
-                let mut refs = [0u16; 73];
-                work(
-                    corner,
-                    above,
-                    left,
-                    4,
-                    mode as usize,
-                    filter_boundary,
-                    bits,
-                    &mut *pred,
-                    &mut refs,
-                );
-            }
-            8 => {
-                let mut refs = [0u16; 81];
-                work(
-                    corner,
-                    above,
-                    left,
-                    8,
-                    mode as usize,
-                    filter_boundary,
-                    bits,
-                    &mut *pred,
-                    &mut refs,
-                );
-            }
-            16 => {
-                let mut refs = [0u16; 97];
-                work(
-                    corner,
-                    above,
-                    left,
-                    16,
-                    mode as usize,
-                    filter_boundary,
-                    bits,
-                    &mut *pred,
-                    &mut refs,
-                );
-            }
-            _ => {
-                let mut refs = [0u16; 129];
-                work(
-                    corner,
-                    above,
-                    left,
-                    32,
-                    mode as usize,
-                    filter_boundary,
-                    bits,
-                    &mut *pred,
-                    &mut refs,
-                );
-            }
-        }
     }
     no
 }

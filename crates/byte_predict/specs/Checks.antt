@@ -1,64 +1,54 @@
--- Angular prediction on bytes, and which block a chroma mode asks for. Assumes nothing.
+-- Which block a chroma mode asks for, and that it is served. Assumes nothing.
 use mathlib.Core.Path.{_≡_, refl, sym, ap, _∙_}
-use mathlib.Core.Bool.{Bool, true, false, _&&_}
+use mathlib.Core.Bool.{true, false}
 use mathlib.Core.List.{List}
-use Prim.Native.Nat.{ℕ, _*_, _/_, _%_, _^_, _≤_, _<_}
+use Prim.Native.Nat.{ℕ, _*_, _/_, _%_, _^_, _≤_}
 use native.Mathlib.Omega.{arith}
-use lib.Dec.{leb}
 use lib.ListN.{length}
-use borrow.Author.Tests.{leb-true, le-leb, ne-eqb}
-use Rattle.laws.specs.Choose.{worked, both-true}
+use borrow.Author.Tests.{le-leb, ne-eqb}
+use Rattle.laws.specs.Choose.{worked}
 use Rattle.laws.specs.FillLaws.{fill-same}
-use Rattle.domain.specs.Domain.{depthOk, sizeOk, modeOk}
-use Rattle.domain.specs.Facts.{size-of}
-use Rattle.h265.specs.Notation.{fromRows}
+use Rattle.domain.specs.Domain.{depthOk, modeOk}
 use Rattle.h265.specs.Planar.{planar}
 use Rattle.h265.specs.Dc.{dc, dcVal}
-use Rattle.h265.specs.Angular.{angular}
-use Rattle.numbers.specs.Numbers.{angularShortNo}
-use Rattle.modes.specs.Angular.{angular-alone}
 use Rattle.modes.specs.Modes.{byMode, plain}
 use Rattle.predict.specs.Contents.{chromaAt, chroma-plain}
-use Rattle.byte_entry.specs.Entries.{wrote, Written, entry, neighboursIn, blockIn, flatEntryNo}
+use Rattle.byte_entry.specs.Entries.{wrote, Written, entry, neighboursIn, blockIn, flatEntryNo, modeEntryNo}
 use Rattle.byte_entry.specs.Checks.{Fit}
 use Rattle.byte_flat.specs.Entries.{planarIn, planarEntry, dcIn, dcEntry}
-use Rattle.byte_flat.specs.Blocks.{Alike}
-use Rattle.byte_predict.specs.Entries.{angularMode, angularIn, chromaIn}
+use Rattle.byte_angular.specs.Entries.{angularMode, angularIn, angularEntry}
+use Rattle.byte_predict.specs.Entries.{chromaIn}
 
--- a predictor serves rows of 2n samples and a buffer that has room for the block
-pub angular-serves : (n a l p : ℕ) → sizeOk n ≡ true → 2 * n ≤ a → 2 * n ≤ l → n * n ≤ p → (bits mode : ℕ) → depthOk bits ≡ true → angularMode mode ≡ true
-    → angularShortNo bits n mode a l p ≡ 0
-unfolding angularShortNo
-angular-serves n a l p size ha hl hp bits mode d m = rw (d, size, m, le-leb (2 * n) a ha, le-leb (2 * n) l hl, le-leb (n * n) p hp)
-
--- angular prediction reads no further
-pub angular-alike : (n : ℕ) → sizeOk n ≡ true → (a l b m : List ℕ) → Alike n a b → Alike n l m → (y x : ℕ) → y < n → x < n
-    → (bits : ℕ) (edge : Bool) (mode corner : ℕ) → angularMode mode ≡ true → angular bits edge n mode (fromRows corner a l) x y ≡ angular bits edge n mode (fromRows corner b m) x y
-angular-alike n size a l b m ea el y x hy hx bits edge mode corner h =
-    let t : mode ≤ 34 = leb-true mode 34 (both-true (leb 2 mode) (modeOk mode) h .1) in
-    angular-alone n mode (size-of n size) (omega arith) bits edge x y hx hy _ _ (record { corner = refl; above = ea; left = el })
-
--- planar and DC are served where the chroma block is
+-- each mode's entry is served where the chroma block is
 module _ (n : ℕ) (above left d : List ℕ) (f : Fit n (length above) (length left) (length d)) where
+  written : (number : ℕ) (work : List ℕ) {k : ℕ} {out : List ℕ} → number ≡ 0 → wrote k out ≡ entry number work d → out ≡ work
+  unfolding entry
+  written number work z e = ap (λ (w : Written). w .bytes) e ∙ sym (worked number work d z)
+
   served-flat : flatEntryNo n (length above) (length left) (length d) ≡ 0
   unfolding flatEntryNo
   served-flat = rw (f .size, le-leb 130 (length above) (f .above-long), le-leb 130 (length left) (f .left-long), le-leb (2 * (n * n)) (length d) (f .block-long))
 
-  written : (work : List ℕ) {k : ℕ} {out : List ℕ} → wrote k out ≡ entry (flatEntryNo n (length above) (length left) (length d)) work d → out ≡ work
-  unfolding entry
-  written work e = ap (λ (w : Written). w .bytes) e ∙ sym (worked _ work d served-flat)
-
   pub planar-there : {k : ℕ} {out : List ℕ} → wrote k out ≡ planarEntry n above left d → out ≡ blockIn (planarIn n above left) n d
   unfolding planarEntry
-  planar-there e = written _ e
+  planar-there e = written _ _ served-flat e
 
   pub dc-there : {k : ℕ} {out : List ℕ} → wrote k out ≡ dcEntry n 0 above left d → out ≡ blockIn (dcIn false n above left) n d
   unfolding dcEntry
-  dc-there e = written _ e
+  dc-there e = written _ _ served-flat e
 
--- a mode that is neither planar nor DC
-pub upper : (mode : ℕ) → (mode ≡ 0 → ⊥) → (mode ≡ 1 → ⊥) → modeOk mode ≡ true → angularMode mode ≡ true
-upper mode p q h = rw (le-leb 2 mode (omega arith), h)
+  module _ (bits mode corner : ℕ) (depth : depthOk bits ≡ true) (some : modeOk mode ≡ true) (p : mode ≡ 0 → ⊥) (q : mode ≡ 1 → ⊥) where
+    upper : angularMode mode ≡ true
+    upper = rw (le-leb 2 mode (omega arith), some)
+
+    served-angular : modeEntryNo bits n (angularMode mode) (length above) (length left) (length d) ≡ 0
+    unfolding modeEntryNo
+    served-angular =
+        rw (depth, upper, f .size, le-leb 130 (length above) (f .above-long), le-leb 130 (length left) (f .left-long), le-leb (2 * (n * n)) (length d) (f .block-long))
+
+    pub angular-there : {k : ℕ} {out : List ℕ} → wrote k out ≡ angularEntry bits n mode 0 corner above left d → out ≡ blockIn (angularIn bits false n mode corner above left) n d
+    unfolding angularEntry
+    angular-there e = written _ _ served-angular e
 
 -- a chroma block is its mode's, with nothing filtered
 module _ (bits n mode corner : ℕ) (above left d : List ℕ) where

@@ -1,3 +1,3 @@
--- Entries: what angular prediction and a chroma block on bytes give back and write. Checks: which block a mode asks for.
+-- Entries: what a chroma block on bytes gives back and writes. Checks: which block a chroma mode asks for.
 pub mod Entries
 pub mod Checks

@@ -4,7 +4,8 @@ ghost use mathlib.Core.Path.{_≡_};
 ghost use Rattle.byte_replay.specs.Door.{replayed};
 ghost use Rattle.byte_entry.specs.Entries.{wrote};
 ghost use Rattle.byte_flat.specs.Entries.{planarEntry, dcEntry};
-ghost use Rattle.byte_predict.specs.Entries.{angularEntry, chromaBlockEntry};
+ghost use Rattle.byte_angular.specs.Entries.{angularEntry};
+ghost use Rattle.byte_predict.specs.Entries.{chromaBlockEntry};
 ghost use Rattle.refs.specs.Entry.{lumaEntry};
 ghost use Rattle.camera.specs.Entries.{chromaEntry};
 use fmt::ChromaCol;
@@ -121,7 +122,7 @@ pub extern "C" fn salvrunde_angular(
 ) -> u32
     ensures { λ r. ⌜ wrote r (now (out .exit)) ≡ angularEntry bits n mode edge corner (now (above .entry)) (now (left .entry)) (now (out .entry)) ⌝ }
 {
-    byte_predict::angular(bits, n, mode, edge, corner, above, left, out)
+    byte_angular::angular(bits, n, mode, edge, corner, above, left, out)
 }
 
 // A chroma block in any mode, 0 to 34: nothing is smoothed, and no edge is filtered. Numbers 1, 2, 3, 5.

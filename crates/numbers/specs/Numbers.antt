@@ -35,11 +35,6 @@ abbrev pub angularNo : ℕ → ℕ → ℕ → Lent → ℕ
 angularNo bits n mode l =
     firstFail ((1 unless depthOk bits) ∷ (2 unless sizeOk n) ∷ (3 unless (leb 2 mode && modeOk mode)) ∷ (5 unless enough n l) ∷ [])
 
--- the same where rows of 2n entries are enough, and no table is lent
-unfoldable pub angularShortNo : ℕ → ℕ → ℕ → ℕ → ℕ → ℕ → ℕ
-angularShortNo bits n mode above left pred =
-    firstFail ((1 unless depthOk bits) ∷ (2 unless sizeOk n) ∷ (3 unless (leb 2 mode && modeOk mode)) ∷ (5 unless (leb (2 * n) above && leb (2 * n) left && leb (n * n) pred)) ∷ [])
-
 -- a block in any mode: the depth, the side, the mode, then what is lent: each is asked for in every mode
 abbrev pub predictNo : ℕ → ℕ → ℕ → Lent → ℕ
 predictNo bits n mode l =

@@ -3,7 +3,7 @@
 ghost use mathlib.Core.Path.{_≡_};
 ghost use Rattle.domain.specs.Domain.{predictorRow};
 ghost use Rattle.domain.specs.Facts.{Size};
-ghost use Rattle.numbers.specs.Numbers.{enough, flatNo, flatShortNo, angularNo, angularShortNo, predictNo};
+ghost use Rattle.numbers.specs.Numbers.{enough, flatNo, flatShortNo, angularNo, predictNo};
 
 // The least entries of a reference row.
 fn predictor_row(n: usize) -> usize
@@ -87,32 +87,6 @@ pub fn angular_no(
         return 5;
     }
     0
-}
-
-// The same where rows of 2n entries are enough, and no table is lent.
-pub fn angular_short_no(
-    bits: u32,
-    n: usize,
-    mode: u8,
-    above: usize,
-    left: usize,
-    pred: usize,
-) -> u32
-    ensures { λ r. ⌜ r ≡ angularShortNo bits n mode above left pred ⌝ }
-{
-    if !domain::depth_ok(bits) {
-        return 1;
-    }
-    if !domain::size_ok(n) {
-        return 2;
-    }
-    if !((mode >= 2) & domain::mode_ok(mode)) {
-        return 3;
-    }
-    if (above >= 2 * n) & (left >= 2 * n) & (pred >= n * n) {
-        return 0;
-    }
-    5
 }
 
 // A block in any mode.

@@ -43,11 +43,13 @@ use Rattle.cells.proofs.interleave.Reads as cells-interleave
 use Rattle.cells.proofs.ctus_of.Reads as cells-ctus-of
 use Rattle.cells.proofs.inside.Reads as cells-inside
 use Rattle.lines.proofs.start.Reads as lines-start
+use Rattle.lines.proofs.fraction.Reads as lines-fraction
 use Rattle.lines.proofs.first.Reads as lines-first
+use Rattle.lines.proofs.turn.Reads as lines-turn
+use Rattle.lines.proofs.bend.Reads as lines-bend
 use Rattle.numbers.proofs.flat_no.Reads as numbers-flat-no
 use Rattle.numbers.proofs.flat_short_no.Reads as numbers-flat-short-no
 use Rattle.numbers.proofs.angular_no.Reads as numbers-angular-no
-use Rattle.numbers.proofs.angular_short_no.Reads as numbers-angular-short-no
 use Rattle.numbers.proofs.predict_no.Reads as numbers-predict-no
 use Rattle.listing.proofs.word.Reads as listing-word
 use Rattle.listing.proofs.other.Reads as listing-other
@@ -146,7 +148,6 @@ use Rattle.flat.proofs.predict_planar_into.Reads as flat-predict-planar-into
 use Rattle.flat.proofs.predict_dc_into.Reads as flat-predict-dc-into
 use Rattle.flat.proofs.planar_2n.Reads as flat-planar-2n
 use Rattle.angular.proofs.predict_angular_slices.Reads as angular-predict-angular-slices
-use Rattle.angular.proofs.angular_2n.Reads as angular-angular-2n
 use Rattle.predict.proofs.predict_chroma_tb_slices.Reads as predict-predict-chroma-tb-slices
 use Rattle.predict.proofs.predict_luma_tb_slices.Reads as predict-predict-luma-tb-slices
 use Rattle.scratch.proofs.AngularScratch.new.Reads as scratch-new
@@ -180,7 +181,7 @@ use Rattle.byte_entry.proofs.flat_no.Reads as byte-entry-flat-no
 use Rattle.byte_entry.proofs.mode_no.Reads as byte-entry-mode-no
 use Rattle.byte_flat.proofs.planar.Reads as byte-flat-planar
 use Rattle.byte_flat.proofs.dc.Reads as byte-flat-dc
-use Rattle.byte_predict.proofs.angular.Reads as byte-predict-angular
+use Rattle.byte_angular.proofs.angular.Reads as byte-angular-angular
 use Rattle.byte_predict.proofs.chroma.Reads as byte-predict-chroma
 use Rattle.camera.proofs.salvrunde_luma_refs.Reads as camera-salvrunde-luma-refs
 use Rattle.camera.proofs.salvrunde_chroma_refs.Reads as camera-salvrunde-chroma-refs
@@ -270,8 +271,17 @@ cells-inside-once a x y s t p q = p ∙ sym q
 lines-start-once : Once (lines-start.Post tt)
 lines-start-once a x y s t p q = p ∙ sym q
 
+lines-fraction-once : Once (lines-fraction.Post tt)
+lines-fraction-once a x y s t p q = p ∙ sym q
+
 lines-first-once : Once (lines-first.Post tt)
 lines-first-once a x y s t p q = p ∙ sym q
+
+lines-turn-once : Once (lines-turn.Post tt)
+lines-turn-once a x y s t p q = p ∙ sym q
+
+lines-bend-once : Once (lines-bend.Post tt)
+lines-bend-once a x y s t p q = p ∙ sym q
 
 -- taps
 taps-largest-of-once : Once (taps-largest-of.Post tt)
@@ -304,9 +314,6 @@ numbers-flat-short-no-once a x y s t p q = p ∙ sym q
 
 numbers-angular-no-once : Once (numbers-angular-no.Post tt)
 numbers-angular-no-once a x y s t p q = p ∙ sym q
-
-numbers-angular-short-no-once : Once (numbers-angular-short-no.Post tt)
-numbers-angular-short-no-once a x y s t p q = p ∙ sym q
 
 numbers-predict-no-once : Once (numbers-predict-no.Post tt)
 numbers-predict-no-once a x y s t p q = p ∙ sym q
@@ -626,9 +633,6 @@ flat-planar-2n-once κs a x y s t p q = by-number _ _ (p .0) (q .0) (p .1) (q .1
 angular-predict-angular-slices-once : (κs : Lfts 6) → OnceLeft (λ s. now (s .1 .1 .1 .1 .1 .1 .1 .0)) (angular-predict-angular-slices.Post κs)
 angular-predict-angular-slices-once κs a x y s t p q = by-number _ _ (p .0) (q .0) (p .1 .0) (q .1 .0)
 
-angular-angular-2n-once : (κs : Lfts 3) → OnceLeft (λ s. now (s .1 .1 .1 .1 .1 .1 .1 .0)) (angular-angular-2n.Post κs)
-angular-angular-2n-once κs a x y s t p q = by-number _ _ (p .0) (q .0) (p .1) (q .1)
-
 -- predict
 predict-predict-chroma-tb-slices-once : (κs : Lfts 6) → OnceLeft (λ s. now (s .1 .1 .1 .1 .1 .1 .0)) (predict-predict-chroma-tb-slices.Post κs)
 predict-predict-chroma-tb-slices-once κs a x y s t p q = by-number _ _ (p .0) (q .0) (p .1 .0) (q .1 .0)
@@ -743,10 +747,11 @@ byte-flat-planar-once κs a x y s t p q = by-written p q
 byte-flat-dc-once : (κs : Lfts 3) → OnceLeft (λ s. now (s .1 .1 .1 .1 .0)) (byte-flat-dc.Post κs)
 byte-flat-dc-once κs a x y s t p q = by-written p q
 
--- byte_predict
-byte-predict-angular-once : (κs : Lfts 3) → OnceLeft (λ s. now (s .1 .1 .1 .1 .1 .1 .1 .0)) (byte-predict-angular.Post κs)
-byte-predict-angular-once κs a x y s t p q = by-written p q
+-- byte_angular
+byte-angular-angular-once : (κs : Lfts 3) → OnceLeft (λ s. now (s .1 .1 .1 .1 .1 .1 .1 .0)) (byte-angular-angular.Post κs)
+byte-angular-angular-once κs a x y s t p q = by-written p q
 
+-- byte_predict
 byte-predict-chroma-once : (κs : Lfts 3) → OnceLeft (λ s. now (s .1 .1 .1 .1 .1 .1 .0)) (byte-predict-chroma.Post κs)
 byte-predict-chroma-once κs a x y s t p q = by-written p q
 

@@ -25,7 +25,8 @@ use Rattle.byte_answer.specs.Door.{Lent, byteVerdict}
 use Rattle.byte_replay.specs.Door.{blockWritten}
 use Rattle.byte_entry.specs.Entries.{entry, room, flatEntryNo, modeEntryNo}
 use Rattle.byte_flat.specs.Entries.{planarEntry, dcEntry}
-use Rattle.byte_predict.specs.Entries.{angularEntry, chromaBlockEntry}
+use Rattle.byte_angular.specs.Entries.{angularEntry}
+use Rattle.byte_predict.specs.Entries.{chromaBlockEntry}
 use Rattle.refs.specs.Entry.{lumaEntry}
 use Rattle.camera.specs.Entries.{chromaEntry}
 use Rattle.tables.specs.Exact.{_when_, _or_, Exact, ExactFirst, Tells, exact-none, exact-row, first-row, all-of, at-most, same}

@@ -1,7 +1,7 @@
 -- Each kind of mode. Assumes nothing.
 use mathlib.Core.Path.{_∙_}
 use native.Mathlib.Omega.{arith}
-use Rattle.byte_predict.specs.Checks.{planar-there, dc-there, chroma-planar, chroma-dc, chroma-angular, upper}
+use Rattle.byte_predict.specs.Checks.{planar-there, dc-there, angular-there, chroma-planar, chroma-dc, chroma-angular}
 use borrow.Author.Needs.{needs}
 use Rattle.byte_predict.proofs.chroma_block.Statement.{statement}
 use Rattle.byte_predict.proofs.chroma_block.Tie as tie
@@ -12,8 +12,8 @@ planar-requires c κs = search needs
 dc-requires : tie.Need-dc-requires
 dc-requires c κs = search needs
 
-angular-block-requires : tie.Need-angular-block-requires
-angular-block-requires c κs = let p = c .before .before .before .before .before .pre in let m = c .before .match .rest in (p .0, p .1, upper _ (m .0 .1) (m .1) (p .2))
+angular-requires : tie.Need-angular-requires
+angular-requires c κs = search needs
 
 same-length : tie.Need-same-length
 same-length c = search needs
@@ -31,7 +31,12 @@ same-length-3 : tie.Need-same-length-3
 same-length-3 c = search needs
 
 returns-3 : tie.Need-returns-3
-returns-3 c = let a = c .before .before .before .before .before .before .before .before .args in let m = c .before .before .before .before .match .rest in c .before .before .angular-block .ensures ∙ chroma-angular (a .bits) (a .n) (a .mode) (a .corner) (a .above .now) (a .left .now) (a .out .now) (m .0 .1) (m .1)
+returns-3 c =
+    let s = c .before .before .before .before .before .before .before .before in
+    let a = s .args in
+    let m = c .before .before .before .before .match .rest in
+    angular-there (a .n) (a .above .now) (a .left .now) (a .out .now) (s .pre .0) (a .bits) (a .mode) (a .corner) (s .pre .1) (s .pre .2) (m .0 .1) (m .1) (c .before .before .angular .ensures)
+    ∙ chroma-angular (a .bits) (a .n) (a .mode) (a .corner) (a .above .now) (a .left .now) (a .out .now) (m .0 .1) (m .1)
 
 pub chroma-block-spec : {M : Type 1} → statement M
 chroma-block-spec =
@@ -39,7 +44,7 @@ chroma-block-spec =
     (tie.spec
     planar-requires
     dc-requires
-    angular-block-requires
+    angular-requires
     same-length
     returns
     same-length-2
