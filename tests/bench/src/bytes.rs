@@ -28,13 +28,14 @@ struct Both {
     left: Vec<u8>,
 }
 
-/// What both sides are lent.
+/// What both sides are lent. The door's block and the entry's lie alike: a store that crosses a line of the cache takes longer, whoever makes it.
+#[repr(C, align(64))]
 struct Lent {
     pred: [u16; 1024],
+    out: [u8; 2048],
     refs: [u16; 193],
     indices: [u32; 32],
     fractions: [u32; 32],
-    out: [u8; 2048],
 }
 
 /// A predictor in both forms: the lengths are those of the slices.
@@ -73,7 +74,7 @@ impl<D: Fn(&Both, usize, u32, &mut Lent) -> u32, E: Fn(&Both, usize, u32, &mut L
 fn time_prediction(table: &mut Table) {
     let both = |rows: Rows| Both { above: samples(&rows.above), left: samples(&rows.left), rows };
     let inputs: Vec<Both> = rows(9).into_iter().map(both).collect();
-    let lent = || Lent { pred: [0; 1024], refs: [0; 193], indices: [0; 32], fractions: [0; 32], out: [0; 2048] };
+    let lent = || Lent { pred: [0; 1024], out: [0; 2048], refs: [0; 193], indices: [0; 32], fractions: [0; 32] };
     let mut lent = [lent(), lent()];
     let door: PlanarDoor = black_box(salvrunde_probe_predict_planar_into);
     let entry: PlanarEntry = black_box(salvrunde_planar);
