@@ -8,7 +8,7 @@ use native.Mathlib.Omega.{arith}
 use lib.Dec.{eqb, ltb}
 use lib.ListN.{length, getD}
 use borrow.Author.Tests.{ne-eqb, le-leb, lt-leb}
-use Rattle.laws.specs.Fill.{fill, run, rows, block}
+use Rattle.laws.specs.Fill.{fill, run, block}
 use Rattle.laws.specs.FillLaws.{run-at, rows-same}
 use Rattle.domain.specs.Facts.{Size, size-small}
 use Rattle.h265.specs.Notation.{Neighbours, fromRows}

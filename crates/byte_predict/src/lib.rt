@@ -2,7 +2,7 @@
 // number of crate byte_entry.
 ghost use mathlib.Core.Path.{_≡_};
 ghost use mathlib.Core.Bool.{true};
-ghost use Prim.Native.Nat.{ℕ, _*_, _≤_};
+ghost use Prim.Native.Nat.{_*_};
 ghost use lib.ListN.{length};
 ghost use Rattle.domain.specs.Domain.{depthOk, modeOk};
 ghost use Rattle.byte_entry.specs.Entries.{wrote, blockIn};

@@ -1,6 +1,6 @@
 -- Samples stored as bytes: one more, a list after another, and rows. Assumes nothing.
 use mathlib.Core.Path.{_≡_, refl, sym, ap, ap₂, _∙_}
-use mathlib.Core.List.{List, [], _∷_, _++_}
+use mathlib.Core.List.{List}
 use Prim.Native.Nat.{ℕ, zero, suc, _+_, _*_, _/_, _%_, _^_, _≤_, _<_}
 use native.Mathlib.Nat.{div-one, add-zero, add-suc, add-assoc}
 use native.Mathlib.Omega.{arith}

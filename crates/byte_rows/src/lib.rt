@@ -1,6 +1,5 @@
 // How a gather's rows are stored as bytes, and its number where there is no room for them (document 01, 'use from C'). Rests on what bytes spell.
 ghost use mathlib.Core.Path.{_≡_};
-ghost use mathlib.Core.Bool.{cond};
 ghost use Prim.Native.Nat.{_+_, _*_, _%_, _≤_, _<_};
 ghost use lib.Dec.{leb};
 ghost use lib.ListN.{length, set};

@@ -1,7 +1,7 @@
 // Samples and residuals as bytes, the lowest byte first: one number at a time, so that a caller reads and stores its own bytes.
 // Rests on nothing.
 ghost use mathlib.Core.Path.{_≡_};
-ghost use Prim.Native.Nat.{ℕ, _+_, _*_, _/_, _%_, _<_};
+ghost use Prim.Native.Nat.{_+_, _*_, _/_, _%_, _<_};
 ghost use lib.Dec.{eqb};
 ghost use mir.Syntax.{w32};
 ghost use mir.Val.{toZ};

@@ -1,6 +1,6 @@
 -- Document 01, 'Numbers and domain': each rule as a test. Assumes nothing.
 use Prim.Native.Nat.{ℕ, _%_}
-use mathlib.Core.Bool.{Bool, true, false, _&&_, _||_}
+use mathlib.Core.Bool.{Bool, _&&_, _||_}
 use lib.Dec.{leb, eqb}
 
 -- depth 8, 10, 12

@@ -1,6 +1,6 @@
 -- 6.4.1, availability in z-scan order, for one slice and one tile. Assumes nothing.
 use Prim.Native.Nat.{ℕ}
-use mathlib.Core.Bool.{Bool, true, false, not, _&&_}
+use mathlib.Core.Bool.{Bool, false, not, _&&_}
 use lib.Dec.{ltb}
 use lib.IntN.{ℤ, pos, negsuc}
 use Rattle.h265.specs.Setting.{Grid}

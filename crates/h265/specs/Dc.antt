@@ -1,6 +1,6 @@
 -- 8.4.4.2.5, DC prediction. Assumes nothing.
 use Prim.Native.Nat.{ℕ, zero, suc, _+_, _*_}
-use mathlib.Core.Bool.{Bool, true, false, cond, _&&_}
+use mathlib.Core.Bool.{Bool, cond, _&&_}
 use lib.Dec.{ltb, eqb}
 use Rattle.h265.specs.Notation.{Neighbours, log2, _>>ℕ_}
 

@@ -3,17 +3,17 @@ use mathlib.Core.Path.{_≡_, refl}
 use mathlib.Core.Bool.{Bool, true, false}
 use mathlib.Core.List.{List, [], _∷_}
 use Prim.Native.Nat.{ℕ, _+_, _-_, _*_}
-use lib.IntN.{ℤ, pos, negsuc}
-use Rattle.h265.specs.Notation.{Neighbours, near, log2, halvings, clip1}
-use Rattle.h265.specs.Setting.{Grid, Component, lumaAt, first}
+use lib.IntN.{pos, negsuc}
+use Rattle.h265.specs.Notation.{Neighbours, near, log2, halvings}
+use Rattle.h265.specs.Setting.{Grid, lumaAt, first}
 use Rattle.h265.specs.Order.{interleaved, zScan, minTbAddrZs, addressAt}
 use Rattle.h265.specs.Availability.{available}
 use Rattle.h265.specs.Substitution.{firstMarked, settled, substitutedAt, marked, neighbours}
-use Rattle.h265.specs.Filtering.{filterFlag, straight, biIntFlag, strongAt, weakAt, filtered}
+use Rattle.h265.specs.Filtering.{filterFlag, straight, weakAt}
 use Rattle.h265.specs.Planar.{planar}
 use Rattle.h265.specs.Dc.{sum, dcVal, dc}
 use Rattle.h265.specs.Angular.{ref, project, angular}
-use Rattle.h265.specs.Prediction.{filters, prepared, predSamples, predicted}
+use Rattle.h265.specs.Prediction.{filters, prepared, predSamples}
 
 -- a picture of 32 by 24 samples, CTU 16, cells of 8
 small : Grid

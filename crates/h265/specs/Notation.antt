@@ -1,6 +1,6 @@
 -- The notation of H.265, clauses 5 and 8.4.4.2: shifts that round down, Log2, Clip1, and the neighbours p[x][y] of a block. Assumes nothing.
 use Prim.Native.Nat.{ℕ, zero, suc, _-_, _/_, _%_, _^_, min}
-use mathlib.Core.Bool.{Bool, true, false, cond}
+use mathlib.Core.Bool.{cond}
 use mathlib.Core.List.{List}
 use lib.Dec.{ltb}
 use lib.ListN.{getD}

@@ -1,25 +1,25 @@
 -- The laws of the decode order over the samples of a good picture, and where 6.4.1 and document 01 part. Assumes nothing.
 use mathlib.Core.Path.{_≡_, refl, sym, ap, ap₂, _∙_}
-use mathlib.Core.Bool.{Bool, true, false, not, _&&_, true≢false}
-use mathlib.Core.Logic.{_⊎_, inl, inr, ⊎-elim}
-use Prim.Native.Nat.{ℕ, zero, suc, _+_, _-_, _*_, _/_, _%_, _^_, _≤_, _<_}
+use mathlib.Core.Bool.{Bool, true, false, not, _&&_}
+use mathlib.Core.Logic.{_⊎_, inr, ⊎-elim}
+use Prim.Native.Nat.{ℕ, _+_, _-_, _*_, _/_, _%_, _^_, _≤_, _<_}
 use native.Mathlib.Nat.{le-trans, le-div-iff-mul-le, div-mul-le-self, div-div-eq-div-mul, div-eq-of-eq-mul-left, div-add-mod', div-lt-iff-lt-mul, mod-lt, mul-comm}
 use native.Mathlib.Omega.{arith}
 use native.Mathlib.Decide.{decLt}
 use lib.Arith.{digits-div, mod-mul}
 use lib.Dec.{ltb}
-use lib.IntN.{ℤ, pos, negsuc}
+use lib.IntN.{pos}
 use lib.Pow.{pow-pos}
-use borrow.Author.Tests.{lt-ltb, le-ltb, ltb-true, ltb-false}
+use borrow.Author.Tests.{lt-ltb, le-ltb, ltb-true}
 use Rattle.laws.specs.Choose.{both-true}
-use Rattle.h265.specs.Order.{interleaved, minTbAddrZs, zScan}
+use Rattle.h265.specs.Order.{interleaved, zScan}
 use Rattle.h265.specs.Availability.{available}
 use Rattle.fmt.specs.declared.LumaRow.{LumaRow}
 use Rattle.fmt.specs.declared.LumaCol.{LumaCol}
 use Rattle.order.specs.declared.Picture.{Picture}
 use Rattle.order.specs.Order.{gridOf, numberAt, before, availableTo}
-use Rattle.order.specs.Cells.{cellNo, row-lt, col-lt, cell-inj, cell-split, cell-zs, run-in, run-only}
-use Rattle.cells.specs.Spread.{spread, interleaved-spread}
+use Rattle.order.specs.Cells.{cellNo, row-lt, col-lt, cell-inj, cell-zs, run-in, run-only}
+use Rattle.cells.specs.Spread.{interleaved-spread}
 use Rattle.order.specs.Spread.{spread-mod}
 use Rattle.order.specs.Good.{Good, sized, levels, ctusIn, ctus-are, ctus-cover, cell-in, number-cell}
 

@@ -1,6 +1,6 @@
 -- Document 01, module 4: the rows of a block by a rule that tells which neighbours are there. A missing sample is read nowhere. Assumes nothing.
 use Prim.Native.Nat.{ℕ, _+_, _-_, _*_}
-use mathlib.Core.Bool.{Bool, true, false, cond}
+use mathlib.Core.Bool.{Bool, false, cond}
 use mathlib.Core.List.{List}
 use lib.IntN.{ℤ}
 use lib.ListN.{getD, replicate}

@@ -3,16 +3,16 @@ use mathlib.Core.Path.{_≡_, refl, sym, ap, ap₂, _∙_, subst}
 use mathlib.Core.Bool.{Bool, true, false, cond, _&&_, _||_, false≢true}
 use mathlib.Core.List.{List, [], _∷_}
 use mathlib.Core.Logic.{_⊎_, ⊎-elim}
-use Prim.Native.Nat.{ℕ, zero, suc, _-_, _*_, _/_, _%_, _≤_}
+use Prim.Native.Nat.{ℕ, zero, suc, _-_, _*_, _≤_}
 use native.Mathlib.Nat.{div-le-self}
 use native.Mathlib.Omega.{arith}
 use lib.Dec.{leb, eqb}
 use lib.IntN.{ℤ}
 use lib.ListN.{length}
 use borrow.Author.Tests.{eq-eqb, ne-eqb, eqb-true, eqb-false, le-leb, lt-leb}
-use Rattle.laws.specs.Choose.{served, worked, unserved, passed, both-true, both-same}
+use Rattle.laws.specs.Choose.{served, worked, passed, both-true}
 use Rattle.domain.specs.Domain.{depthOk, sizeOk}
-use Rattle.domain.specs.Facts.{size-of, size-small}
+use Rattle.domain.specs.Facts.{size-small}
 use Rattle.fmt.specs.Fmt.{subWidth, subHeight}
 use Rattle.order.specs.declared.LumaBlock.{LumaBlock}
 use Rattle.order.specs.declared.ChromaBlock.{ChromaBlock}
@@ -21,7 +21,6 @@ use Rattle.order.specs.Order.{pictureOk}
 use Rattle.order.specs.Reach.{reachBy, noReach, lumaPlaceOk, lumaReachNo, lumaHas, lumaReach, colour, chromaPlaceOk, chromaReachNo, chromaHas, chromaReach, chromaWidth}
 use Rattle.order.specs.Blocks.{luma-fine, chroma-fine}
 use Rattle.rows.specs.declared.Rows.{Rows}
-use Rattle.rows.specs.declared.Gathered.{Gathered}
 use Rattle.refs.specs.declared.GatheredPair.{GatheredPair}
 use Rattle.refs.specs.declared.Spot.{Spot}
 use Rattle.refs.specs.declared.LumaRefGeometry.{LumaRefGeometry}

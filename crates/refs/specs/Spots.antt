@@ -1,22 +1,17 @@
 -- Where a block's neighbours stand in a plane of samples in rows: the indices that the code reads at. Assumes nothing.
-use mathlib.Core.Path.{_≡_, refl, sym, ap, ap₂, _∙_, fun-ext}
-use mathlib.Core.Bool.{Bool, true, false, _||_}
-use mathlib.Core.List.{List, [], _∷_}
+use mathlib.Core.Path.{_≡_, sym, ap, ap₂, _∙_, fun-ext}
+use mathlib.Core.Bool.{Bool, true}
+use mathlib.Core.List.{List}
 use Prim.Native.Nat.{ℕ, _+_, _-_, _*_, _≤_, _<_}
-use native.Mathlib.Nat.{mul-le-mul, zero-mul, add-zero}
+use native.Mathlib.Nat.{mul-le-mul}
 use native.Mathlib.Omega.{arith}
-use lib.Dec.{ltb}
-use borrow.Author.Tests.{ltb-true, le-ltb}
 use lib.IntN.{ℤ}
 use lib.ListN.{getD}
-use Rattle.laws.specs.Choose.{if-yes, if-no}
 use Rattle.order.specs.declared.Reach.{Reach}
 use Rattle.rows.specs.declared.Rows.{Rows}
 use Rattle.refs.specs.declared.Spot.{Spot}
 use Rattle.refs.specs.Gather.{gatheredBy, sampleOf}
-use Rattle.substitution.specs.Line.{anyBy}
-use Rattle.substitution.specs.Substitution.{levelRows}
-use Rattle.refs.specs.Counts.{cornerAt, aboveAt, leftAt, startOf, cornerOf, restOf, edgeOf, reached, fromReach, Counted, from-reach}
+use Rattle.refs.specs.Counts.{cornerAt, aboveAt, leftAt, fromReach, Counted, from-reach}
 
 -- the corner, and entry 0 of the row above and of the left column
 abbrev pub spotOf : ℕ → ℕ → ℕ → Spot

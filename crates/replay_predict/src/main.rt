@@ -10,8 +10,6 @@
 // samples of either end. The corner has the seed's own, the row above the numbers that follow, the row on the left and the
 // second block those that follow `other` of the seed.
 ghost use Prim.Native.Nat.{_+_, _≤_, _<_};
-ghost use lib.ListN.{length};
-ghost use mathlib.Core.Path.{_≡_};
 use listing::Count;
 use rows::Rows;
 

@@ -11,7 +11,7 @@
 // plane and Cb the numbers that follow, the left row and Cr those that follow `other` of the seed. Substitution's flags come
 // from the current place's two numbers as seeds, with the unit as odds in sixteen; the entries that the sides name are there
 // too, and the corner where the CTU is 1.
-ghost use Prim.Native.Nat.{_+_, _≤_, _<_};
+ghost use Prim.Native.Nat.{_≤_, _<_};
 ghost use lib.ListN.{length};
 ghost use mathlib.Core.Path.{_≡_};
 use fmt::ChromaCol;

@@ -17,7 +17,7 @@ use base.Logic.{SProp, ent, sep, wand, allE, apply∗}
 use base.Fml.{Lft, Share, GName, flft, fobs, fauth, fobor, flent}
 use prog.Wp.{Heap}
 use ghost.Atoms.{Atoms, sem}
-use types.Kit.{Given, Item, ‵, raw, given, some, later, _⊛_, mean, _$_, _∵_, !, qed, move, keep, drop, group, use1, use2, use3, split, join, pick, learn, check, rewrite, fsplit, fsplit3, fjoin, fjoin3, feqL, feqI, frame, await, updating, now as at-once, show, done}
+use types.Kit.{Given, Item, ‵, raw, given, some, later, _⊛_, mean, _$_, _∵_, !, qed, move, keep, drop, group, use1, use2, use3, split, pick, learn, check, rewrite, fsplit, fsplit3, fjoin, fjoin3, feqL, feqI, frame, await, updating, now as at-once, show, done}
 use types.Mut.{open-ref, close-ref}
 use types.SemTy.{Body, Arr, cells}
 use types.Share.{arr-parts}

@@ -1,7 +1,7 @@
 -- Document 01, module 3: substitution over a line of entries 0 to 2n of both rows. The first entry that is there and the filling are
 -- those of H.265 8.4.4.2.2, over two places more. Assumes nothing.
 use Prim.Native.Nat.{ℕ, _+_, _-_, _*_}
-use mathlib.Core.Bool.{Bool, true, false, cond}
+use mathlib.Core.Bool.{Bool, false, cond}
 use lib.Dec.{leb, ltb, eqb}
 use lib.ListN.{getD, replicate}
 use Rattle.laws.specs.Fill.{fill}

@@ -1,8 +1,7 @@
 -- `byte_angular::copy_row` meets its contract. The loop makes a run of samples, one a turn. Assumes nothing.
-use Prim.Native.Nat.{ℕ, _+_, _-_, _*_, _≤_}
-use mathlib.Core.Path.{_≡_, refl, _∙_}
+use Prim.Native.Nat.{ℕ, _+_, _-_, _≤_}
+use mathlib.Core.Path.{_≡_}
 use lib.ListN.{length, getD}
-use native.Mathlib.Omega.{arith}
 use borrow.Author.Needs.{needs}
 use Rattle.bytes.specs.Bytes.{samplesOf}
 use Rattle.laws.specs.Fill.{run}

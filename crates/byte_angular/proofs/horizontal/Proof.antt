@@ -1,5 +1,5 @@
 -- `byte_angular::horizontal` meets its contract. By angle, from the references or from the main row itself, by columns. Assumes nothing.
-use mathlib.Core.Path.{_≡_, sym, _∙_}
+use mathlib.Core.Path.{sym, _∙_}
 use Prim.Native.Nat.{_≤_, _<_}
 use native.Mathlib.Omega.{arith}
 use lib.ListN.{getD}

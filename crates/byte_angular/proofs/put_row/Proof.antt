@@ -1,9 +1,8 @@
 -- `byte_angular::put_row` meets its contract. The loop stores a run of samples, one a turn. Assumes nothing.
-use Prim.Native.Nat.{ℕ, _+_, _-_, _*_, _≤_}
+use Prim.Native.Nat.{ℕ, _+_, _-_, _≤_}
 use mathlib.Core.Path.{_≡_, sym, ap, _∙_}
 use native.Mathlib.Nat.{zero-add}
 use lib.ListN.{length, getD}
-use native.Mathlib.Omega.{arith}
 use borrow.Author.Needs.{needs}
 use Rattle.bytes.specs.Bytes.{samplesOf}
 use Rattle.laws.specs.Fill.{run}

@@ -1,5 +1,5 @@
 -- `byte_angular::vertical` meets its contract. By angle, from the references or from the main row itself. Assumes nothing.
-use mathlib.Core.Path.{_≡_, _∙_}
+use mathlib.Core.Path.{_∙_}
 use Prim.Native.Nat.{_≤_, _<_}
 use native.Mathlib.Omega.{arith}
 use lib.ListN.{getD}

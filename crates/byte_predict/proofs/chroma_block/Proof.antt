@@ -1,6 +1,5 @@
 -- Each kind of mode. Assumes nothing.
 use mathlib.Core.Path.{_∙_}
-use native.Mathlib.Omega.{arith}
 use Rattle.byte_predict.specs.Checks.{planar-there, dc-there, angular-there, chroma-planar, chroma-dc, chroma-angular}
 use borrow.Author.Needs.{needs}
 use Rattle.byte_predict.proofs.chroma_block.Statement.{statement}

@@ -1,6 +1,5 @@
 -- The two bytes of a sample. Assumes nothing.
 use mathlib.Core.Path.{ap₂}
-use mathlib.Core.List.{List}
 use Prim.Native.Nat.{ℕ, _+_, _*_}
 use lib.ListN.{set}
 use borrow.Author.Needs.{needs}

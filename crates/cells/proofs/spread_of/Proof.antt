@@ -1,5 +1,4 @@
 -- `cells::spread_of` meets its contract: four bits, written out.
-use native.Mathlib.Omega.{arith}
 use Rattle.cells.specs.Spread.{spread}
 use borrow.Author.Needs.{needs}
 use Rattle.cells.proofs.spread_of.Statement.{statement}

@@ -1,7 +1,6 @@
 -- The corner is read where it is there. Assumes nothing.
 use mathlib.Core.Path.{refl}
 use Rattle.laws.specs.Choose.{if-yes, if-no}
-use borrow.Author.Needs.{needs}
 use Rattle.refs.proofs.corner_seen_in.Statement.{statement}
 use Rattle.refs.proofs.corner_seen_in.Tie as tie
 

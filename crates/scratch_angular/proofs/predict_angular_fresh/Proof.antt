@@ -40,14 +40,13 @@ use denote.Triple.Walked.{says, Stays, stay-none, stay-none-slice, gave-slice, w
 use denote.Exit.{yes}
 use denote.Signature.{plain}
 use Rattle.laws.specs.Fill.{block}
-use Rattle.laws.specs.Choose.{served}
 use Rattle.h265.specs.Notation.{fromRows}
 use Rattle.h265.specs.Angular.{angular}
 use Rattle.numbers.specs.Numbers.{angularNo, Lent as Lengths}
 use Rattle.scratch.specs.declared.AngularScratch.{AngularScratch}
 use Rattle.scratch.proofs.AngularScratch as T
 use Rattle.scratch.proofs.AngularScratch.Laws as T′
-use Rattle.scratch.proofs.Tables.{made, Holds}
+use Rattle.scratch.proofs.Tables.{Holds}
 use Rattle.scratch.proofs.Local.{LocalLoan, Token, Lender, lend-local, local-back}
 use Rattle.scratch.proofs.Answers.{Ends}
 use Rattle.scratch.proofs.AngularScratch.new as new

@@ -40,7 +40,6 @@ use denote.Triple.Walked.{says, Stays, stay-ref, stay-none, stay-none-slice, gav
 use denote.Exit.{yes}
 use denote.Signature.{plain}
 use Rattle.laws.specs.Fill.{block}
-use Rattle.laws.specs.Choose.{served}
 use Rattle.h265.specs.Notation.{fromRows}
 use Rattle.h265.specs.Setting.{first}
 use Rattle.h265.specs.Prediction.{predSamples}

@@ -40,7 +40,6 @@ use denote.Triple.Walked.{says, Stays, stay-none, gave-slice, walkOf, goes-none,
 use denote.Exit.{yes}
 use denote.Signature.{plain}
 use Rattle.laws.specs.Fill.{block}
-use Rattle.laws.specs.Choose.{served}
 use Rattle.h265.specs.Setting.{lumaAt, first}
 use Rattle.h265.specs.Prediction.{predSamples}
 use Rattle.rows.specs.Neighbours.{neighboursOf}
@@ -51,7 +50,7 @@ use Rattle.numbers.specs.Numbers.{predictNo, Lent as Lengths}
 use Rattle.scratch.specs.declared.AngularScratch.{AngularScratch}
 use Rattle.scratch.proofs.AngularScratch as T
 use Rattle.scratch.proofs.AngularScratch.Laws as T′
-use Rattle.scratch.proofs.Tables.{made, Holds}
+use Rattle.scratch.proofs.Tables.{Holds}
 use Rattle.scratch.proofs.Local.{LocalLoan, Token, Lender, lend-local, local-back}
 use Rattle.scratch.proofs.Answers.{Ends}
 use Rattle.scratch.proofs.AngularScratch.new as new

@@ -41,7 +41,6 @@ use denote.Triple.Walked.{says, Stays, stay-ref, stay-none, gave-slice, walkOf, 
 use denote.Exit.{yes}
 use denote.Signature.{plain}
 use Rattle.laws.specs.Fill.{block}
-use Rattle.laws.specs.Choose.{served}
 use Rattle.h265.specs.Setting.{lumaAt, first}
 use Rattle.h265.specs.Prediction.{predSamples}
 use Rattle.rows.specs.Neighbours.{neighboursOf}
