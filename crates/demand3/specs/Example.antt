@@ -13,9 +13,9 @@ use Rattle.h265.specs.Notation.{halvings}
 use Rattle.walked.specs.Block.{World}
 use Rattle.still.specs.Checks.{every, settle}
 use Rattle.calls.specs.Door.{verdictOf, walkVerdict}
-use Rattle.promises.specs.Calls.{Job, Served, count, fresh, calls, walkNo, walkCall, replayCall}
-use Rattle.promises.specs.Chains.{sum-none, sum-more}
-use Rattle.promises.specs.Proof3.{demand-3}
+use Rattle.demand3.specs.Calls.{Job, Served, count, fresh, calls, walkNo, walkCall, replayCall}
+use Rattle.demand3.specs.Chains.{sum-none, sum-more}
+use Rattle.demand3.specs.Proof3.{demand-3}
 
 abbrev two : Job
 two =

@@ -12,7 +12,7 @@ use Rattle.block.specs.Block.{sampleAt, predictedAt}
 use Rattle.walked.specs.Block.{World}
 use Rattle.walk.specs.Door.{steppedBy}
 use Rattle.lossless.specs.Picture.{Whole}
-use Rattle.promises.specs.Calls.{Job, Held, Served, blocks, count, residualAt, fresh, calls, walkNo, walkCall, replayNo, replayCall}
+use Rattle.demand3.specs.Calls.{Job, Held, Served, blocks, count, residualAt, fresh, calls, walkNo, walkCall, replayNo, replayCall}
 
 -- The whole picture is walked: the record says so, each block's residual is the source less H.265's prediction from the source itself, and the
 -- work plane holds the source.

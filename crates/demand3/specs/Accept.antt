@@ -29,8 +29,8 @@ use Rattle.rebuilt.specs.Laws.{rebuilt-length}
 use Rattle.walked.specs.Laws.{stored-length}
 use Rattle.lossless.specs.Picture.{Whole}
 use Rattle.lossless.specs.Replay.{units-kept}
-use Rattle.promises.specs.Calls.{Job, Held, blocks, count, walkNo, walkCall, replayNo, replayCall}
-use Rattle.promises.specs.Chains.{next, Steps}
+use Rattle.demand3.specs.Calls.{Job, Held, blocks, count, walkNo, walkCall, replayNo, replayCall}
+use Rattle.demand3.specs.Chains.{next, Steps}
 
 -- the verdict, where the checks before the blocks, the plan's and the record's all hold
 module _ (s : Still) (plan : Plan) where

@@ -6,7 +6,7 @@ use native.Mathlib.Omega.{arith}
 use native.Mathlib.Decide.{ℕ-discrete}
 use Rattle.laws.specs.Choose.{served, worked, unserved}
 use Rattle.laws.specs.Chain.{sum, units, State, step, chain, chain-all}
-use Rattle.promises.specs.Calls.{Held, fresh, calls}
+use Rattle.demand3.specs.Calls.{Held, fresh, calls}
 
 -- the sum of the grants, grant by grant; the laws of units give it
 pub sum-none : sum [] ≡ 0

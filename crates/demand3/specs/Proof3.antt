@@ -26,12 +26,12 @@ use Rattle.walk.specs.Door.{steppedBy}
 use Rattle.rebuilt.specs.Laws.{rebuilt-length}
 use Rattle.lossless.specs.Picture.{Sample, OfS, Whole, look, predict, residual, less, local, rebuild-out, store-out, replays, sourced, walks-plan}
 use Rattle.lossless.specs.Replay.{units-kept, replay-same, replay-source, walks}
-use Rattle.promises.specs.Calls.{Job, Held, Served, blocks, count, residualAt, fresh, calls, walkNo, walkCall, replayNo, replayCall}
-use Rattle.promises.specs.Chains.{next, after, all-done, split, from-fresh}
-use Rattle.promises.specs.Accept.{Walking, walk-told, replay-told, replay-fine, walk-steps, replay-steps}
-use Rattle.promises.specs.Range.{predicted-most}
-use Rattle.promises.specs.Spots.{by-samples, every-of, most-at, less-small, in-block, part-of, spot, covered-in, spot-of, spot-residual, spot-predict}
-use Rattle.promises.specs.Demand3.{Walked, Replayed, WalkKeeps, ReplayKeeps, Demand3}
+use Rattle.demand3.specs.Calls.{Job, Held, Served, blocks, count, residualAt, fresh, calls, walkNo, walkCall, replayNo, replayCall}
+use Rattle.demand3.specs.Chains.{next, after, all-done, split, from-fresh}
+use Rattle.demand3.specs.Accept.{Walking, walk-told, replay-told, replay-fine, walk-steps, replay-steps}
+use Rattle.demand3.specs.Range.{predicted-most}
+use Rattle.demand3.specs.Spots.{by-samples, every-of, most-at, less-small, in-block, part-of, spot, covered-in, spot-of, spot-residual, spot-predict}
+use Rattle.demand3.specs.Demand3.{Walked, Replayed, WalkKeeps, ReplayKeeps, Demand3}
 
 abbrev at : {s : Still} (r c : ℕ) → In (s .frame) r c → Sample s
 at r c h = record { row = r; col = c; row-in = h .0; col-in = h .1 }
