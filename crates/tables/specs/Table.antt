@@ -14,7 +14,8 @@
 --   refs::.._chroma_pair_bytes            chroma-gather-bytes     scratch_predict::.._luma_tb_..         predict-luma-scratch
 --   residual::compute_residual_i32_into   compute-residual        residual::reconstruct_into             reconstruct
 --
--- The plan check, walk and replay, whose numbers carry a block, are in TableWalk; the camera's entries in TableBytes; what a refused call gives back is in Refused.
+-- The plan check, walk and replay, whose numbers carry a block, are in run_tables/specs/TableWalk; the camera's entries in TableBytes there; what a refused call gives
+-- back is in Refused.
 use mathlib.Core.Path.{_≡_, refl, ap, subst}
 use mathlib.Core.Bool.{Bool, true, false, cond, _&&_, _||_, true≢false, false≢true}
 use mathlib.Core.List.{List, [], _∷_}

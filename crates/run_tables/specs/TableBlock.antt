@@ -16,9 +16,9 @@ use Rattle.still.specs.declared.Still.{Still}
 use Rattle.still.specs.Checks.{Tables, whole}
 use Rattle.block.specs.Door.{numberOf, fits}
 use Rattle.byte_rebuild.specs.Door.{byteFits}
 use Rattle.tables.specs.Exact.{Row, _when_, _or_, Exact, Tells, exact-none, exact-row, all-of, at-most, same}
 use Rattle.tables.specs.Table.{BadPicture, depth, size, picture, placed}
-use Rattle.tables.specs.TableWalk.{BadBlock, BadPlane, BadTables}
+use Rattle.run_tables.specs.TableWalk.{BadBlock, BadPlane, BadTables}
 
 module _ (s : Still) (b : Block) where
   -- the rows, where P says that something lent is not long enough

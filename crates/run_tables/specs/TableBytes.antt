@@ -25,9 +25,9 @@ use Rattle.byte_entry.specs.Entries.{entry, room, flatEntryNo, modeEntryNo}
 use Rattle.byte_flat.specs.Entries.{planarEntry, dcEntry}
 use Rattle.byte_predict.specs.Entries.{angularEntry, chromaBlockEntry}
 use Rattle.camera.specs.Entries.{lumaEntry, chromaEntry}
 use Rattle.tables.specs.Exact.{_when_, _or_, Exact, ExactFirst, Tells, exact-none, exact-row, first-row, all-of, at-most, same}
 use Rattle.tables.specs.Table.{BadPicture, depth, size, picture, lumaTable, luma-number, chromaTable, chroma-number, angularTable, predictTable}
-use Rattle.tables.specs.TableWalk.{about, done, Some, every-one, lastRows, last-first, number-exact}
+use Rattle.run_tables.specs.TableWalk.{about, done, Some, every-one, lastRows, last-first, number-exact}
 
 -- the gathers: a plane of another length, or a buffer for fewer than 131 samples, or twice that
 pub luma-refs : (plane : List ℕ) (g : LumaRefGeometry) (out : List ℕ)

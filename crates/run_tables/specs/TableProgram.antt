@@ -26,9 +26,9 @@ use Rattle.file.specs.File.{trailerOf, area, fileOk, sourceOf, recordsOf}
 use Rattle.spans.specs.Spans.{agree}
 use Rattle.text.specs.Text.{spell, number, refusal, ending}
 use Rattle.report.specs.Told.{Job, stillOf, jobOf, tables, fresh, blank, verdict, residuals, replayed, lines, told, printed}
 use Rattle.tables.specs.Exact.{Row, _when_, _or_, First, ExactFirst, Tells, first-exact, first-test, all-of, at-most}
 use Rattle.tables.specs.Table.{BadPicture}
-use Rattle.tables.specs.TableWalk.{about, done, blockRows, Uncovered, planRows, Some, lastRows, BadPlane, BadTables, verdictIn, walk}
+use Rattle.run_tables.specs.TableWalk.{about, done, blockRows, Uncovered, planRows, Some, lastRows, BadPlane, BadTables, verdictIn, walk}
 
 -- number 12: under 16 or over 65,536 bytes, excess counts, or a region that passes the trailer's start
 abbrev pub BadFile : List ℕ → Type 0
