@@ -147,6 +147,8 @@ use Rattle.flat.proofs.planar_2n.Reads as flat-planar-2n
 use Rattle.flat.proofs.dc_2n.Reads as flat-dc-2n
 use Rattle.angular.proofs.predict_angular_slices.Reads as angular-predict-angular-slices
 use Rattle.angular.proofs.angular_2n.Reads as angular-angular-2n
+use Rattle.by_mode.proofs.predict_by_mode.Reads as by-mode-predict-by-mode
+use Rattle.luma_rows.proofs.luma_rows.Reads as luma-rows-luma-rows
 use Rattle.predict.proofs.predict_chroma_tb_slices.Reads as predict-predict-chroma-tb-slices
 use Rattle.predict.proofs.predict_luma_tb_slices.Reads as predict-predict-luma-tb-slices
 use Rattle.scratch.proofs.AngularScratch.new.Reads as scratch-new
@@ -629,6 +631,12 @@ angular-angular-2n-once : (κs : Lfts 3) → OnceLeft (λ s. now (s .1 .1 .1 .1 
 angular-angular-2n-once κs a x y s t p q = by-number _ _ (p .0) (q .0) (p .1) (q .1)
 
 -- predict
+by-mode-predict-by-mode-once : (κs : Lfts 6) → OnceLeft (λ s. now (s .1 .1 .1 .1 .1 .1 .1 .0)) (by-mode-predict-by-mode.Post κs)
+by-mode-predict-by-mode-once κs a x y s t p q = by-number _ _ (p .0) (q .0) (p .1 .0) (q .1 .0)
+
+luma-rows-luma-rows-once : Once (luma-rows-luma-rows.Post tt)
+luma-rows-luma-rows-once a x y s t p q = p ∙ sym q
+
 predict-predict-chroma-tb-slices-once : (κs : Lfts 6) → OnceLeft (λ s. now (s .1 .1 .1 .1 .1 .1 .0)) (predict-predict-chroma-tb-slices.Post κs)
 predict-predict-chroma-tb-slices-once κs a x y s t p q = by-number _ _ (p .0) (q .0) (p .1 .0) (q .1 .0)
 

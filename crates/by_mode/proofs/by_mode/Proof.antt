@@ -1,13 +1,13 @@
--- `predict::by_mode` meets its contract. The predictor of each arm serves the call, and its block is the mode's. Rests on the predictors' contracts.
+-- `by_mode::by_mode` meets its contract. The predictor of each arm serves the call, and its block is the mode's. Rests on the predictors' contracts.
 use mathlib.Core.Path.{_∙_}
 use native.Mathlib.Omega.{arith}
 use lib.ListN.{length}
 use Rattle.numbers.specs.Numbers.{Lent}
 use Rattle.modes.specs.Modes.{planar-made, dc-made, angular-made}
-use Rattle.predict.specs.Door.{fit, did, flat-serves, angular-serves}
+use Rattle.by_mode.specs.Door.{fit, did, flat-serves, angular-serves}
 use borrow.Author.Needs.{needs}
-use Rattle.predict.proofs.by_mode.Statement.{statement}
-use Rattle.predict.proofs.by_mode.Tie as tie
+use Rattle.by_mode.proofs.by_mode.Statement.{statement}
+use Rattle.by_mode.proofs.by_mode.Tie as tie
 
 predict-planar-into-requires : tie.Need-predict-planar-into-requires
 predict-planar-into-requires c κs = search needs
