@@ -102,6 +102,9 @@ use Rattle.refs.proofs.get_reference_samples_bytes.Reads as refs-get-reference-
 use Rattle.refs.proofs.get_reference_samples_chroma_pair_bytes.Reads as refs-get-reference-samples-chroma-pair-bytes
 use Rattle.tiling.proofs.picture_ok.Reads as tiling-picture-ok
 use Rattle.tiling.proofs.block_no.Reads as tiling-block-no
+use Rattle.verdict.proofs.check_start.Reads as verdict-check-start
+use Rattle.verdict.proofs.check_step.Reads as verdict-check-step
+use Rattle.verdict.proofs.check_end.Reads as verdict-check-end
 use Rattle.records.proofs.record_at.Reads as records-record-at
 use Rattle.plan.proofs.check_plan_bytes.Reads as plan-check-plan-bytes
 use Rattle.plan.proofs.check_plan_numbers.Reads as plan-check-plan-numbers
@@ -488,6 +491,16 @@ tiling-block-no-once a x y s t p q = p ∙ sym q
 
 records-record-at-once : (κs : Lfts 1) → Once (records-record-at.Post κs)
 records-record-at-once κs a x y s t p q = p ∙ sym q
+
+-- verdict
+verdict-check-start-once : Once (verdict-check-start.Post tt)
+verdict-check-start-once a x y s t p q = p ∙ sym q
+
+verdict-check-step-once : Once (verdict-check-step.Post tt)
+verdict-check-step-once a x y s t p q = p ∙ sym q
+
+verdict-check-end-once : Once (verdict-check-end.Post tt)
+verdict-check-end-once a x y s t p q = p ∙ sym q
 
 -- plan
 plan-check-plan-numbers-once : (κs : Lfts 1) → Once (plan-check-plan-numbers.Post κs)

@@ -2,24 +2,25 @@
 -- turns of Steps. Assumes nothing.
 use mathlib.Core.Path.{_≡_, refl, sym, ap, _∙_, subst}
 use mathlib.Core.Bool.{Bool, true, false, cond}
-use Prim.Native.Nat.{ℕ, _+_, _*_, _≤_, _<_}
+use Prim.Native.Nat.{ℕ, _+_, _*_, _≤_, _<_, min}
 use native.Mathlib.Omega.{arith}
 use native.Mathlib.Decide.{ℕ-discrete}
 use lib.Dec.{eqb}
 use borrow.Author.Tests.{eq-eqb, ne-eqb}
-use Rattle.laws.specs.Choose.{if-yes, if-no}
+use Rattle.laws.specs.Choose.{passed}
 use Rattle.order.specs.Order.{pictureOk}
 use Rattle.order.specs.Good.{Good}
 use Rattle.tiling.specs.declared.Frame.{Frame}
 use Rattle.tiling.specs.declared.Block.{Block}
-use Rattle.plan.specs.declared.Verdict.{Verdict}
-use Rattle.plan.specs.declared.Checking.{Checking}
+use Rattle.verdict.specs.declared.Verdict.{Verdict}
+use Rattle.verdict.specs.declared.Checking.{Checking}
 use Rattle.tiling.specs.Tiling.{pictureOf}
-use Rattle.plan.specs.Plan.{Plan}
-use Rattle.tiling.specs.Check.{blockNo}
-use Rattle.plan.specs.Check.{planVerdict}
-use Rattle.tiling.specs.Tests.{picture-good}
-use Rattle.plan.specs.Steps.{Running, running-none, running-stops, running-fits, running-more, running-end}
+use Rattle.verdict.specs.Plan.{Plan}
+use Rattle.tiling.specs.Check.{blockNo, blockDoor}
+use Rattle.verdict.specs.Check.{planVerdict}
+use Rattle.tiling.specs.Ahead.{area-small}
+use Rattle.tiling.specs.Tests.{picture-good, door-good}
+use Rattle.verdict.specs.Steps.{Running, running-none, running-stops, block-fits, running-more, running-end}
 
 -- number 4 comes before the blocks
 unfoldable pub startOf : Frame → Checking
@@ -28,8 +29,8 @@ startOf f = record { no = cond (pictureOk (pictureOf f)) 0 4; block = 0; covered
 -- block i, where those before it cover `covered` samples
 unfoldable pub lookOf : Frame → ℕ → Block → ℕ → Checking
 lookOf f covered b i =
-    let n = blockNo f b covered in
-    cond (eqb n 0) (record { no = 0; block = 0; covered = covered + b .side * b .side }) (record { no = n; block = i; covered = covered })
+    let n = blockDoor f b covered in
+    cond (eqb n 0) (record { no = 0; block = 0; covered = covered + b .side * b .side }) (record { no = n; block = min i 4294967295; covered = covered })
 
 unfoldable pub stepOf : Frame → Checking → Block → ℕ → Checking
 stepOf f t b i = cond (eqb (t .no) 0) (lookOf f (t .covered) b i) t
@@ -38,25 +39,20 @@ stepOf f t b i = cond (eqb (t .no) 0) (lookOf f (t .covered) b i) t
 unfoldable pub endOf : Frame → Checking → Verdict
 endOf f t = cond (eqb (t .no) 0) (record { no = cond (eqb (t .covered) (f .height * f .width)) 0 10; block = 0 }) (record { no = t .no; block = t .block })
 
--- what the numbers of a step need so that they fit
-abbrev pub Small : Frame → Checking → ℕ → Type 0
-Small f t i = t .no ≡ 0 → Good (pictureOf f) × ((16 * i ≤ t .covered) × (t .covered ≤ f .height * f .width))
+-- the samples that a block adds, which the code's numbers have room for
+pub step-fits : (f : Frame) (b : Block) (covered : ℕ) → blockDoor f b covered ≡ 0 → (b .side * b .side ≤ 1024) × (covered + b .side * b .side ≤ 16777216)
+unfolding blockDoor
+step-fits f b covered e =
+    let p = passed (pictureOk (pictureOf f)) (blockNo f b covered) 4 (omega arith) e in
+    let g = picture-good f (p .0) in
+    let s = block-fits g b covered (p .1) in
+    (s .0, omega (arith, s .1 .1, area-small g))
 
 -- i blocks are looked at: none is refused and the check runs, or the verdict is known
 pub record Standing (f : Frame) (plan : Plan) (i : ℕ) (t : Checking) : Type 0 where
   pub good : t .no ≡ 0 → Good (pictureOf f)
   pub runs : t .no ≡ 0 → Running f (plan .block) (planVerdict f plan) (plan .count) i (t .covered)
   pub told : (t .no ≡ 0 → ⊥) → record { no = t .no; block = t .block } ≡ planVerdict f plan
-
-pub standing-small : {f : Frame} {plan : Plan} {i : ℕ} {t : Checking} → Standing f plan i t → Small f t i
-standing-small s z = (s .good z, (s .runs z .few, s .runs z .fits))
-
--- what a block adds that is not refused
-pub small-fits : {f : Frame} (t : Checking) (i : ℕ) → Small f t i → t .no ≡ 0 → (b : Block) → blockNo f b (t .covered) ≡ 0
-    → (b .side * b .side ≤ 1024) × ((16 ≤ b .side * b .side) × (t .covered + b .side * b .side ≤ f .height * f .width))
-small-fits {f} t i s z b e =
-    running-fits (s z .0) {plan = λ _. b} {count = i + 1}
-    (record { within = omega arith; few = s z .1 .0; fits = s z .1 .1; same = refl }) (omega arith) b refl (blockNo f b (t .covered)) refl e
 
 pub standing-none : (f : Frame) (plan : Plan) → Standing f plan 0 (startOf f)
 unfolding startOf planVerdict
@@ -73,19 +69,30 @@ unfolding stepOf lookOf
 standing-more {f} {plan} {i} {t} s l b q = go (ℕ-discrete (t .no) 0)
   where
     n : ℕ
-    n = blockNo f b (t .covered)
+    n = blockDoor f b (t .covered)
 
     go : Dec (t .no ≡ 0) → Standing f plan (i + 1) (stepOf f t b i)
     go (no d) = rw (ne-eqb (t .no) 0 d) (record { good = λ z. absurd (d z); runs = λ z. absurd (d z); told = λ _. s .told d })
     go (yes z) = rw (eq-eqb (t .no) 0 z) (look (ℕ-discrete n 0))
       where
+        named : n ≡ blockNo f b (t .covered)
+        named = door-good f b (t .covered) (s .good z)
+
+        -- its list number is no larger than the samples before it
+        held : min i 4294967295 ≡ i
+        held = omega (arith, s .runs z .few, s .runs z .fits, area-small (s .good z))
+
         look : Dec (n ≡ 0) → Standing f plan (i + 1) (lookOf f (t .covered) b i)
         look (yes e) =
             rw (eq-eqb n 0 e)
-            (record { good = λ _. s .good z; runs = λ _. running-more (s .good z) (s .runs z) l b q n refl e; told = λ d. absurd (d refl) })
+            (record { good = λ _. s .good z; runs = λ _. running-more (s .good z) (s .runs z) l b q n named e; told = λ d. absurd (d refl) })
         look (no d) =
             rw (ne-eqb n 0 d)
-            (record { good = λ e. absurd (d e); runs = λ e. absurd (d e); told = λ _. running-stops (s .good z) (s .runs z) l b q n refl d })
+            (record {
+              good = λ e. absurd (d e);
+              runs = λ e. absurd (d e);
+              told = λ _. ap (λ (k : ℕ). record { no = n; block = k }) held ∙ running-stops (s .good z) (s .runs z) l b q n named d;
+            })
 
 pub standing-end : {f : Frame} {plan : Plan} {i : ℕ} {t : Checking} → Standing f plan i t → plan .count ≤ i → endOf f t ≡ planVerdict f plan
 unfolding endOf

@@ -1,12 +1,12 @@
--- `plan::check_end` meets its contract.
+-- `verdict::check_end` meets its contract.
 use Prim.Native.Nat.{_≤_}
 use native.Mathlib.Nat.{mul-le-mul}
 use native.Mathlib.Omega.{arith}
 use borrow.Author.Needs.{needs}
 use borrow.Author.Tests.{eq-eqb, ne-eqb}
-use Rattle.plan.specs.Standing.{endOf}
-use Rattle.plan.proofs.check_end.Statement.{statement}
-use Rattle.plan.proofs.check_end.Tie as tie
+use Rattle.verdict.specs.Standing.{endOf}
+use Rattle.verdict.proofs.check_end.Statement.{statement}
+use Rattle.verdict.proofs.check_end.Tie as tie
 
 returns : tie.Need-returns
 unfolding endOf

@@ -4,10 +4,10 @@ use mathlib.Core.List.{List, [], _∷_}
 use Prim.Native.Nat.{ℕ}
 use Rattle.h265.specs.Notation.{halvings}
 use Rattle.tiling.specs.declared.Frame.{Frame}
-use Rattle.plan.specs.declared.Verdict.{Verdict}
-use Rattle.plan.specs.Plan.{planOf}
+use Rattle.verdict.specs.declared.Verdict.{Verdict}
+use Rattle.verdict.specs.Plan.{planOf, listed}
 use Rattle.tiling.specs.Check.{aheadBy, ahead, blockNo}
-use Rattle.plan.specs.Check.{verdictFrom, planVerdict}
+use Rattle.verdict.specs.Check.{verdictFrom, planVerdict}
 
 abbrev still : ℕ → ℕ → Frame
 still width height = record { width = width; height = height; ctu = 16 }
@@ -19,7 +19,7 @@ abbrev gives : ℕ → ℕ → Verdict
 gives n k = record { no = n; block = k }
 
 -- good; one alone; exchanged; the first twice; then a block outside, a mode above 34, a side of 5, a block of 32 in CTUs of 16, sides of 12;
--- 24 by 16, where of the second CTU there is the left half alone, and its cells come after all of the first
+-- 24 by 16, where of the second CTU there is the left half alone, and its cells come after all of the first; the good one again, as records
 pub figures : _≡_ {A = List Verdict}
     (planVerdict (still 16 8) (planOf (at 0 0 8 1 ∷ at 0 8 8 1 ∷ []))
     ∷ planVerdict (still 16 8) (planOf (at 0 0 8 1 ∷ []))
@@ -32,7 +32,8 @@ pub figures : _≡_ {A = List Verdict}
     ∷ planVerdict (still 12 8) (planOf [])
     ∷ planVerdict (still 24 16) (planOf (at 0 0 16 0 ∷ at 0 16 8 0 ∷ at 8 16 8 0 ∷ []))
     ∷ planVerdict (still 24 16) (planOf (at 0 0 8 0 ∷ at 0 8 8 0 ∷ at 0 16 8 0 ∷ []))
+    ∷ planVerdict (still 16 8) (listed (record { row = 0; col = 0; side = 8; mode = 1 } ∷ record { row = 0; col = 8; side = 8; mode = 1 } ∷ []))
     ∷ [])
-    (gives 0 0 ∷ gives 10 0 ∷ gives 9 0 ∷ gives 9 1 ∷ gives 6 2 ∷ gives 3 1 ∷ gives 2 0 ∷ gives 6 0 ∷ gives 4 0 ∷ gives 0 0 ∷ gives 9 2 ∷ [])
+    (gives 0 0 ∷ gives 10 0 ∷ gives 9 0 ∷ gives 9 1 ∷ gives 6 2 ∷ gives 3 1 ∷ gives 2 0 ∷ gives 6 0 ∷ gives 4 0 ∷ gives 0 0 ∷ gives 9 2 ∷ gives 0 0 ∷ [])
 unfolding planVerdict verdictFrom blockNo ahead aheadBy halvings
 figures = refl

@@ -15,10 +15,10 @@ use Rattle.order.specs.Cells.{dbl}
 use Rattle.order.specs.Good.{Good, sized}
 use Rattle.tiling.specs.declared.Frame.{Frame}
 use Rattle.tiling.specs.declared.Block.{Block}
-use Rattle.plan.specs.declared.Verdict.{Verdict}
+use Rattle.verdict.specs.declared.Verdict.{Verdict}
 use Rattle.tiling.specs.Tiling.{pictureOf, In}
 use Rattle.tiling.specs.Check.{aheadBy, ahead, blockNo}
-use Rattle.plan.specs.Check.{verdictFrom}
+use Rattle.verdict.specs.Check.{verdictFrom}
 use Rattle.tiling.specs.Tests.{Numbered, is-fine, not-size, not-mode, not-placed, not-next, numbered}
 use Rattle.tiling.specs.Cover.{ahead-lt, block-area}
 
@@ -39,6 +39,20 @@ running-end {f} {plan} {v} {count} {i} {covered} h l b e =
     ap (λ (x : Bool). record { no = cond x 0 10; block = 0 }) (sym e)
     ∙ ap (λ (m : ℕ). verdictFrom f plan m i covered) (let z : 0 ≡ count - i = omega (arith, h .within) in z) ∙ h .same
 
+-- a block that is not refused adds samples that the picture has
+pub block-fits : {f : Frame} → Good (pictureOf f) → (b : Block) (covered : ℕ) → blockNo f b covered ≡ 0
+    → (b .side * b .side ≤ 1024) × ((16 ≤ b .side * b .side) × (covered + b .side * b .side ≤ f .height * f .width))
+block-fits {f} g b covered z = go (numbered f b covered)
+  where
+    go : Numbered f b covered (blockNo f b covered) → (b .side * b .side ≤ 1024) × ((16 ≤ b .side * b .side) × (covered + b .side * b .side ≤ f .height * f .width))
+    go (is-fine x p m a) =
+        let s = size-small (b .side) (p .size) in
+        (mul-le-mul (s .1) (s .1), (mul-le-mul (s .0) (s .0), omega (arith, a, block-area g b p .1)))
+    go (not-size x p) = absurd (omega (arith, x, z))
+    go (not-mode x p m) = absurd (omega (arith, x, z))
+    go (not-placed x p m a) = absurd (omega (arith, x, z))
+    go (not-next x p m a) = absurd (omega (arith, x, z))
+
 -- a turn: b is block i, and n its number
 module _ {f : Frame} (g : Good (pictureOf f)) {plan : ℕ → Block} {v : Verdict} {count i covered : ℕ} (h : Running f plan v count i covered) (l : i < count)
     (b : Block) (q : b ≡ plan i) (n : ℕ) (e : n ≡ blockNo f b covered) where
@@ -58,22 +72,10 @@ module _ {f : Frame} (g : Good (pictureOf f)) {plan : ℕ → Block} {v : Verdic
   pub running-stops : (n ≡ 0 → ⊥) → record { no = n; block = i } ≡ v
   running-stops d = if-no (eqb n 0) _ (record { no = n; block = i }) (record { no = n; block = i }) (ne-eqb n 0 d) refl ∙ step
 
-  -- one that is not adds its samples, which the picture has
-  pub running-fits : n ≡ 0 → (b .side * b .side ≤ 1024) × ((16 ≤ b .side * b .side) × (after ≤ f .height * f .width))
-  running-fits z = go (numbered f b covered)
-    where
-      go : Numbered f b covered (blockNo f b covered) → (b .side * b .side ≤ 1024) × ((16 ≤ b .side * b .side) × (after ≤ f .height * f .width))
-      go (is-fine x p m a) =
-          let s = size-small (b .side) (p .size) in
-          (mul-le-mul (s .1) (s .1), (mul-le-mul (s .0) (s .0), omega (arith, a, block-area g b p .1)))
-      go (not-size x p) = absurd (omega (arith, x, e, z))
-      go (not-mode x p m) = absurd (omega (arith, x, e, z))
-      go (not-placed x p m a) = absurd (omega (arith, x, e, z))
-      go (not-next x p m a) = absurd (omega (arith, x, e, z))
-
+  -- one that is not adds its samples
   pub running-more : n ≡ 0 → Running f plan v count (i + 1) after
   running-more z =
-      let s = running-fits z in
+      let s = block-fits g b covered (sym e ∙ z) in
       record {
         within = omega arith;
         few = omega (arith, s .1 .0, h .few);

@@ -1,9 +1,9 @@
--- `plan::check_start` meets its contract.
+-- `verdict::check_start` meets its contract.
 use mathlib.Core.Path.{sym, _∙_}
 use borrow.Author.Needs.{needs}
-use Rattle.plan.specs.Standing.{startOf}
-use Rattle.plan.proofs.check_start.Statement.{statement}
-use Rattle.plan.proofs.check_start.Tie as tie
+use Rattle.verdict.specs.Standing.{startOf}
+use Rattle.verdict.proofs.check_start.Statement.{statement}
+use Rattle.verdict.proofs.check_start.Tie as tie
 
 picture-ok-requires : tie.Need-picture-ok-requires
 picture-ok-requires c κs = search needs

@@ -6,10 +6,10 @@ use lib.Dec.{eqb}
 use Rattle.order.specs.Order.{pictureOk}
 use Rattle.tiling.specs.declared.Frame.{Frame}
 use Rattle.tiling.specs.declared.Block.{Block}
-use Rattle.plan.specs.declared.Verdict.{Verdict}
+use Rattle.verdict.specs.declared.Verdict.{Verdict}
 use Rattle.tiling.specs.Tiling.{pictureOf}
 use Rattle.tiling.specs.Check.{blockNo}
-use Rattle.plan.specs.Plan.{Plan}
+use Rattle.verdict.specs.Plan.{Plan}
 
 -- the verdict on m blocks from block k on
 unfoldable pub verdictFrom : Frame → (ℕ → Block) → ℕ → ℕ → ℕ → Verdict

@@ -15,11 +15,11 @@ use Rattle.order.specs.Order.{pictureOk}
 use Rattle.order.specs.Good.{Good}
 use Rattle.tiling.specs.declared.Frame.{Frame}
 use Rattle.tiling.specs.declared.Block.{Block}
-use Rattle.plan.specs.declared.Verdict.{Verdict}
+use Rattle.verdict.specs.declared.Verdict.{Verdict}
 use Rattle.tiling.specs.Tiling.{pictureOf, In, Covered, Placed, Next, GoodPlan, place}
-use Rattle.plan.specs.Plan.{Plan}
+use Rattle.verdict.specs.Plan.{Plan}
 use Rattle.tiling.specs.Check.{ahead, blockNo}
-use Rattle.plan.specs.Check.{verdictFrom, planVerdict}
+use Rattle.verdict.specs.Check.{verdictFrom, planVerdict}
 use Rattle.tiling.specs.Tests.{picture-good, good-picture, Numbered, is-fine, not-size, not-mode, not-placed, not-next, numbered}
 use Rattle.tiling.specs.Cover.{Checked, refusal-9, gap, good-plan}
 
