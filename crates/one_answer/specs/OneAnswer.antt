@@ -101,7 +101,8 @@ use Rattle.refs.proofs.get_reference_samples_chroma_pair.Reads as refs-get-refe
 use Rattle.refs.proofs.get_reference_samples_bytes.Reads as refs-get-reference-samples-bytes
 use Rattle.refs.proofs.get_reference_samples_chroma_pair_bytes.Reads as refs-get-reference-samples-chroma-pair-bytes
 use Rattle.tiling.proofs.picture_ok.Reads as tiling-picture-ok
-use Rattle.tiling.proofs.block_no.Reads as tiling-block-no
+use Rattle.next_cell.proofs.is_next.Reads as next-cell-is-next
+use Rattle.block_check.proofs.block_no.Reads as block-check-block-no
 use Rattle.verdict.proofs.check_start.Reads as verdict-check-start
 use Rattle.verdict.proofs.check_step.Reads as verdict-check-step
 use Rattle.verdict.proofs.check_end.Reads as verdict-check-end
@@ -486,8 +487,11 @@ refs-get-reference-samples-chroma-pair-bytes-once κs a x y s t p q = p ∙ sym 
 tiling-picture-ok-once : Once (tiling-picture-ok.Post tt)
 tiling-picture-ok-once a x y s t p q = p ∙ sym q
 
-tiling-block-no-once : Once (tiling-block-no.Post tt)
-tiling-block-no-once a x y s t p q = p ∙ sym q
+next-cell-is-next-once : Once (next-cell-is-next.Post tt)
+next-cell-is-next-once a x y s t p q = p ∙ sym q
+
+block-check-block-no-once : Once (block-check-block-no.Post tt)
+block-check-block-no-once a x y s t p q = p ∙ sym q
 
 records-record-at-once : (κs : Lfts 1) → Once (records-record-at.Post κs)
 records-record-at-once κs a x y s t p q = p ∙ sym q

@@ -1,26 +1,22 @@
 -- The turns of the plan check's loops. Assumes nothing.
 use mathlib.Core.Path.{_≡_, refl, sym, ap, ap₂, _∙_}
 use mathlib.Core.Bool.{Bool, cond}
-use Prim.Native.Nat.{ℕ, zero, suc, _+_, _-_, _*_, _/_, _%_, _^_, _≤_, _<_, min}
-use native.Mathlib.Nat.{mul-le-mul-left, mul-le-mul-right, mul-le-mul, pow-le-pow-right}
-use native.Mathlib.Numerals.{sub-one}
+use Prim.Native.Nat.{ℕ, suc, _+_, _-_, _*_, _≤_, _<_}
+use native.Mathlib.Nat.{mul-le-mul}
 use native.Mathlib.Omega.{arith}
 use lib.Dec.{eqb}
-use lib.Pow.{pow-pos}
 use borrow.Author.Tests.{eq-eqb, ne-eqb}
 use Rattle.laws.specs.Choose.{if-yes, if-no}
-use Rattle.h265.specs.Notation.{log2}
 use Rattle.domain.specs.Facts.{size-small}
-use Rattle.order.specs.Cells.{dbl}
-use Rattle.order.specs.Good.{Good, sized}
+use Rattle.order.specs.Good.{Good}
 use Rattle.tiling.specs.declared.Frame.{Frame}
 use Rattle.tiling.specs.declared.Block.{Block}
 use Rattle.verdict.specs.declared.Verdict.{Verdict}
-use Rattle.tiling.specs.Tiling.{pictureOf, In}
-use Rattle.tiling.specs.Check.{aheadBy, ahead, blockNo}
+use Rattle.tiling.specs.Tiling.{pictureOf}
+use Rattle.tiling.specs.Check.{blockNo}
 use Rattle.verdict.specs.Check.{verdictFrom}
 use Rattle.tiling.specs.Tests.{Numbered, is-fine, not-size, not-mode, not-placed, not-next, numbered}
-use Rattle.tiling.specs.Cover.{ahead-lt, block-area}
+use Rattle.tiling.specs.Cover.{block-area}
 
 -- the loop over the blocks: block i is next, and `covered` samples lie before it; v is the whole verdict
 pub record Running (f : Frame) (plan : ℕ → Block) (v : Verdict) (count i covered : ℕ) : Type 0 where

@@ -45,7 +45,7 @@ pub fn check_step(f: Frame, t: Checking, b: Block, i: usize) -> Checking
     if t.no != 0 {
         return t;
     }
-    let no = tiling::block_no(f, b, t.covered);
+    let no = block_check::block_no(f, b, t.covered);
     if no != 0 {
         return Checking {
             no,

@@ -1,10 +1,10 @@
 -- `plan::check_plan_numbers` meets its contract: each turn is a step of the check. Rests on `check_step`.
-use mathlib.Core.Path.{_≡_, _∙_, sym, subst}
+use mathlib.Core.Path.{_∙_, sym, subst}
 use Prim.Native.Nat.{_-_, _≤_}
 use lib.ListN.{length}
 use borrow.Author.Needs.{needs}
 use Rattle.verdict.specs.Plan.{planOf}
-use Rattle.verdict.specs.Standing.{Standing, startOf, endOf, standing-none, standing-more, standing-end}
+use Rattle.verdict.specs.Standing.{Standing, standing-none, standing-more, standing-end}
 use Rattle.plan.proofs.check_plan_numbers.Statement.{statement}
 use Rattle.plan.proofs.check_plan_numbers.Tie as tie
 

@@ -1,11 +1,11 @@
--- `plan::strip` meets its contract.
+-- `next_cell::strip` meets its contract.
 use mathlib.Core.Path.{ap}
 use Prim.Native.Nat.{ℕ, _*_, _≤_}
 use native.Mathlib.Nat.{mul-le-mul}
 use native.Mathlib.Omega.{arith}
 use borrow.Author.Needs.{needs}
-use Rattle.tiling.proofs.strip.Statement.{statement}
-use Rattle.tiling.proofs.strip.Tie as tie
+use Rattle.next_cell.proofs.strip.Statement.{statement}
+use Rattle.next_cell.proofs.strip.Tie as tie
 
 lesser-requires : tie.Need-lesser-requires
 lesser-requires c κs = search needs

@@ -1,12 +1,12 @@
--- `plan::cells_ahead` meets its contract: each turn adds what one halving leaves before the cell.
+-- `next_cell::cells_ahead` meets its contract: each turn adds what one halving leaves before the cell.
 use mathlib.Core.Path.{_≡_, _∙_, ap}
 use Prim.Native.Nat.{ℕ, min, _+_, _-_, _*_, _/_, _%_, _≤_}
 use native.Mathlib.Omega.{arith}
 use borrow.Author.Needs.{needs}
 use Rattle.tiling.specs.Check.{aheadBy}
 use Rattle.tiling.specs.Ahead.{Counts, count-start, count-more, count-end}
-use Rattle.tiling.proofs.cells_ahead.Statement.{statement}
-use Rattle.tiling.proofs.cells_ahead.Tie as tie
+use Rattle.next_cell.proofs.cells_ahead.Statement.{statement}
+use Rattle.next_cell.proofs.cells_ahead.Tie as tie
 
 abbrev Inv-loop : tie.InvT-loop
 Inv-loop h w m row col y₀ x₀ s₀ z₀ left₀ y x s z left = Counts h w (aheadBy h w m 1 row col) row col s z left y x

@@ -1,11 +1,11 @@
--- `plan::aligned` meets its contract: at each side, by that side.
+-- `block_check::aligned` meets its contract: at each side, by that side.
 use mathlib.Core.Path.{_≡_, sym, ap}
 use mathlib.Core.Bool.{Bool, _&&_}
 use mathlib.Core.Logic.{⊎-elim}
 use Prim.Native.Nat.{ℕ, _%_}
 use lib.Dec.{eqb}
-use Rattle.tiling.proofs.aligned.Statement.{statement}
-use Rattle.tiling.proofs.aligned.Tie as tie
+use Rattle.block_check.proofs.aligned.Statement.{statement}
+use Rattle.block_check.proofs.aligned.Tie as tie
 
 -- what is asked of a side
 abbrev asked : ℕ → ℕ → ℕ → Bool

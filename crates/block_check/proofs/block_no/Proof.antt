@@ -1,11 +1,11 @@
--- `tiling::block_no` meets its contract: number 4 first. Assumes nothing.
+-- `block_check::block_no` meets its contract: number 4 first. Assumes nothing.
 use mathlib.Core.Path.{sym, _∙_}
 use borrow.Author.Needs.{needs}
 use borrow.Author.Tests.{not-true, not-false}
 use Rattle.tiling.specs.Check.{blockDoor}
 use Rattle.tiling.specs.Tests.{picture-good}
-use Rattle.tiling.proofs.block_no.Statement.{statement}
-use Rattle.tiling.proofs.block_no.Tie as tie
+use Rattle.block_check.proofs.block_no.Statement.{statement}
+use Rattle.block_check.proofs.block_no.Tie as tie
 
 picture-ok-requires : tie.Need-picture-ok-requires
 picture-ok-requires c κs = search needs

@@ -1,9 +1,9 @@
--- `plan::levels_of` meets its contract: at each CTU the logarithm computes.
+-- `next_cell::levels_of` meets its contract: at each CTU the logarithm computes.
 use mathlib.Core.Path.{_≡_}
 use mathlib.Core.Logic.{⊎-elim}
 use Rattle.h265.specs.Notation.{halvings}
-use Rattle.tiling.proofs.levels_of.Statement.{statement}
-use Rattle.tiling.proofs.levels_of.Tie as tie
+use Rattle.next_cell.proofs.levels_of.Statement.{statement}
+use Rattle.next_cell.proofs.levels_of.Tie as tie
 
 returns : tie.Need-returns
 unfolding halvings

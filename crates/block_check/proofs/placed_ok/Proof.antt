@@ -1,7 +1,7 @@
--- `plan::placed_ok` meets its contract.
+-- `block_check::placed_ok` meets its contract.
 use borrow.Author.Needs.{needs}
-use Rattle.tiling.proofs.placed_ok.Statement.{statement}
-use Rattle.tiling.proofs.placed_ok.Tie as tie
+use Rattle.block_check.proofs.placed_ok.Statement.{statement}
+use Rattle.block_check.proofs.placed_ok.Tie as tie
 
 cast-n : tie.Need-cast-n
 cast-n c = search needs

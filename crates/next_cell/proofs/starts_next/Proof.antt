@@ -1,10 +1,10 @@
--- `plan::starts_next` meets its contract.
+-- `next_cell::starts_next` meets its contract.
 use native.Mathlib.Omega.{arith}
 use Rattle.tiling.specs.Check.{ahead}
 use Rattle.tiling.specs.Ahead.{asks}
 use borrow.Author.Needs.{needs}
-use Rattle.tiling.proofs.starts_next.Statement.{statement}
-use Rattle.tiling.proofs.starts_next.Tie as tie
+use Rattle.next_cell.proofs.starts_next.Statement.{statement}
+use Rattle.next_cell.proofs.starts_next.Tie as tie
 
 levels-of-requires : tie.Need-levels-of-requires
 levels-of-requires c κs = c .pre .0 .ctus
