@@ -126,9 +126,9 @@ use Rattle.spans.proofs.sum_of.Reads as spans-sum-of
 use Rattle.spans.proofs.agrees.Reads as spans-agrees
 use Rattle.block_rows.proofs.walk_rows.Reads as block-rows-walk-rows
 use Rattle.block.proofs.geometry.Reads as block-geometry
-use Rattle.block.proofs.base_of.Reads as block-base-of
-use Rattle.block.proofs.early_no.Reads as block-early-no
-use Rattle.block.proofs.fit_for.Reads as block-fit-for
+use Rattle.block_door.proofs.base_of.Reads as block-door-base-of
+use Rattle.block_door.proofs.early_no.Reads as block-door-early-no
+use Rattle.block_door.proofs.fit_for.Reads as block-door-fit-for
 use Rattle.block.proofs.predict_block.Reads as block-predict-block
 use Rattle.rebuild.proofs.rebuild_block.Reads as rebuild-rebuild-block
 use Rattle.coded.proofs.walk_block.Reads as coded-walk-block
@@ -567,14 +567,14 @@ block-rows-walk-rows-once κs a x y s t p q = (refl, λ i. record { work = (p .1
 block-geometry-once : Once (block-geometry.Post tt)
 block-geometry-once a x y s t p q = p ∙ sym q
 
-block-base-of-once : Once (block-base-of.Post tt)
-block-base-of-once a x y s t p q = p ∙ sym q
+block-door-base-of-once : Once (block-door-base-of.Post tt)
+block-door-base-of-once a x y s t p q = p ∙ sym q
 
-block-early-no-once : Once (block-early-no.Post tt)
-block-early-no-once a x y s t p q = p ∙ sym q
+block-door-early-no-once : Once (block-door-early-no.Post tt)
+block-door-early-no-once a x y s t p q = p ∙ sym q
 
-block-fit-for-once : Once (block-fit-for.Post tt)
-block-fit-for-once a x y s t p q = p ∙ sym q
+block-door-fit-for-once : Once (block-door-fit-for.Post tt)
+block-door-fit-for-once a x y s t p q = p ∙ sym q
 
 block-predict-block-once : (κs : Lfts 5) → OnceLeft (λ s. now (s .1 .1 .1 .0)) (block-predict-block.Post κs)
 block-predict-block-once κs a x y s t p q = by-number _ _ (p .0) (q .0) (p .1 .0) (q .1 .0)

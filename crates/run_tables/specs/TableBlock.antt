@@ -14,7 +14,7 @@ use Rattle.tiling.specs.Tiling.{pictureOf}
 use Rattle.tiling.specs.Check.{placedOk}
 use Rattle.still.specs.declared.Still.{Still}
 use Rattle.still.specs.Checks.{Tables, whole}
-use Rattle.block.specs.Door.{numberOf, fits}
+use Rattle.block_door.specs.Door.{numberOf, fits}
 use Rattle.byte_rebuild.specs.Door.{byteFits}
 use Rattle.tables.specs.Exact.{Row, _when_, _or_, Exact, Tells, exact-none, exact-row, all-of, at-most, same}
 use Rattle.tables.specs.Table.{BadPicture, depth, size, picture, placed}

@@ -1,8 +1,8 @@
--- `block::fit_for` meets its contract, test by test. Assumes nothing.
+-- `block_door::fit_for` meets its contract, test by test. Assumes nothing.
 use Rattle.laws.specs.Choose.{both-same}
 use borrow.Author.Needs.{needs}
-use Rattle.block.proofs.fit_for.Statement.{statement}
-use Rattle.block.proofs.fit_for.Tie as tie
+use Rattle.block_door.proofs.fit_for.Statement.{statement}
+use Rattle.block_door.proofs.fit_for.Tie as tie
 
 is-whole-requires : tie.Need-is-whole-requires
 is-whole-requires c κs = search needs

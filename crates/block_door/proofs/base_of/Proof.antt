@@ -1,10 +1,10 @@
--- `block::base_of` meets its contract. A product of two numbers of 32 bits and a third have a sum of 64. Assumes nothing.
+-- `block_door::base_of` meets its contract. A product of two numbers of 32 bits and a third have a sum of 64. Assumes nothing.
 use native.Mathlib.Nat.{mul-le-mul}
 use native.Mathlib.Omega.{arith}
 use Prim.Native.Nat.{_≤_}
 use borrow.Author.Needs.{needs}
-use Rattle.block.proofs.base_of.Statement.{statement}
-use Rattle.block.proofs.base_of.Tie as tie
+use Rattle.block_door.proofs.base_of.Statement.{statement}
+use Rattle.block_door.proofs.base_of.Tie as tie
 
 cast-result : tie.Need-cast-result
 cast-result c = search needs

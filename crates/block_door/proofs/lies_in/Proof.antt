@@ -1,10 +1,10 @@
--- `block::lies_in` meets its contract. Assumes nothing.
+-- `block_door::lies_in` meets its contract. Assumes nothing.
 use native.Mathlib.Nat.{mul-le-mul}
 use native.Mathlib.Omega.{arith}
 use Prim.Native.Nat.{_≤_}
 use borrow.Author.Needs.{needs}
-use Rattle.block.proofs.lies_in.Statement.{statement}
-use Rattle.block.proofs.lies_in.Tie as tie
+use Rattle.block_door.proofs.lies_in.Statement.{statement}
+use Rattle.block_door.proofs.lies_in.Tie as tie
 
 cast-n : tie.Need-cast-n
 cast-n c = search needs

@@ -1,9 +1,9 @@
--- `block::early_no` meets its contract. Each return by the tests before it. Assumes nothing.
+-- `block_door::early_no` meets its contract. Each return by the tests before it. Assumes nothing.
 use mathlib.Core.Path.{sym, _∙_}
 use borrow.Author.Tests.{not-true, not-false, le-leb, lt-leb}
 use borrow.Author.Needs.{needs}
-use Rattle.block.proofs.early_no.Statement.{statement}
-use Rattle.block.proofs.early_no.Tie as tie
+use Rattle.block_door.proofs.early_no.Statement.{statement}
+use Rattle.block_door.proofs.early_no.Tie as tie
 
 depth-ok-requires : tie.Need-depth-ok-requires
 depth-ok-requires c κs = search needs
