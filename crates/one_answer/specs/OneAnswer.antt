@@ -61,10 +61,10 @@ use Rattle.file.proofs.area_of.Reads as file-area-of
 use Rattle.file.proofs.file_ok.Reads as file-file-ok
 use Rattle.file.proofs.read_samples.Reads as file-read-samples
 use Rattle.file.proofs.read_plan.Reads as file-read-plan
-use Rattle.fmt.proofs.BitDepth.from_bits.Reads as fmt-from-bits
-use Rattle.fmt.proofs.BitDepth.bits.Reads as fmt-bits
-use Rattle.fmt.proofs.BitDepth.max_val.Reads as fmt-max-val
-use Rattle.fmt.proofs.BitDepth.neutral.Reads as fmt-neutral
+use Rattle.depth.proofs.BitDepth.from_bits.Reads as depth-from-bits
+use Rattle.depth.proofs.BitDepth.bits.Reads as depth-bits
+use Rattle.depth.proofs.BitDepth.max_val.Reads as depth-max-val
+use Rattle.depth.proofs.BitDepth.neutral.Reads as depth-neutral
 use Rattle.fmt.proofs.ChromaFormat.from_idc.Reads as fmt-from-idc
 use Rattle.fmt.proofs.ChromaFormat.sub_w.Reads as fmt-sub-w
 use Rattle.fmt.proofs.ChromaFormat.sub_h.Reads as fmt-sub-h
@@ -357,19 +357,20 @@ file-read-samples-once κs a x y s t p q = p ∙ sym q
 file-read-plan-once : (κs : Lfts 1) → Once (file-read-plan.Post κs)
 file-read-plan-once κs a x y s t p q = p ∙ sym q
 
+-- depth
+depth-from-bits-once : Once (depth-from-bits.Post tt)
+depth-from-bits-once a x y s t p q = p ∙ sym q
+
+depth-bits-once : Once (depth-bits.Post tt)
+depth-bits-once a x y s t p q = p ∙ sym q
+
+depth-max-val-once : Once (depth-max-val.Post tt)
+depth-max-val-once a x y s t p q = p ∙ sym q
+
+depth-neutral-once : Once (depth-neutral.Post tt)
+depth-neutral-once a x y s t p q = p ∙ sym q
+
 -- fmt
-fmt-from-bits-once : Once (fmt-from-bits.Post tt)
-fmt-from-bits-once a x y s t p q = p ∙ sym q
-
-fmt-bits-once : Once (fmt-bits.Post tt)
-fmt-bits-once a x y s t p q = p ∙ sym q
-
-fmt-max-val-once : Once (fmt-max-val.Post tt)
-fmt-max-val-once a x y s t p q = p ∙ sym q
-
-fmt-neutral-once : Once (fmt-neutral.Post tt)
-fmt-neutral-once a x y s t p q = p ∙ sym q
-
 fmt-from-idc-once : Once (fmt-from-idc.Post tt)
 fmt-from-idc-once a x y s t p q = p ∙ sym q
 

@@ -30,15 +30,16 @@ use borrow.Author.Tests.{le-leb, eq-eqb, ne-eqb, leb-true, leb-false}
 use Rattle.laws.specs.Choose.{both-true}
 use Rattle.domain.specs.Domain.{depthOk, sizeOk, sideOk, ctuOk, unitOk}
 use Rattle.domain.specs.Facts.{Depth, Size, Side, Ctu, Unit, depth-of, size-of, side-of, ctu-of, unit-of, at-depth, at-size, size-small}
-use Rattle.fmt.specs.declared.BitDepth.the-variants.{Eight, Ten, Twelve}
-use Rattle.fmt.specs.declared.DepthFrom.the-variants.{Refused}
-use Rattle.fmt.specs.declared.DepthFrom.the-variants as depths
+use Rattle.depth.specs.declared.BitDepth.the-variants.{Eight, Ten, Twelve}
+use Rattle.depth.specs.declared.DepthFrom.the-variants.{Refused}
+use Rattle.depth.specs.declared.DepthFrom.the-variants as depths
 use Rattle.fmt.specs.declared.ChromaFormat.{ChromaFormat}
 use Rattle.fmt.specs.declared.ChromaFormat.the-variants.{Monochrome, Yuv420, Yuv422, Yuv444}
 use Rattle.fmt.specs.declared.LumaRow.{LumaRow}
 use Rattle.fmt.specs.declared.LumaCol.{LumaCol}
 use Rattle.fmt.specs.declared.FormatFrom.the-variants.{Unknown}
-use Rattle.fmt.specs.Fmt.{depthFrom, depthNumber, formatFrom, subWidth}
+use Rattle.depth.specs.Depth.{depthFrom, depthNumber}
+use Rattle.fmt.specs.Fmt.{formatFrom, subWidth}
 use Rattle.order.specs.declared.Picture.{Picture}
 use Rattle.order.specs.declared.LumaNeighbour.{LumaNeighbour}
 use Rattle.order.specs.declared.LumaBlock.{LumaBlock}

@@ -1,7 +1,7 @@
--- `fmt::BitDepth::from_bits` meets its contract: at each key the definition computes; past them every test fails.
+-- `depth::BitDepth::from_bits` meets its contract: at each key the definition computes; past them every test fails.
 use borrow.Author.Tests.{ne-eqb}
-use Rattle.fmt.proofs.BitDepth.from_bits.Statement.{statement}
-use Rattle.fmt.proofs.BitDepth.from_bits.Tie as tie
+use Rattle.depth.proofs.BitDepth.from_bits.Statement.{statement}
+use Rattle.depth.proofs.BitDepth.from_bits.Tie as tie
 
 returns : tie.Need-returns
 returns c = rw (c .match .keys1)
