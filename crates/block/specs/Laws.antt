@@ -29,7 +29,7 @@ use Rattle.tiling.specs.Tests.{picture-good, placed-of}
 use Rattle.still.specs.declared.Still.{Still}
 use Rattle.still.specs.Checks.{Tables, whole, roomy}
 use Rattle.block.specs.Block.{predictedAt}
-use Rattle.block.specs.Door.{earlyNo, numberOf, fits}
+use Rattle.block_door.specs.Door.{earlyNo, numberOf, fits}
 use Rattle.block.specs.Bridge.{geoOf, bridge}
 use Rattle.block.specs.Ready.{Ready}
 

@@ -1,13 +1,11 @@
-// The prediction of one block of a luma still from a plane, and what every door on a block asks first. Each is total and checks for itself. Rests on
-// the contracts of the gather, of the prediction and of a still's checks alone.
+// The prediction of one block of a luma still from a plane. It is total and checks for itself. Rests on the contracts of the gather, of the prediction and of
+// a block's checks alone.
 ghost use mathlib.Core.Path.{_≡_};
-ghost use Prim.Native.Nat.{_+_, _*_};
-ghost use lib.Dec.{leb};
 ghost use lib.ListN.{length};
 ghost use Rattle.laws.specs.Fill.{block};
 ghost use Rattle.laws.specs.Choose.{served};
 ghost use Rattle.block.specs.Block.{predictedAt};
-ghost use Rattle.block.specs.Door.{earlyNo, numberOf, fits};
+ghost use Rattle.block_door.specs.Door.{numberOf, fits};
 ghost use Rattle.block.specs.Bridge.{geoOf};
 use fmt::LumaCol;
 use fmt::LumaRow;
@@ -35,59 +33,6 @@ pub fn geometry(s: Still, b: Block) -> LumaRefGeometry
     }
 }
 
-// A block's first sample in its plane.
-pub fn base_of(s: Still, b: Block) -> usize
-    ensures { λ r. ⌜ r ≡ b .row * s .frame .width + b .col ⌝ }
-{
-    (b.row as usize) * (s.frame.width as usize) + (b.col as usize)
-}
-
-// Numbers 1 to 5; fit says whether all that is lent is long enough.
-pub fn early_no(s: Still, b: Block, fit: bool) -> u32
-    ensures { λ r. ⌜ r ≡ earlyNo s b fit ⌝ }
-{
-    if !domain::depth_ok(s.bits) {
-        return 1;
-    }
-    if !domain::size_ok(b.side as usize) {
-        return 2;
-    }
-    if b.mode > 34 {
-        return 3;
-    }
-    if !still::picture_ok(s.frame) {
-        return 4;
-    }
-    if !fit {
-        return 5;
-    }
-    0
-}
-
-// Number 5: whether a block's entries lie from `at` on among so many.
-fn lies_in(b: Block, at: usize, len: usize) -> bool
-    ensures { λ r. ⌜ r ≡ leb (at + b .side * b .side) len ⌝ }
-{
-    let n = b.side as usize;
-    spans::lies(at, n * n, len)
-}
-
-// Number 5: a plane that is the picture's, a block's entries from `at` on among so many, and the tables.
-pub fn fit_for(
-    s: Still,
-    b: Block,
-    plane: usize,
-    at: usize,
-    len: usize,
-    refs: usize,
-    indices: usize,
-    fractions: usize,
-) -> bool
-    ensures { λ r. ⌜ r ≡ fits s b (record { refs = refs; indices = indices; fractions = fractions }) plane at len ⌝ }
-{
-    still::is_whole(s, plane) & lies_in(b, at, len) & still::is_roomy(refs, indices, fractions)
-}
-
 // A block's prediction from a plane, in rows. The last three slices are scratch.
 pub fn predict_block(
     s: Still,
@@ -100,7 +45,7 @@ pub fn predict_block(
 ) -> u32
     ensures { λ r. ⌜ (r ≡ numberOf s b (fits s b (record { refs = length (now (refs .entry)); indices = length (now (indices .entry)); fractions = length (now (fractions .entry)) }) (length (now (plane .entry))) 0 (length (now (pred .entry))))) × ((now (pred .exit) ≡ served r (block (predictedAt s b (now (plane .entry))) (b .side) (now (pred .entry))) (now (pred .entry))) × ((r ≡ 0 → ⊥) → (now (refs .exit) ≡ now (refs .entry)) × ((now (indices .exit) ≡ now (indices .entry)) × (now (fractions .exit) ≡ now (fractions .entry))))) ⌝ }
 {
-    let fit = fit_for(
+    let fit = block_door::fit_for(
         s,
         b,
         plane.len(),
@@ -110,7 +55,7 @@ pub fn predict_block(
         indices.len(),
         fractions.len(),
     );
-    let no = early_no(s, b, fit);
+    let no = block_door::early_no(s, b, fit);
     if no != 0 {
         return no;
     }

@@ -6,8 +6,8 @@ ghost use Prim.Native.Nat.{_+_, _<_};
 ghost use lib.ListN.{length};
 ghost use Rattle.byte_answer.specs.Door.{wholeBy, byteVerdict, answered};
 ghost use Rattle.byte_answer.specs.Laws.{wordAt, byteNo};
-use plan::Verdict;
 use still::Still;
+use verdict::Verdict;
 
 // Number 5: whether there are two bytes for each sample and four for each residual.
 fn are_whole(s: Still, plane: usize, residuals: usize) -> bool

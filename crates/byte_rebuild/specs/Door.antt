@@ -7,7 +7,7 @@ use Rattle.bytes.specs.Bytes.{samplesOf, bytesOf, residualsOf}
 use Rattle.tiling.specs.declared.Block.{Block}
 use Rattle.still.specs.declared.Still.{Still}
 use Rattle.still.specs.Checks.{Tables}
-use Rattle.block.specs.Door.{fits}
+use Rattle.block_door.specs.Door.{fits}
 use Rattle.rebuilt.specs.Block.{rebuilt}
 
 -- number 5, of so many bytes: two for each sample of the plane, four for each residual, and none left over

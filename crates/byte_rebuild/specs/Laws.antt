@@ -14,7 +14,7 @@ use Rattle.domain.specs.Facts.{size-of}
 use Rattle.tiling.specs.declared.Block.{Block}
 use Rattle.still.specs.declared.Still.{Still}
 use Rattle.still.specs.Checks.{Tables}
-use Rattle.block.specs.Door.{earlyNo, numberOf, fits}
+use Rattle.block_door.specs.Door.{earlyNo, numberOf, fits}
 use Rattle.block.specs.Ready.{Ready}
 use Rattle.block.specs.Laws.{Passed, early-passed, parts, square}
 use Rattle.rebuilt.specs.Block.{rebuilt}

@@ -16,7 +16,7 @@ use Rattle.tiling.specs.declared.Block.{Block}
 use Rattle.still.specs.declared.Still.{Still}
 use Rattle.still.specs.Checks.{largestOf, Tables}
 use Rattle.block.specs.Block.{predictedAt}
-use Rattle.block.specs.Door.{numberOf}
+use Rattle.block_door.specs.Door.{numberOf}
 use Rattle.block.specs.Ready.{Ready}
 use Rattle.rebuilt.specs.Block.{rebuilt}
 use Rattle.rebuilt.specs.Ready.{Lies}

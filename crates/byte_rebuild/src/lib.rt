@@ -11,7 +11,7 @@ ghost use Rattle.h265.specs.Notation.{clipTo};
 ghost use Rattle.bytes.specs.Bytes.{samplesOf, residualsOf};
 ghost use Rattle.still.specs.Checks.{every, residualOk};
 ghost use Rattle.block.specs.Block.{predictedAt};
-ghost use Rattle.block.specs.Door.{earlyNo, numberOf, fits};
+ghost use Rattle.block_door.specs.Door.{earlyNo, numberOf, fits};
 ghost use Rattle.block_rows.specs.Ready.{RowIn, RowsIn};
 ghost use Rattle.byte_rebuild.specs.Door.{byteFits, rebuiltBytes};
 use still::Still;
@@ -149,7 +149,7 @@ fn fit_for(
     ensures { λ r. ⌜ r ≡ byteFits s b (record { refs = refs; indices = indices; fractions = fractions }) plane at residuals ⌝ }
 {
     let whole = (plane % 2 == 0) & (residuals % 4 == 0);
-    let lent = block::fit_for(s, b, plane / 2, at, residuals / 4, refs, indices, fractions);
+    let lent = block_door::fit_for(s, b, plane / 2, at, residuals / 4, refs, indices, fractions);
     lent & whole
 }
 
@@ -176,7 +176,7 @@ pub fn rebuild_block(
         indices.len(),
         fractions.len(),
     );
-    let early = block::early_no(s, b, fit);
+    let early = block_door::early_no(s, b, fit);
     if early != 0 {
         return early;
     }
@@ -198,7 +198,7 @@ pub fn rebuild_block(
         &pred,
         residuals,
         b.side as usize,
-        block::base_of(s, b),
+        block_door::base_of(s, b),
         s.frame.width as usize,
         at,
         taps::largest_of(s.bits),

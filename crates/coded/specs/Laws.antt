@@ -18,7 +18,7 @@ use Rattle.still.specs.Checks.{largestOf, Tables, whole}
 use Rattle.block_rows.specs.Rows.{lessAt, backAt, lessRows, backRows, rowsFit}
 use Rattle.block_rows.specs.Ready.{RowsIn}
 use Rattle.block_rows.specs.Laws.{restored-at, fits-in}
-use Rattle.block.specs.Door.{earlyNo, numberOf, fits}
+use Rattle.block_door.specs.Door.{earlyNo, numberOf, fits}
 use Rattle.block.specs.Ready.{Ready}
 use Rattle.block.specs.Laws.{early-passed, parts}
 use Rattle.rebuilt.specs.Block.{rebuilt}

@@ -5,7 +5,7 @@ ghost use mathlib.Core.Bool.{_&&_};
 ghost use lib.ListN.{length};
 ghost use Rattle.laws.specs.Choose.{served};
 ghost use Rattle.still.specs.Checks.{whole};
-ghost use Rattle.block.specs.Door.{numberOf, fits};
+ghost use Rattle.block_door.specs.Door.{numberOf, fits};
 ghost use Rattle.walked.specs.Block.{walked};
 use still::Still;
 use tiling::Block;
@@ -24,7 +24,7 @@ pub fn walk_block(
 ) -> u32
     ensures { λ r. ⌜ (r ≡ numberOf s b (fits s b (record { refs = length (now (refs .entry)); indices = length (now (indices .entry)); fractions = length (now (fractions .entry)) }) (length (now (work .entry))) at (length (now (residuals .entry))) && whole s (length (now (source .entry))))) × ((record { work = now (work .exit); residuals = now (residuals .exit) } ≡ served r (walked s (now (source .entry)) b at (record { work = now (work .entry); residuals = now (residuals .entry) })) (record { work = now (work .entry); residuals = now (residuals .entry) })) × ((r ≡ 0 → ⊥) → (now (refs .exit) ≡ now (refs .entry)) × ((now (indices .exit) ≡ now (indices .entry)) × (now (fractions .exit) ≡ now (fractions .entry))))) ⌝ }
 {
-    let fit = block::fit_for(
+    let fit = block_door::fit_for(
         s,
         b,
         work.len(),
@@ -34,7 +34,7 @@ pub fn walk_block(
         indices.len(),
         fractions.len(),
     );
-    let early = block::early_no(s, b, fit & still::is_whole(s, source.len()));
+    let early = block_door::early_no(s, b, fit & still::is_whole(s, source.len()));
     if early != 0 {
         return early;
     }
@@ -57,7 +57,7 @@ pub fn walk_block(
         source,
         &pred,
         b.side as usize,
-        block::base_of(s, b),
+        block_door::base_of(s, b),
         s.frame.width,
         at,
         taps::largest_of(s.bits),

@@ -1,3 +1,3 @@
--- Fmt: document 01, module 1. Places: luma and chroma places, joined by subsampling. Once: at most one answer meets each contract.
+-- Fmt: document 01, module 1, of chroma format. Places: luma and chroma places, joined by subsampling.
 pub mod Fmt
 pub mod Places

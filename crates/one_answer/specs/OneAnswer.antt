@@ -63,10 +63,10 @@ use Rattle.file.proofs.area_of.Reads as file-area-of
 use Rattle.file.proofs.file_ok.Reads as file-file-ok
 use Rattle.file.proofs.read_samples.Reads as file-read-samples
 use Rattle.file.proofs.read_plan.Reads as file-read-plan
-use Rattle.fmt.proofs.BitDepth.from_bits.Reads as fmt-from-bits
-use Rattle.fmt.proofs.BitDepth.bits.Reads as fmt-bits
-use Rattle.fmt.proofs.BitDepth.max_val.Reads as fmt-max-val
-use Rattle.fmt.proofs.BitDepth.neutral.Reads as fmt-neutral
+use Rattle.depth.proofs.BitDepth.from_bits.Reads as depth-from-bits
+use Rattle.depth.proofs.BitDepth.bits.Reads as depth-bits
+use Rattle.depth.proofs.BitDepth.max_val.Reads as depth-max-val
+use Rattle.depth.proofs.BitDepth.neutral.Reads as depth-neutral
 use Rattle.fmt.proofs.ChromaFormat.from_idc.Reads as fmt-from-idc
 use Rattle.fmt.proofs.ChromaFormat.sub_w.Reads as fmt-sub-w
 use Rattle.fmt.proofs.ChromaFormat.sub_h.Reads as fmt-sub-h
@@ -104,7 +104,11 @@ use Rattle.refs.proofs.get_reference_samples_bytes.Reads as refs-get-reference-
 use Rattle.refs.proofs.get_reference_samples_chroma_pair_bytes.Reads as refs-get-reference-samples-chroma-pair-bytes
 use Rattle.refs.proofs.store_reference_samples.Reads as refs-store-reference-samples
 use Rattle.tiling.proofs.picture_ok.Reads as tiling-picture-ok
-use Rattle.tiling.proofs.block_no.Reads as tiling-block-no
+use Rattle.next_cell.proofs.is_next.Reads as next-cell-is-next
+use Rattle.block_check.proofs.block_no.Reads as block-check-block-no
+use Rattle.verdict.proofs.check_start.Reads as verdict-check-start
+use Rattle.verdict.proofs.check_step.Reads as verdict-check-step
+use Rattle.verdict.proofs.check_end.Reads as verdict-check-end
 use Rattle.records.proofs.record_at.Reads as records-record-at
 use Rattle.plan.proofs.check_plan_bytes.Reads as plan-check-plan-bytes
 use Rattle.plan.proofs.check_plan_numbers.Reads as plan-check-plan-numbers
@@ -125,9 +129,9 @@ use Rattle.spans.proofs.sum_of.Reads as spans-sum-of
 use Rattle.spans.proofs.agrees.Reads as spans-agrees
 use Rattle.block_rows.proofs.walk_rows.Reads as block-rows-walk-rows
 use Rattle.block.proofs.geometry.Reads as block-geometry
-use Rattle.block.proofs.base_of.Reads as block-base-of
-use Rattle.block.proofs.early_no.Reads as block-early-no
-use Rattle.block.proofs.fit_for.Reads as block-fit-for
+use Rattle.block_door.proofs.base_of.Reads as block-door-base-of
+use Rattle.block_door.proofs.early_no.Reads as block-door-early-no
+use Rattle.block_door.proofs.fit_for.Reads as block-door-fit-for
 use Rattle.block.proofs.predict_block.Reads as block-predict-block
 use Rattle.rebuild.proofs.rebuild_block.Reads as rebuild-rebuild-block
 use Rattle.coded.proofs.walk_block.Reads as coded-walk-block
@@ -148,6 +152,8 @@ use Rattle.flat.proofs.predict_planar_into.Reads as flat-predict-planar-into
 use Rattle.flat.proofs.predict_dc_into.Reads as flat-predict-dc-into
 use Rattle.flat.proofs.planar_2n.Reads as flat-planar-2n
 use Rattle.angular.proofs.predict_angular_slices.Reads as angular-predict-angular-slices
+use Rattle.by_mode.proofs.predict_by_mode.Reads as by-mode-predict-by-mode
+use Rattle.luma_rows.proofs.luma_rows.Reads as luma-rows-luma-rows
 use Rattle.predict.proofs.predict_chroma_tb_slices.Reads as predict-predict-chroma-tb-slices
 use Rattle.predict.proofs.predict_luma_tb_slices.Reads as predict-predict-luma-tb-slices
 use Rattle.scratch.proofs.AngularScratch.new.Reads as scratch-new
@@ -356,19 +362,20 @@ file-read-samples-once κs a x y s t p q = p ∙ sym q
 file-read-plan-once : (κs : Lfts 1) → Once (file-read-plan.Post κs)
 file-read-plan-once κs a x y s t p q = p ∙ sym q
 
+-- depth
+depth-from-bits-once : Once (depth-from-bits.Post tt)
+depth-from-bits-once a x y s t p q = p ∙ sym q
+
+depth-bits-once : Once (depth-bits.Post tt)
+depth-bits-once a x y s t p q = p ∙ sym q
+
+depth-max-val-once : Once (depth-max-val.Post tt)
+depth-max-val-once a x y s t p q = p ∙ sym q
+
+depth-neutral-once : Once (depth-neutral.Post tt)
+depth-neutral-once a x y s t p q = p ∙ sym q
+
 -- fmt
-fmt-from-bits-once : Once (fmt-from-bits.Post tt)
-fmt-from-bits-once a x y s t p q = p ∙ sym q
-
-fmt-bits-once : Once (fmt-bits.Post tt)
-fmt-bits-once a x y s t p q = p ∙ sym q
-
-fmt-max-val-once : Once (fmt-max-val.Post tt)
-fmt-max-val-once a x y s t p q = p ∙ sym q
-
-fmt-neutral-once : Once (fmt-neutral.Post tt)
-fmt-neutral-once a x y s t p q = p ∙ sym q
-
 fmt-from-idc-once : Once (fmt-from-idc.Post tt)
 fmt-from-idc-once a x y s t p q = p ∙ sym q
 
@@ -492,11 +499,24 @@ refs-store-reference-samples-once κs a x y s t p q = by-written p q
 tiling-picture-ok-once : Once (tiling-picture-ok.Post tt)
 tiling-picture-ok-once a x y s t p q = p ∙ sym q
 
-tiling-block-no-once : Once (tiling-block-no.Post tt)
-tiling-block-no-once a x y s t p q = p ∙ sym q
+next-cell-is-next-once : Once (next-cell-is-next.Post tt)
+next-cell-is-next-once a x y s t p q = p ∙ sym q
+
+block-check-block-no-once : Once (block-check-block-no.Post tt)
+block-check-block-no-once a x y s t p q = p ∙ sym q
 
 records-record-at-once : (κs : Lfts 1) → Once (records-record-at.Post κs)
 records-record-at-once κs a x y s t p q = p ∙ sym q
+
+-- verdict
+verdict-check-start-once : Once (verdict-check-start.Post tt)
+verdict-check-start-once a x y s t p q = p ∙ sym q
+
+verdict-check-step-once : Once (verdict-check-step.Post tt)
+verdict-check-step-once a x y s t p q = p ∙ sym q
+
+verdict-check-end-once : Once (verdict-check-end.Post tt)
+verdict-check-end-once a x y s t p q = p ∙ sym q
 
 -- plan
 plan-check-plan-numbers-once : (κs : Lfts 1) → Once (plan-check-plan-numbers.Post κs)
@@ -559,14 +579,14 @@ block-rows-walk-rows-once κs a x y s t p q = (refl, λ i. record { work = (p .1
 block-geometry-once : Once (block-geometry.Post tt)
 block-geometry-once a x y s t p q = p ∙ sym q
 
-block-base-of-once : Once (block-base-of.Post tt)
-block-base-of-once a x y s t p q = p ∙ sym q
+block-door-base-of-once : Once (block-door-base-of.Post tt)
+block-door-base-of-once a x y s t p q = p ∙ sym q
 
-block-early-no-once : Once (block-early-no.Post tt)
-block-early-no-once a x y s t p q = p ∙ sym q
+block-door-early-no-once : Once (block-door-early-no.Post tt)
+block-door-early-no-once a x y s t p q = p ∙ sym q
 
-block-fit-for-once : Once (block-fit-for.Post tt)
-block-fit-for-once a x y s t p q = p ∙ sym q
+block-door-fit-for-once : Once (block-door-fit-for.Post tt)
+block-door-fit-for-once a x y s t p q = p ∙ sym q
 
 block-predict-block-once : (κs : Lfts 5) → OnceLeft (λ s. now (s .1 .1 .1 .0)) (block-predict-block.Post κs)
 block-predict-block-once κs a x y s t p q = by-number _ _ (p .0) (q .0) (p .1 .0) (q .1 .0)
@@ -634,6 +654,12 @@ angular-predict-angular-slices-once : (κs : Lfts 6) → OnceLeft (λ s. now (s 
 angular-predict-angular-slices-once κs a x y s t p q = by-number _ _ (p .0) (q .0) (p .1 .0) (q .1 .0)
 
 -- predict
+by-mode-predict-by-mode-once : (κs : Lfts 6) → OnceLeft (λ s. now (s .1 .1 .1 .1 .1 .1 .1 .0)) (by-mode-predict-by-mode.Post κs)
+by-mode-predict-by-mode-once κs a x y s t p q = by-number _ _ (p .0) (q .0) (p .1 .0) (q .1 .0)
+
+luma-rows-luma-rows-once : Once (luma-rows-luma-rows.Post tt)
+luma-rows-luma-rows-once a x y s t p q = p ∙ sym q
+
 predict-predict-chroma-tb-slices-once : (κs : Lfts 6) → OnceLeft (λ s. now (s .1 .1 .1 .1 .1 .1 .0)) (predict-predict-chroma-tb-slices.Post κs)
 predict-predict-chroma-tb-slices-once κs a x y s t p q = by-number _ _ (p .0) (q .0) (p .1 .0) (q .1 .0)
 

@@ -4,12 +4,13 @@ use mathlib.Core.Bool.{Bool, true, false}
 use mathlib.Core.List.{List, []}
 use lib.IntN.{ℤ}
 use lib.ListN.{getD}
-use Rattle.fmt.specs.declared.DepthFrom.{DepthFrom}
-use Rattle.fmt.specs.declared.DepthFrom.the-variants.{Depth, Refused}
+use Rattle.depth.specs.declared.DepthFrom.{DepthFrom}
+use Rattle.depth.specs.declared.DepthFrom.the-variants.{Depth, Refused}
 use Rattle.fmt.specs.declared.FormatFrom.{FormatFrom}
 use Rattle.fmt.specs.declared.FormatFrom.the-variants.{Format, Unknown}
 use Rattle.fmt.specs.declared.ChromaFormat.{ChromaFormat}
-use Rattle.fmt.specs.Fmt.{bitsOf, largest, neutralOf, depthFrom, formatFrom, subWidth, subHeight}
+use Rattle.depth.specs.Depth.{bitsOf, largest, neutralOf, depthFrom}
+use Rattle.fmt.specs.Fmt.{formatFrom, subWidth, subHeight}
 use Rattle.fmt.specs.Places.{lumaRow, lumaCol, chromaRow, chromaCol}
 use Rattle.order.specs.declared.Picture.{Picture}
 use Rattle.order.specs.declared.Numbered.{Numbered}

@@ -1,18 +1,4 @@
--- Demand2: luma gathering, smoothing and prediction are those of H.265.
-pub mod Demand2
--- Demand3: document 01's demand 3, for a reader, over Calls: a call of walk or replay, and a chain of calls. Proof3 proves it; Example is a walk
--- that is served.
-pub mod Calls
-pub mod Demand3
-pub mod Proof3
--- OnBytes: the same for replays on bytes.
+-- OnBytes: demand 3 for replays on bytes.
 pub mod OnBytes
-pub mod Example
--- Chains: a chain of calls is one call. Accept: what it means that a call is not refused.
-pub mod Chains
-pub mod Accept
--- Range: a prediction is in range. Spots: samples and residuals by their block.
-pub mod Range
-pub mod Spots
 -- Program: intrawalk prints a refusal, or all blocks and `same`.
 pub mod Program

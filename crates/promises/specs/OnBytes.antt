@@ -12,8 +12,8 @@ use Rattle.laws.specs.Choose.{served}
 use Rattle.laws.specs.Chain.{sum}
 use Rattle.bytes.specs.Bytes.{samplesOf, residualsOf}
 use Rattle.bytes.specs.Laws.{AreBytes, length-samples}
-use Rattle.plan.specs.declared.Verdict.{Verdict}
-use Rattle.plan.specs.Plan.{Plan}
+use Rattle.verdict.specs.declared.Verdict.{Verdict}
+use Rattle.verdict.specs.Plan.{Plan}
 use Rattle.plan.specs.Records.{recordsOf}
 use Rattle.still.specs.declared.Still.{Still}
 use Rattle.steps.specs.Steps.{doing}
@@ -26,8 +26,8 @@ use Rattle.byte_answer.specs.Laws.{fitting}
 use Rattle.byte_replay.specs.Door.{nextWritten, planeAfter}
 use Rattle.byte_replay.specs.Laws.{own}
 use Rattle.byte_replay.specs.Spelt.{spelt-verdict, left}
-use Rattle.promises.specs.Calls.{Job, Held, Served, count, fresh, calls, walkNo, walkCall, replayCall}
-use Rattle.promises.specs.Proof3.{demand-3}
+use Rattle.demand3.specs.Calls.{Job, Held, Served, count, fresh, calls, walkNo, walkCall, replayCall}
+use Rattle.demand3.specs.Proof3.{demand-3}
 
 -- what all calls share: the still, the bytes of plan and residuals, and how long the result buffer is
 pub record ByteJob : Type 0 where

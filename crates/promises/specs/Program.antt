@@ -15,9 +15,9 @@ use Rattle.spans.specs.Spans.{agree}
 use Rattle.text.specs.Text.{refusal, ending}
 use Rattle.report.specs.Told.{tables, zeros, blank, verdict, residuals, replayed, lines, told, printed, jobOf}
 use Rattle.report.specs.Told.{Job as File}
-use Rattle.promises.specs.Calls.{Job, calls}
-use Rattle.promises.specs.Chains.{sum-none, sum-more}
-use Rattle.promises.specs.Proof3.{demand-3}
+use Rattle.demand3.specs.Calls.{Job, calls}
+use Rattle.demand3.specs.Chains.{sum-none, sum-more}
+use Rattle.demand3.specs.Proof3.{demand-3}
 
 -- a file's walk and replay as demand 3 has them: one call each, which is granted every block
 abbrev job : File → Job

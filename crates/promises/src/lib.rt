@@ -1,2 +1,2 @@
-// The promises: document 01's demands and what its contracts settle, each stated in one place. No code; a library has at least one function.
+// What demand 3 comes to above: for replays on bytes and for the program intrawalk. Rests on demand3. No code; a library has at least one function.
 fn nothing() {}

@@ -8,7 +8,7 @@ ghost use Rattle.laws.specs.Fill.{run};
 ghost use Rattle.laws.specs.Paint.{paint};
 ghost use Rattle.laws.specs.Choose.{served};
 ghost use Rattle.h265.specs.Notation.{clipTo};
-ghost use Rattle.block.specs.Door.{numberOf, fits};
+ghost use Rattle.block_door.specs.Door.{numberOf, fits};
 ghost use Rattle.rebuilt.specs.Block.{rebuilt};
 ghost use Rattle.block_rows.specs.Ready.{RowIn, RowsIn};
 use still::Still;
@@ -78,7 +78,7 @@ pub fn rebuild_block(
 ) -> u32
     ensures { λ r. ⌜ (r ≡ numberOf s b (fits s b (record { refs = length (now (refs .entry)); indices = length (now (indices .entry)); fractions = length (now (fractions .entry)) }) (length (now (plane .entry))) at (length (now (residuals .entry))))) × ((now (plane .exit) ≡ served r (rebuilt s b at (now (residuals .entry)) (now (plane .entry))) (now (plane .entry))) × ((r ≡ 0 → ⊥) → (now (refs .exit) ≡ now (refs .entry)) × ((now (indices .exit) ≡ now (indices .entry)) × (now (fractions .exit) ≡ now (fractions .entry))))) ⌝ }
 {
-    let fit = block::fit_for(
+    let fit = block_door::fit_for(
         s,
         b,
         plane.len(),
@@ -88,7 +88,7 @@ pub fn rebuild_block(
         indices.len(),
         fractions.len(),
     );
-    let early = block::early_no(s, b, fit);
+    let early = block_door::early_no(s, b, fit);
     if early != 0 {
         return early;
     }
@@ -110,7 +110,7 @@ pub fn rebuild_block(
         &pred,
         residuals,
         b.side as usize,
-        block::base_of(s, b),
+        block_door::base_of(s, b),
         s.frame.width as usize,
         at,
         taps::largest_of(s.bits),

@@ -22,7 +22,7 @@ use Rattle.still.specs.Checks.{largestOf, Tables, whole, roomy}
 use Rattle.taps.specs.Taps.{largestAt}
 use Rattle.taps.specs.Laws.{largest-is}
 use Rattle.block.specs.Block.{predictedAt}
-use Rattle.block.specs.Door.{earlyNo, numberOf, fits}
+use Rattle.block_door.specs.Door.{earlyNo, numberOf, fits}
 use Rattle.block.specs.Ready.{Ready}
 use Rattle.block.specs.Laws.{Passed, early-passed, is-ready, parts, side, square}
 use Rattle.block_rows.specs.Ready.{RowsIn}

@@ -6,8 +6,8 @@ ghost use lib.Dec.{leb};
 ghost use Rattle.order.specs.Order.{pictureOk};
 ghost use Rattle.tiling.specs.Tiling.{pictureOf};
 ghost use Rattle.still.specs.Checks.{every, whole, roomy, openingNo, residualOk, replayNo, walkNo, settle};
-use plan::Verdict;
 use tiling::Frame;
+use verdict::Verdict;
 
 // A still: its depth, its luma sides and its CTU.
 pub struct Still {

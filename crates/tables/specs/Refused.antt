@@ -1,7 +1,8 @@
 -- Document 01: 'Refusals return zeroed rows, the progress record as given, 0 for any other figure, and leave lent planes, residuals, block buffers and
 -- scratch untouched.' One theorem for each door whose contract does not already say so in these words. The predictors' contracts do: `served r .. (now (pred
--- .entry))`, which `kept` reads, and that scratch is the same where the number is not 0. Assumes nothing.
-use mathlib.Core.Path.{_≡_, refl, sym, ap, ap₂, _∙_}
+-- .entry))`, which `kept` reads, and that scratch is the same where the number is not 0. For walk, replay and the camera's entries: run_tables/specs/Refused.
+-- Assumes nothing.
+use mathlib.Core.Path.{_≡_, refl, sym, ap, _∙_}
 use mathlib.Core.Bool.{true, false}
 use mathlib.Core.List.{List, [], _∷_}
 use Prim.Native.Nat.{ℕ}
@@ -27,18 +28,6 @@ use Rattle.refs.specs.Door.{lumaDoor, lumaBytesDoor, chromaDoor, chromaBytesDoo
 use Rattle.smooth.specs.Smoothing as smoothing
 use Rattle.smooth.specs.Smoothing.{ruleDoor, filterDoor}
 use Rattle.residual.specs.Residual.{residualNo, reconstructNo, residualsAfter, reconstructed}
-use Rattle.plan.specs.declared.Verdict.{Verdict}
-use Rattle.plan.specs.Plan.{Plan}
-use Rattle.still.specs.declared.Still.{Still}
-use Rattle.walk.specs.declared.Progress.{Progress}
-use Rattle.walked.specs.Block.{World}
-use Rattle.still.specs.Checks.{Tables}
-use Rattle.calls.specs.Door.{replayVerdict, replayAfter, walkVerdict, walkAfter}
-use Rattle.calls.specs.Laws.{replay-refused, walk-refused}
-use Rattle.walk.specs.Door.{steppedBy}
-use Rattle.byte_answer.specs.Door.{Lent, byteVerdict, answered}
-use Rattle.byte_replay.specs.Door.{planeAfter, resultAfter}
-use Rattle.byte_entry.specs.Entries.{entry}
 use Rattle.tables.specs.Exact.{number-in}
 
 -- what a call with a number gives, or leaves behind
@@ -120,29 +109,3 @@ pub reconstruct : (bits n : ℕ) (pred : List ℕ) (residual : List ℤ) (out : 
     → reconstructed bits n pred residual out ≡ out
 unfolding reconstructed
 reconstruct bits n pred residual out h = kept _ _ out h
-
--- walk and replay: the record as given, nothing done, and what is lent untouched
-pub stepped : (v : Verdict) (plan : Plan) (p : Progress) (grant : ℕ) → ¬ (v .no ≡ 0) → steppedBy v plan p grant ≡ record { no = v .no; block = v .block; did = 0; next = p }
-stepped v plan p grant h = kept (v .no) _ (record { no = v .no; block = v .block; did = 0; next = p }) h
-
-module _ (s : Still) (plan : Plan) (t : Tables) (p : Progress) (grant : ℕ) where
-  pub walk : (source : List ℕ) (w : World) → ¬ (walkVerdict s plan t (p .done) source w .no ≡ 0) → walkAfter s plan t (p .done) grant source w ≡ w
-  walk = walk-refused s plan t (p .done) grant
-
-  pub replay : (residuals : List ℤ) (plane : List ℕ) → ¬ (replayVerdict s plan t (p .done) (length plane) residuals .no ≡ 0) → replayAfter s plan t (p .done) grant residuals plane ≡ plane
-  replay = replay-refused s plan t (p .done) grant
-
--- the camera's entries: a refused gather or prediction, each an `entry`, leaves its buffer; a refused replay leaves the plane, and writes the block number and
--- the record as given, unless the result buffer is short
-pub entries : (k : ℕ) (work out : List ℕ) → ¬ (entry k work out .number ≡ 0) → entry k work out .bytes ≡ out
-unfolding entry
-entries k work out h = kept k work out h
-
-module _ (s : Still) (done : ℕ) (l : Lent) (grant : ℕ) (h : ¬ (byteVerdict s done l .no ≡ 0)) where
-  pub byte-plane : (plane : List ℕ) → planeAfter s done l grant plane ≡ plane
-  unfolding planeAfter
-  byte-plane plane = kept (byteVerdict s done l .no) _ plane h
-
-  pub byte-result : (result : List ℕ) → resultAfter s done l grant result ≡ answered (byteVerdict s done l .block) done result
-  unfolding resultAfter
-  byte-result result = ap₂ (λ (b k : ℕ). answered b k result) (kept (byteVerdict s done l .no) 0 _ h) (kept (byteVerdict s done l .no) _ done h)

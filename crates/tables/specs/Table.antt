@@ -14,7 +14,8 @@
 --   refs::.._chroma_pair_bytes            chroma-gather-bytes     scratch_predict::.._luma_tb_..         predict-luma-scratch
 --   residual::compute_residual_i32_into   compute-residual        residual::reconstruct_into             reconstruct
 --
--- The plan check, walk and replay, whose numbers carry a block, are in TableWalk; the camera's entries and refs::store_reference_samples in TableBytes; what a refused call gives back is in Refused.
+-- The plan check, walk and replay, whose numbers carry a block, are in run_tables/specs/TableWalk; the camera's entries and refs::store_reference_samples in TableBytes
+-- there; what a refused call gives back is in Refused.
 use mathlib.Core.Path.{_≡_, refl, ap, subst}
 use mathlib.Core.Bool.{Bool, true, false, cond, _&&_, _||_, true≢false, false≢true}
 use mathlib.Core.List.{List, [], _∷_}
@@ -29,15 +30,16 @@ use borrow.Author.Tests.{le-leb, eq-eqb, ne-eqb, leb-true, leb-false}
 use Rattle.laws.specs.Choose.{both-true}
 use Rattle.domain.specs.Domain.{depthOk, sizeOk, sideOk, ctuOk, unitOk}
 use Rattle.domain.specs.Facts.{Depth, Size, Side, Ctu, Unit, depth-of, size-of, side-of, ctu-of, unit-of, at-depth, at-size, size-small}
-use Rattle.fmt.specs.declared.BitDepth.the-variants.{Eight, Ten, Twelve}
-use Rattle.fmt.specs.declared.DepthFrom.the-variants.{Refused}
-use Rattle.fmt.specs.declared.DepthFrom.the-variants as depths
+use Rattle.depth.specs.declared.BitDepth.the-variants.{Eight, Ten, Twelve}
+use Rattle.depth.specs.declared.DepthFrom.the-variants.{Refused}
+use Rattle.depth.specs.declared.DepthFrom.the-variants as depths
 use Rattle.fmt.specs.declared.ChromaFormat.{ChromaFormat}
 use Rattle.fmt.specs.declared.ChromaFormat.the-variants.{Monochrome, Yuv420, Yuv422, Yuv444}
 use Rattle.fmt.specs.declared.LumaRow.{LumaRow}
 use Rattle.fmt.specs.declared.LumaCol.{LumaCol}
 use Rattle.fmt.specs.declared.FormatFrom.the-variants.{Unknown}
-use Rattle.fmt.specs.Fmt.{depthFrom, depthNumber, formatFrom, subWidth}
+use Rattle.depth.specs.Depth.{depthFrom, depthNumber}
+use Rattle.fmt.specs.Fmt.{formatFrom, subWidth}
 use Rattle.order.specs.declared.Picture.{Picture}
 use Rattle.order.specs.declared.LumaNeighbour.{LumaNeighbour}
 use Rattle.order.specs.declared.LumaBlock.{LumaBlock}

@@ -4,7 +4,7 @@ use native.Mathlib.Omega.{arith}
 use lib.ListN.{length}
 use Rattle.laws.specs.Choose.{unserved}
 use Rattle.refs.specs.Door.{lumaDoor}
-use Rattle.block.specs.Door.{earlyNo, fits}
+use Rattle.block_door.specs.Door.{earlyNo, fits}
 use Rattle.block.specs.Laws.{early-stops, gather-says, mode-small, predict-says}
 use borrow.Author.Needs.{needs}
 use Rattle.block.proofs.predict_block.Statement.{statement}

@@ -4,7 +4,7 @@ use Prim.Native.Nat.{ℕ, _%_, _≤_}
 use lib.ListN.{length}
 use Rattle.laws.specs.Choose.{unserved}
 use Rattle.bytes.specs.Bytes.{samplesOf, residualsOf}
-use Rattle.block.specs.Door.{earlyNo}
+use Rattle.block_door.specs.Door.{earlyNo}
 use Rattle.block.specs.Laws.{early-stops}
 use Rattle.rebuilt.specs.Laws.{room, number-same, bits-are, rows-there, holds-it, rebuilt-is}
 use Rattle.byte_rebuild.specs.Door.{byteFits}

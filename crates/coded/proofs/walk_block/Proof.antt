@@ -5,7 +5,7 @@ use Prim.Native.Nat.{_≤_}
 use lib.ListN.{length}
 use Rattle.laws.specs.Choose.{if-yes, both-true, both-same, unserved}
 use Rattle.still.specs.Checks.{whole}
-use Rattle.block.specs.Door.{earlyNo, fits}
+use Rattle.block_door.specs.Door.{earlyNo, fits}
 use Rattle.block.specs.Laws.{early-stops}
 use Rattle.rebuilt.specs.Laws.{room, number-same, bits-are, lies-there, rows-there, holds-it}
 use Rattle.coded.specs.Laws.{rows-fit, walked-is}

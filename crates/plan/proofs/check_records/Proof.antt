@@ -1,10 +1,10 @@
 -- `plan::check_records` meets its contract: each turn is a step of the check. Rests on `check_step`.
-use mathlib.Core.Path.{_≡_, _∙_, sym, subst}
+use mathlib.Core.Path.{_∙_, sym, subst}
 use Prim.Native.Nat.{_-_, _≤_, _/_}
 use lib.ListN.{length}
 use borrow.Author.Needs.{needs}
 use Rattle.plan.specs.Records.{recordsOf}
-use Rattle.plan.specs.Standing.{Standing, startOf, endOf, standing-small, standing-none, standing-more, standing-end}
+use Rattle.verdict.specs.Standing.{Standing, standing-none, standing-more, standing-end}
 use Rattle.plan.proofs.check_records.Statement.{statement}
 use Rattle.plan.proofs.check_records.Tie as tie
 
@@ -24,7 +24,7 @@ record-at-requires : tie.Need-record-at-requires Inv-loop μ-loop
 record-at-requires c κs = search needs
 
 check-step-requires : tie.Need-check-step-requires Inv-loop μ-loop
-check-step-requires c κs = standing-small (c .before .before .loop .inv .1)
+check-step-requires c κs = search needs
 
 add-i : tie.Need-add-i Inv-loop μ-loop
 add-i c = search needs

@@ -1,20 +1,15 @@
--- `predict::predict_chroma_tb_slices` meets its contract. The door: the number, and the block or what was there. Rests on `by_mode`.
-use mathlib.Core.Path.{refl, sym, _∙_}
+-- `predict::predict_chroma_tb_slices` meets its contract. The block of the mode with nothing filtered is chroma's. Rests on `predict_by_mode`.
+use mathlib.Core.Path.{_∙_}
 use lib.ListN.{length}
 use Rattle.h265.specs.Notation.{fromRows}
 use Rattle.numbers.specs.Numbers.{Lent}
-use Rattle.predict.specs.Door.{fit, side}
-use Rattle.predict.specs.Contents.{chroma-block}
-use Rattle.laws.specs.Choose.{worked, unserved}
+use Rattle.predict.specs.Contents.{chroma-left}
 use borrow.Author.Needs.{needs}
 use Rattle.predict.proofs.predict_chroma_tb_slices.Statement.{statement}
 use Rattle.predict.proofs.predict_chroma_tb_slices.Tie as tie
 
-predict-no-requires : tie.Need-predict-no-requires
-predict-no-requires c κs = search needs
-
-by-mode-requires : tie.Need-by-mode-requires
-by-mode-requires c κs = sym (c .before .before .before .before .before .predict-no .ensures) ∙ c .before .before .before .before .if1 .taken
+predict-by-mode-requires : tie.Need-predict-by-mode-requires
+predict-by-mode-requires c κs = search needs
 
 same-length : tie.Need-same-length
 same-length c = search needs
@@ -30,17 +25,11 @@ same-length-4 c = search needs
 
 returns : tie.Need-returns
 returns c =
-    let a = c .before .before .before .before .before .before .before .before .before .before .before .before .before .before .before .before .before .before .before .before .before .args in
-    let p = c .before .before .before .before .before .before .before .before .by-mode .ensures in
-    let z = sym (c .before .before .before .before .before .before .before .before .before .before .before .before .before .before .predict-no .ensures) ∙ c .before .before .before .before .before .before .before .before .before .before .before .before .before .if1 .taken in
+    let a = c .before .before .before .before .before .before .before .before .before .before .before .before .before .before .before .before .before .before .before .args in
     let l : Lent = record { above = length (a .above .now); left = length (a .left .now); pred = length (a .pred .now); refs = length (a .refs .now); indices = length (a .indices .now); fractions = length (a .fractions .now) } in
-    let f = fit (a .bits) (a .n) (a .mode) l z in
-    (p .0 ∙ sym z, (p .1 ∙ chroma-block (a .bits) (a .n) (a .mode) (side (f .0)) (a .pred .now) (fromRows (a .corner) (a .above .now) (a .left .now)) ∙ worked _ _ _ (p .0), λ q. absurd (q (p .0))))
-
-returns-2 : tie.Need-returns-2
-returns-2 c = (c .before .predict-no .ensures, (unserved _ _ _ (c .if1 .left), λ z. (refl, (refl, refl))))
+    let p = c .before .before .before .before .before .before .before .before .predict-by-mode in
+    let e = p .ensures in
+    (e .0, (e .1 .0 ∙ chroma-left (a .bits) (a .n) (a .mode) l (p .result) (e .0) (a .pred .now) (fromRows (a .corner) (a .above .now) (a .left .now)), e .1 .1))
 
 pub predict-chroma-tb-slices-spec : {M : Type 1} → statement M
-predict-chroma-tb-slices-spec =
-    tie.close
-    (tie.spec predict-no-requires by-mode-requires same-length same-length-2 same-length-3 same-length-4 returns returns-2)
+predict-chroma-tb-slices-spec = tie.close (tie.spec predict-by-mode-requires same-length same-length-2 same-length-3 same-length-4 returns)

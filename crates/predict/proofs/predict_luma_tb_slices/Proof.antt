@@ -1,15 +1,24 @@
--- `predict::predict_luma_tb_slices` meets its contract. The door: the number, and the block or what was there. Rests on `luma_block`.
-use mathlib.Core.Path.{refl, sym, _∙_}
-use Rattle.laws.specs.Choose.{worked, unserved}
+-- `predict::predict_luma_tb_slices` meets its contract. The used rows are what the standard prepares, as far as a sample reads. Rests on `luma_rows` and `predict_by_mode`.
+use mathlib.Core.Path.{_≡_, ap₂, _∙_}
+use Prim.Native.Nat.{ℕ}
+use lib.ListN.{length}
+use Rattle.numbers.specs.Numbers.{Lent, predictNo}
+use Rattle.predict.specs.Contents.{luma-left}
 use borrow.Author.Needs.{needs}
 use Rattle.predict.proofs.predict_luma_tb_slices.Statement.{statement}
 use Rattle.predict.proofs.predict_luma_tb_slices.Tie as tie
 
-predict-no-requires : tie.Need-predict-no-requires
-predict-no-requires c κs = search needs
+luma-rows-requires : tie.Need-luma-rows-requires
+luma-rows-requires c κs = search needs
 
-luma-block-requires : tie.Need-luma-block-requires
-luma-block-requires c κs = sym (c .before .before .before .before .before .predict-no .ensures) ∙ c .before .before .before .before .if1 .taken
+slice-aggregate-predict-by-mode : tie.Need-slice-aggregate-predict-by-mode
+slice-aggregate-predict-by-mode c = search needs
+
+slice-aggregate-predict-by-mode-2 : tie.Need-slice-aggregate-predict-by-mode-2
+slice-aggregate-predict-by-mode-2 c = search needs
+
+predict-by-mode-requires : tie.Need-predict-by-mode-requires
+predict-by-mode-requires c κs = search needs
 
 same-length : tie.Need-same-length
 same-length c = search needs
@@ -23,16 +32,24 @@ same-length-3 c = search needs
 same-length-4 : tie.Need-same-length-4
 same-length-4 c = search needs
 
+-- the rows that the call is given
+rows-long : (s : tie.Start) → (length (s .args .rows .above) ≡ 65) × (length (s .args .rows .left) ≡ 65)
+rows-long s = search needs
+
 returns : tie.Need-returns
 returns c =
-    let p = c .before .before .before .before .before .before .before .before .luma-block .ensures in
-    let z = sym (c .before .before .before .before .before .before .before .before .before .before .before .before .before .before .predict-no .ensures) ∙ c .before .before .before .before .before .before .before .before .before .before .before .before .before .if1 .taken in
-    (p .0 ∙ sym z, (p .1 ∙ worked _ _ _ (p .0), λ q. absurd (q (p .0))))
-
-returns-2 : tie.Need-returns-2
-returns-2 c = (c .before .predict-no .ensures, (unserved _ _ _ (c .if1 .left), λ z. (refl, (refl, refl))))
+    let s = c .before .before .before .before .before .before .before .before .before .before .before .before .before .before .before .before .before .before .before .before .before .before in
+    let a = s .args in
+    let lent : ℕ → ℕ → Lent = λ u v. record { above = u; left = v; pred = length (a .pred .now); refs = length (a .refs .now); indices = length (a .indices .now); fractions = length (a .fractions .now) } in
+    let used = c .before .before .before .before .before .before .before .before .before .before .before .before .before .before .before .before .before .luma-rows in
+    let p = c .before .before .before .before .before .before .before .before .predict-by-mode in
+    let e = p .ensures in
+    let up : length (used .result .above) ≡ 65 = search needs in
+    let down : length (used .result .left) ≡ 65 = search needs in
+    let told = e .0 ∙ ap₂ (λ (u v : ℕ). predictNo (a .bits) (a .n) (a .mode) (lent u v)) up down in
+    (told, (e .1 .0 ∙ luma-left (a .bits) (a .n) (a .mode) (lent 65 65) (p .result) told (a .pred .now) (a .rows) (used .result) (used .ensures) (rows-long s .0) (rows-long s .1), e .1 .1))
 
 pub predict-luma-tb-slices-spec : {M : Type 1} → statement M
 predict-luma-tb-slices-spec =
     tie.close
-    (tie.spec predict-no-requires luma-block-requires same-length same-length-2 same-length-3 same-length-4 returns returns-2)
+    (tie.spec luma-rows-requires slice-aggregate-predict-by-mode slice-aggregate-predict-by-mode-2 predict-by-mode-requires same-length same-length-2 same-length-3 same-length-4 returns)

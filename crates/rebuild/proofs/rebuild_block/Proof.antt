@@ -3,7 +3,7 @@ use mathlib.Core.Path.{refl, sym, ap, _∙_}
 use Prim.Native.Nat.{_≤_}
 use lib.ListN.{length}
 use Rattle.laws.specs.Choose.{unserved}
-use Rattle.block.specs.Door.{earlyNo, fits}
+use Rattle.block_door.specs.Door.{earlyNo, fits}
 use Rattle.block.specs.Laws.{early-stops}
 use Rattle.rebuilt.specs.Laws.{room, number-same, bits-are, rows-there, holds-it, rebuilt-is}
 use borrow.Author.Needs.{needs}

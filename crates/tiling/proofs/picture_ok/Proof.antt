@@ -1,4 +1,4 @@
--- `plan::picture_ok` meets its contract.
+-- `tiling::picture_ok` meets its contract.
 use borrow.Author.Needs.{needs}
 use Rattle.tiling.proofs.picture_ok.Statement.{statement}
 use Rattle.tiling.proofs.picture_ok.Tie as tie

@@ -1,0 +1,2 @@
+-- Door: what a call on a block refuses.
+pub mod Door

@@ -1,0 +1,2 @@
+-- Door: what a call that is served has.
+pub mod Door

@@ -1,0 +1,2 @@
+-- Depth: document 01, module 1, of bit depth.
+pub mod Depth

@@ -1,0 +1,2 @@
+-- LumaRows: the rows of a luma block.
+pub mod LumaRows

@@ -1,0 +1,2 @@
+-- NextCell: when a place is next.
+pub mod NextCell
