@@ -3,7 +3,6 @@
 ghost use mathlib.Core.Path.{_≡_};
 ghost use Prim.Native.Nat.{ℕ, _+_, _-_, _*_, _<_, min};
 ghost use lib.ListN.{getD, replicate};
-ghost use lib.ListN.{length as count};
 ghost use Rattle.laws.specs.Fill.{fill};
 ghost use Rattle.laws.specs.Bytes.{leAt};
 ghost use Rattle.file.specs.File.{trailerOf, area, regionsOk, fileOk, recordAt};

@@ -1,19 +1,18 @@
 -- Blocks that the reach doors serve, as facts, and that the code's rule is document 01's, for luma and for chroma. Assumes nothing.
 use mathlib.Core.Path.{_≡_, refl, sym, ap, ap₂, _∙_, fun-ext, subst}
-use mathlib.Core.Bool.{Bool, true, false, cond, not, _&&_, _||_}
-use mathlib.Core.Logic.{_⊎_, inl, inr, ⊎-elim}
-use Prim.Native.Nat.{ℕ, zero, suc, _+_, _-_, _*_, _/_, _%_, _^_, _≤_, _<_, min}
-use native.Mathlib.Nat.{mul-one, div-mul-le-self, div-lt-iff-lt-mul, div-le-self}
+use mathlib.Core.Bool.{Bool, true, false, _&&_, _||_}
+use mathlib.Core.Logic.{inl, inr}
+use Prim.Native.Nat.{ℕ, _+_, _-_, _*_, _/_, _%_, _^_, _≤_, _<_}
+use native.Mathlib.Nat.{mul-one, div-mul-le-self}
 use native.Mathlib.Omega.{arith}
 use lib.Dec.{leb, ltb, eqb}
 use lib.IntN.{ℤ, pos, negsuc, _-ℤ_}
 use native.Mathlib.Decide.{decLt, ℕ-discrete}
 use borrow.Author.Tests.{leb-true, ltb-true, eqb-true, lt-ltb, le-ltb, eq-eqb, ne-eqb}
 use Rattle.laws.specs.Choose.{both-true, both-same, passed}
-use Rattle.h265.specs.Notation.{_>>ℕ_}
-use Rattle.h265.specs.Order.{zScan, minTbAddrZs}
+use Rattle.h265.specs.Order.{minTbAddrZs}
 use Rattle.domain.specs.Domain.{sizeOk, sideOk, ctuOk, unitOk}
-use Rattle.domain.specs.Facts.{Size, Unit, Ctu, Side, size-of, side-of, ctu-of, unit-of, size-small}
+use Rattle.domain.specs.Facts.{Size, Ctu, Side, size-of, side-of, ctu-of, unit-of}
 use Rattle.fmt.specs.declared.ChromaFormat.{ChromaFormat}
 use Rattle.fmt.specs.declared.ChromaFormat.the-variants.{Monochrome, Yuv420, Yuv422, Yuv444}
 use Rattle.fmt.specs.Fmt.{subWidth, subHeight}
@@ -23,8 +22,8 @@ use Rattle.order.specs.declared.ChromaBlock.{ChromaBlock}
 use Rattle.order.specs.declared.Reach.{Reach}
 use Rattle.order.specs.declared.Shifts.{Shifts}
 use Rattle.order.specs.declared.Plane.{Plane}
-use Rattle.order.specs.Order.{pictureOk, placeOk, numberAt, before, availableTo}
-use Rattle.order.specs.Good.{Good, sized, shiftsOf, small-of, number-of}
+use Rattle.order.specs.Order.{pictureOk, placeOk, numberAt, before}
+use Rattle.order.specs.Good.{Good, sized, shiftsOf, small-of}
 use Rattle.order.specs.Reach.{cornerHas, aboveHas, leftHas, leading, reachBy, inPlane, lumaPlaceOk, lumaReachNo, lumaHas, chromaHeight, chromaWidth, colour, chromaBlockOk, chromaPlaceOk, chromaReachNo, chromaHas}
 use Rattle.order.specs.Edges.{numberBy, below, up, Step, Placed, edgesOf}
 

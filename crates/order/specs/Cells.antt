@@ -3,12 +3,11 @@
 use mathlib.Core.Path.{_≡_, refl, sym, ap, ap₂, _∙_, _≡⟨_⟩_, _∎}
 use Prim.Native.Nat.{ℕ, zero, suc, _+_, _-_, _*_, _/_, _%_, _^_, _≤_, _<_}
 use native.Mathlib.Nat.{pow-suc, pow-succ', pow-zero, div-one, zero-add, suc-add, div-div-eq-div-mul, mul-div-cancel, div-eq-of-lt-le}
-use native.Mathlib.Nat.{mul-le-mul-right, mul-comm}
+use native.Mathlib.Nat.{mul-le-mul-right}
 use native.Mathlib.Omega.{arith}
 use native.Mathlib.Decide.{decLt}
 use lib.Arith.{digits-div, digits-mod}
 use lib.Pow.{pow-pos}
-use Rattle.h265.specs.Notation.{_>>ℕ_}
 use Rattle.h265.specs.Order.{interleaved, zScan}
 
 -- the cell's number: the CTU's in raster order, then one bit of the row and one of the column at each halving

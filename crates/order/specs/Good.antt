@@ -1,14 +1,14 @@
 -- A picture that no door refuses, as facts on its numbers, and the shifts that the code goes by. Assumes nothing.
 use mathlib.Core.Path.{_≡_, refl, sym, ap, ap₂, _∙_, subst}
-use mathlib.Core.Bool.{Bool, true, false, _&&_}
-use mathlib.Core.Logic.{⊎-elim, _⊎_, inl, inr}
-use Prim.Native.Nat.{ℕ, zero, suc, _+_, _-_, _*_, _/_, _%_, _^_, _≤_, _<_}
+use mathlib.Core.Bool.{_&&_}
+use mathlib.Core.Logic.{⊎-elim, _⊎_}
+use Prim.Native.Nat.{ℕ, _+_, _-_, _*_, _/_, _^_, _≤_, _<_}
 use native.Mathlib.Nat.{lt-div-mul-add, div-lt-iff-lt-mul, le-div-iff-mul-le, div-eq-of-eq-mul-left, mul-comm, mul-le-mul, pow-le-pow-right}
 use native.Mathlib.Omega.{arith}
 use lib.Dec.{ltb}
 use borrow.Author.Tests.{ltb-true}
 use Rattle.laws.specs.Choose.{both-true, passed}
-use Rattle.h265.specs.Notation.{log2, halvings, _>>ℕ_}
+use Rattle.h265.specs.Notation.{log2, halvings}
 use Rattle.h265.specs.Order.{widthInCtbs, zScan, minTbAddrZs}
 use Rattle.domain.specs.Domain.{sideOk, ctuOk, unitOk}
 use Rattle.domain.specs.Facts.{Ctu, Unit, Side, ctu-of, unit-of, side-of}

@@ -1,16 +1,14 @@
 -- Document 01, module 4: which neighbours of a block are there, by the luma rule and by the chroma rule, and how far along each edge
 -- they reach. The doors' refusals are those of the gathers, as far as they go by places. Assumes nothing.
 use Prim.Native.Nat.{ℕ, zero, suc, _+_, _*_, _/_, _%_}
-use mathlib.Core.Bool.{Bool, true, false, cond, not, _&&_, _||_}
-use mathlib.Core.List.{List, [], _∷_}
+use mathlib.Core.Bool.{Bool, true, false, cond, _&&_, _||_}
+use mathlib.Core.List.{[], _∷_}
 use lib.Dec.{leb, ltb, eqb}
 use lib.IntN.{ℤ, pos, negsuc, _-ℤ_}
 use Rattle.laws.specs.Choose.{_unless_, firstFail, served}
 use Rattle.domain.specs.Domain.{sizeOk, unitOk}
 use Rattle.fmt.specs.declared.ChromaFormat.{ChromaFormat}
 use Rattle.fmt.specs.declared.ChromaFormat.the-variants.{Monochrome, Yuv420, Yuv422, Yuv444}
-use Rattle.fmt.specs.declared.LumaRow.{LumaRow}
-use Rattle.fmt.specs.declared.LumaCol.{LumaCol}
 use Rattle.fmt.specs.Fmt.{subWidth, subHeight}
 use Rattle.order.specs.declared.Picture.{Picture}
 use Rattle.order.specs.declared.LumaBlock.{LumaBlock}

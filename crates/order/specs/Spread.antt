@@ -5,10 +5,9 @@ use native.Mathlib.Nat.{div-eq-of-lt, pow-suc, add-suc, add-zero, mod-lt, div-ad
 use native.Mathlib.Omega.{arith}
 use lib.Arith.{mod-mul}
 use lib.Pow.{pow-pos}
-use Rattle.h265.specs.Notation.{_>>ℕ_}
 use Rattle.h265.specs.Order.{interleaved, zScan}
 use Rattle.cells.specs.Spread.{spread, interleaved-spread}
-use Rattle.order.specs.Cells.{half-half, quad, dbl}
+use Rattle.order.specs.Cells.{half-half, quad}
 
 -- bits above the number's own are 0
 top : (j v : ℕ) → v < 2 ^ j → spread (suc j) v ≡ spread j v

@@ -8,7 +8,6 @@ use Rattle.depth.specs.declared.DepthFrom.{DepthFrom}
 use Rattle.depth.specs.declared.DepthFrom.the-variants.{Depth, Refused}
 use Rattle.fmt.specs.declared.FormatFrom.{FormatFrom}
 use Rattle.fmt.specs.declared.FormatFrom.the-variants.{Format, Unknown}
-use Rattle.fmt.specs.declared.ChromaFormat.{ChromaFormat}
 use Rattle.depth.specs.Depth.{bitsOf, largest, neutralOf, depthFrom}
 use Rattle.fmt.specs.Fmt.{formatFrom, subWidth, subHeight}
 use Rattle.fmt.specs.Places.{lumaRow, lumaCol, chromaRow, chromaCol}

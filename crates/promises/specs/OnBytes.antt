@@ -1,7 +1,7 @@
 -- Document 01, demand 3 on bytes: replays in a plane's own bytes, in any calls, leave bytes that spell what the replays of the spelt samples leave, so the
 -- source comes back there too. Rests on demand 3, and on what one call on bytes leaves (byte_replay's Spelt).
-use Prim.Native.Nat.{ℕ, _+_, _*_, _/_, _≤_}
-use mathlib.Core.Path.{_≡_, refl, sym, ap, _∙_}
+use Prim.Native.Nat.{ℕ, _+_, _≤_}
+use mathlib.Core.Path.{_≡_, refl, ap, _∙_}
 use mathlib.Core.Bool.{Bool, true, false, cond}
 use mathlib.Core.List.{List, [], _∷_}
 use native.Mathlib.Omega.{arith}

@@ -1,7 +1,7 @@
 -- `order::cell_number` meets its contract. `room` bounds every product.
 use native.Mathlib.Omega.{arith}
 use Rattle.order.specs.Spread.{room, number-is, four-low}
-use Prim.Native.Nat.{_/_, _^_}
+use Prim.Native.Nat.{_^_}
 use native.Mathlib.Nat.{div-le-self}
 use borrow.Author.Needs.{needs}
 use Rattle.order.proofs.cell_number.Statement.{statement}

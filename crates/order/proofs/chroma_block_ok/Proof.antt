@@ -1,11 +1,6 @@
 -- `order::chroma_block_ok` meets its contract.
-use mathlib.Core.Path.{_≡_, refl, sym, ap, _∙_, subst}
-use mathlib.Core.Bool.{Bool}
-use Prim.Native.Nat.{ℕ, _/_}
-use lib.Dec.{leb}
-use Rattle.laws.specs.Choose.{both-same}
+use mathlib.Core.Path.{sym, subst}
 use Rattle.order.specs.Edges.{Step}
-use Rattle.order.specs.Reach.{inPlane}
 use Rattle.order.specs.Blocks.{step-width, step-height, block-is}
 use borrow.Author.Needs.{needs}
 use Rattle.order.proofs.chroma_block_ok.Statement.{statement}

@@ -1,5 +1,5 @@
 -- `order::chroma_reach` meets its contract: refused by its number, or the reach.
-use mathlib.Core.Path.{_≡_, sym, _∙_}
+use mathlib.Core.Path.{sym, _∙_}
 use borrow.Author.Tests.{ne-eqb}
 use Rattle.order.specs.Reach.{chromaReach}
 use borrow.Author.Needs.{needs}

@@ -1,5 +1,5 @@
 -- `order::chroma_work` meets its contract: the code's rule with its two limits is the chroma rule.
-use mathlib.Core.Path.{_≡_, sym, subst}
+use mathlib.Core.Path.{sym, subst}
 use native.Mathlib.Omega.{arith}
 use Rattle.order.specs.Edges.{Step}
 use Rattle.order.specs.Good.{small-of, number-of, number-small}

@@ -1,5 +1,5 @@
 -- `order::comes_before` meets its contract: a coordinate below 0, or natural ones.
-use mathlib.Core.Path.{_≡_, ap₂, _∙_}
+use mathlib.Core.Path.{ap₂, _∙_}
 use mir.ValLaws.{toZ-ofZ}
 use mir.Syntax.{w64}
 use Rattle.order.specs.Order.{before}

@@ -1,5 +1,5 @@
 -- `order::current_ok` meets its contract.
-use mathlib.Core.Path.{_≡_, refl}
+use mathlib.Core.Path.{refl}
 use Rattle.laws.specs.Choose.{both-same}
 use borrow.Author.Needs.{needs}
 use Rattle.order.proofs.current_ok.Statement.{statement}

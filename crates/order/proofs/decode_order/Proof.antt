@@ -1,9 +1,9 @@
 -- `order::decode_order` meets its contract: refused by its number, or the place's own.
-use mathlib.Core.Path.{_≡_, sym, _∙_}
+use mathlib.Core.Path.{sym, _∙_}
 use native.Mathlib.Omega.{arith}
 use borrow.Author.Tests.{ne-eqb}
 use Rattle.order.specs.Order.{orderDoor}
-use Rattle.order.specs.Good.{Good, good-of, small-of, number-of, number-small}
+use Rattle.order.specs.Good.{good-of, small-of, number-of, number-small}
 use borrow.Author.Needs.{needs}
 use Rattle.order.proofs.decode_order.Statement.{statement}
 use Rattle.order.proofs.decode_order.Tie as tie

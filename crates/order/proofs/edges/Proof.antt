@@ -1,5 +1,4 @@
 -- `order::edges` meets its contract.
-use mathlib.Core.Path.{_≡_}
 use borrow.Author.Needs.{needs}
 use Rattle.order.proofs.edges.Statement.{statement}
 use Rattle.order.proofs.edges.Tie as tie

@@ -1,9 +1,8 @@
 -- `order::group_of` meets its contract: a step of 1 or 2.
-use mathlib.Core.Path.{_≡_, refl, sym, ap, _∙_}
+use mathlib.Core.Path.{_≡_, sym, ap, _∙_}
 use mathlib.Core.Logic.{⊎-elim}
 use Prim.Native.Nat.{ℕ, _/_, min}
 use native.Mathlib.Nat.{div-one}
-use native.Mathlib.Omega.{arith}
 use borrow.Author.Needs.{needs}
 use Rattle.order.proofs.group_of.Statement.{statement}
 use Rattle.order.proofs.group_of.Tie as tie

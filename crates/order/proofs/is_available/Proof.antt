@@ -2,11 +2,11 @@
 use mir.ValLaws.{toZ-ofZ}
 use mir.Syntax.{w64}
 use Rattle.order.specs.Signs.{avail-is}
-use mathlib.Core.Path.{_≡_, sym, _∙_}
+use mathlib.Core.Path.{sym, _∙_}
 use native.Mathlib.Omega.{arith}
 use borrow.Author.Tests.{ne-eqb}
 use Rattle.order.specs.Order.{availDoor}
-use Rattle.order.specs.Good.{Good, good-of, small-of, number-of, number-small}
+use Rattle.order.specs.Good.{good-of, small-of, number-of}
 use borrow.Author.Needs.{needs}
 use Rattle.order.proofs.is_available.Statement.{statement}
 use Rattle.order.proofs.is_available.Tie as tie

@@ -1,10 +1,7 @@
 -- `order::log2_of` meets its contract: at each side the logarithm computes.
-use mathlib.Core.Path.{_≡_, refl, sym, subst}
+use mathlib.Core.Path.{_≡_}
 use mathlib.Core.Logic.{⊎-elim}
-use Prim.Native.Nat.{ℕ}
-use native.Mathlib.Omega.{arith}
-use Rattle.h265.specs.Notation.{log2, halvings}
-use Rattle.order.specs.Good.{Power}
+use Rattle.h265.specs.Notation.{halvings}
 use Rattle.order.proofs.log2_of.Statement.{statement}
 use Rattle.order.proofs.log2_of.Tie as tie
 

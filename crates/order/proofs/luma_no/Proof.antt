@@ -1,6 +1,5 @@
 -- `order::luma_no` meets its contract, test by test.
-use mathlib.Core.Path.{_≡_, refl, sym, _∙_}
-use mathlib.Core.Bool.{Bool, true, false, not, _&&_}
+use mathlib.Core.Path.{refl, sym, _∙_}
 use borrow.Author.Tests.{not-true, not-false}
 use Rattle.laws.specs.Choose.{if-yes, if-no, both-same}
 use Rattle.domain.specs.Domain.{sizeOk}

@@ -1,5 +1,5 @@
 -- `order::multiple` meets its contract: at each side, by that side.
-use mathlib.Core.Path.{_≡_, refl, sym, ap, _∙_}
+use mathlib.Core.Path.{_≡_, sym, ap}
 use mathlib.Core.Logic.{⊎-elim}
 use Prim.Native.Nat.{ℕ, _%_}
 use lib.Dec.{eqb}

@@ -1,7 +1,7 @@
 -- `order::number` meets its contract.
 use native.Mathlib.Omega.{arith}
 use native.Mathlib.Nat.{div-le-self}
-use Prim.Native.Nat.{_/_, _^_}
+use Prim.Native.Nat.{_^_}
 use borrow.Author.Needs.{needs}
 use Rattle.order.proofs.number.Statement.{statement}
 use Rattle.order.proofs.number.Tie as tie

@@ -1,5 +1,4 @@
 -- `order::shifts_of` meets its contract. A good picture's CTU and unit are powers of two.
-use mathlib.Core.Path.{_≡_}
 use mathlib.Core.Logic.{inl, inr}
 use native.Mathlib.Omega.{arith}
 use Rattle.order.specs.Good.{sized, shifts-are}
