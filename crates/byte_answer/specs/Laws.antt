@@ -13,9 +13,9 @@ use Rattle.bytes.specs.Laws.{pair-stored}
 use Rattle.domain.specs.Domain.{depthOk}
 use Rattle.order.specs.Order.{pictureOk}
 use Rattle.tiling.specs.declared.Frame.{Frame}
-use Rattle.verdict.specs.declared.Verdict.{Verdict}
+use Rattle.tiling.specs.declared.Verdict.{Verdict}
 use Rattle.tiling.specs.Tiling.{pictureOf}
-use Rattle.verdict.specs.Check.{planVerdict}
+use Rattle.tiling.specs.PlanCheck.{planVerdict}
 use Rattle.plan.specs.Records.{recordsOf, wholeRecords, bytesVerdict}
 use Rattle.still.specs.declared.Still.{Still}
 use Rattle.still.specs.Checks.{every, residualOk, callNo, settle}

@@ -7,7 +7,7 @@ ghost use lib.ListN.{length};
 ghost use Rattle.byte_answer.specs.Door.{wholeBy, byteVerdict, answered};
 ghost use Rattle.byte_answer.specs.Laws.{wordAt, byteNo};
 use still::Still;
-use verdict::Verdict;
+use tiling::Verdict;
 
 // Number 5: whether there are two bytes for each sample and four for each residual.
 fn are_whole(s: Still, plane: usize, residuals: usize) -> bool

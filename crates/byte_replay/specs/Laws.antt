@@ -13,7 +13,7 @@ use Rattle.bytes.specs.Bytes.{samplesOf, bytesOf, residualsOf}
 use Rattle.bytes.specs.Laws.{AreBytes, length-samples, length-residuals, bytes-back}
 use Rattle.domain.specs.Domain.{depthOk}
 use Rattle.order.specs.Order.{pictureOk}
-use Rattle.verdict.specs.declared.Verdict.{Verdict}
+use Rattle.tiling.specs.declared.Verdict.{Verdict}
 use Rattle.tiling.specs.Tiling.{pictureOf}
 use Rattle.plan.specs.Records.{recordsOf}
 use Rattle.still.specs.declared.Still.{Still}

@@ -13,7 +13,7 @@ use Rattle.bytes.specs.Bytes.{samplesOf, bytesOf, residualsOf}
 use Rattle.bytes.specs.Laws.{AreBytes, length-samples, length-bytes, Below, samples-below}
 use Rattle.domain.specs.Facts.{Depth}
 use Rattle.tiling.specs.declared.Block.{Block}
-use Rattle.verdict.specs.declared.Verdict.{Verdict}
+use Rattle.tiling.specs.declared.Verdict.{Verdict}
 use Rattle.tiling.specs.Tiling.{place}
 use Rattle.plan.specs.Records.{recordsOf}
 use Rattle.still.specs.declared.Still.{Still}

@@ -6,9 +6,9 @@ use lib.IntN.{ℤ}
 use lib.ListN.{length}
 use Rattle.laws.specs.Choose.{served}
 use Rattle.laws.specs.Chain.{units}
-use Rattle.verdict.specs.declared.Verdict.{Verdict}
-use Rattle.verdict.specs.Plan.{Plan}
-use Rattle.verdict.specs.Check.{blocksVerdict}
+use Rattle.tiling.specs.declared.Verdict.{Verdict}
+use Rattle.tiling.specs.Plan.{Plan}
+use Rattle.tiling.specs.PlanCheck.{blocksVerdict}
 use Rattle.still.specs.declared.Still.{Still}
 use Rattle.still.specs.Checks.{Tables, replayNo, walkNo, settle}
 use Rattle.steps.specs.Steps.{doing}

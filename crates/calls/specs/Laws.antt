@@ -17,13 +17,13 @@ use Rattle.domain.specs.Facts.{size-small, depth-of}
 use Rattle.order.specs.Order.{pictureOk}
 use Rattle.tiling.specs.declared.Frame.{Frame}
 use Rattle.tiling.specs.declared.Block.{Block}
-use Rattle.verdict.specs.declared.Verdict.{Verdict}
+use Rattle.tiling.specs.declared.Verdict.{Verdict}
 use Rattle.tiling.specs.Tiling.{pictureOf, Placed, place}
-use Rattle.verdict.specs.Plan.{Plan}
+use Rattle.tiling.specs.Plan.{Plan}
 use Rattle.tiling.specs.Ahead.{area-small}
 use Rattle.tiling.specs.Cover.{area}
-use Rattle.verdict.specs.Check.{blocksVerdict, planVerdict}
-use Rattle.verdict.specs.Verdict.{Accepted, verdict-good}
+use Rattle.tiling.specs.PlanCheck.{blocksVerdict, planVerdict}
+use Rattle.tiling.specs.Verdict.{Accepted, verdict-good}
 use Rattle.still.specs.declared.Still.{Still}
 use Rattle.still.specs.Checks.{largestOf, every, whole, Tables, roomy, residualOk, replayFits, replayNo, walkFits, walkNo, settle}
 use Rattle.still.specs.Laws.{good-call, settle-zero}

@@ -3,8 +3,8 @@ use mathlib.Core.Path.{_≡_}
 use mathlib.Core.Bool.{true}
 use Prim.Native.Nat.{ℕ, _*_, _≤_, _<_}
 use Rattle.domain.specs.Facts.{Depth}
-use Rattle.verdict.specs.Plan.{Plan}
-use Rattle.verdict.specs.Verdict.{Accepted}
+use Rattle.tiling.specs.Plan.{Plan}
+use Rattle.tiling.specs.Verdict.{Accepted}
 use Rattle.still.specs.declared.Still.{Still}
 use Rattle.still.specs.Checks.{Tables, roomy}
 

@@ -12,12 +12,12 @@ use Rattle.laws.specs.Choose.{passed, both-true}
 use Rattle.domain.specs.Domain.{depthOk}
 use Rattle.domain.specs.Facts.{Depth, depth-of, at-depth}
 use Rattle.order.specs.Order.{pictureOk}
-use Rattle.verdict.specs.declared.Verdict.{Verdict}
+use Rattle.tiling.specs.declared.Verdict.{Verdict}
 use Rattle.tiling.specs.Tiling.{pictureOf, place}
-use Rattle.verdict.specs.Plan.{Plan}
-use Rattle.verdict.specs.Check.{blocksVerdict, planVerdict}
+use Rattle.tiling.specs.Plan.{Plan}
+use Rattle.tiling.specs.PlanCheck.{blocksVerdict, planVerdict}
 use Rattle.tiling.specs.Tests.{good-picture}
-use Rattle.verdict.specs.Verdict.{Accepted, good-verdict}
+use Rattle.tiling.specs.Verdict.{Accepted, good-verdict}
 use Rattle.still.specs.declared.Still.{Still}
 use Rattle.walk.specs.declared.Stepped.{Stepped}
 use Rattle.still.specs.Checks.{largestOf, every, whole, roomy, residualOk, settle}

@@ -5,7 +5,7 @@ use mathlib.Core.Path.{_≡_}
 use mathlib.Core.List.{List}
 use lib.IntN.{ℤ, pos, _-ℤ_}
 use Rattle.laws.specs.Chain.{sum}
-use Rattle.verdict.specs.declared.Verdict.{Verdict}
+use Rattle.tiling.specs.declared.Verdict.{Verdict}
 use Rattle.tiling.specs.Tiling.{In, Of, Covered}
 use Rattle.walk.specs.declared.Progress.{Progress}
 use Rattle.block.specs.Block.{sampleAt, predictedAt}

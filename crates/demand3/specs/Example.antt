@@ -6,9 +6,9 @@ use native.Mathlib.Omega.{arith}
 use lib.IntN.{pos}
 use lib.ListN.{replicate}
 use Rattle.laws.specs.Chain.{sum}
-use Rattle.verdict.specs.Plan.{planOf}
+use Rattle.tiling.specs.Plan.{planOf}
 use Rattle.tiling.specs.Check.{aheadBy, ahead, blockNo}
-use Rattle.verdict.specs.Check.{verdictFrom}
+use Rattle.tiling.specs.PlanCheck.{verdictFrom}
 use Rattle.h265.specs.Notation.{halvings}
 use Rattle.walked.specs.Block.{World}
 use Rattle.still.specs.Checks.{every, settle}

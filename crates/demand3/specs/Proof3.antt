@@ -11,10 +11,10 @@ use borrow.Author.Tests.{le-leb}
 use Rattle.laws.specs.Choose.{worked}
 use Rattle.laws.specs.Chain.{sum, units}
 use Rattle.domain.specs.Facts.{Depth, at-depth, size-small}
-use Rattle.verdict.specs.declared.Verdict.{Verdict}
+use Rattle.tiling.specs.declared.Verdict.{Verdict}
 use Rattle.tiling.specs.Tiling.{In, Covered, place}
 use Rattle.tiling.specs.Cover.{area}
-use Rattle.verdict.specs.Verdict.{Accepted}
+use Rattle.tiling.specs.Verdict.{Accepted}
 use Rattle.still.specs.declared.Still.{Still}
 use Rattle.walk.specs.declared.Progress.{Progress}
 use Rattle.walk.specs.declared.Stepped.{Stepped}

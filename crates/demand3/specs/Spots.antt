@@ -18,7 +18,7 @@ use Rattle.laws.specs.Diff.{order}
 use Rattle.helpers.specs.Ways.{apart-below, apart-above}
 use Rattle.tiling.specs.declared.Block.{Block}
 use Rattle.tiling.specs.Tiling.{In, Covered, place}
-use Rattle.verdict.specs.Verdict.{Accepted}
+use Rattle.tiling.specs.Verdict.{Accepted}
 use Rattle.still.specs.declared.Still.{Still}
 use Rattle.block.specs.Block.{sampleAt, predictedAt}
 use Rattle.still.specs.Checks.{every}

@@ -28,7 +28,7 @@ use Rattle.standard.specs.Unread.{luma-unread}
 use Rattle.tiling.specs.declared.Block.{Block}
 use Rattle.tiling.specs.Tiling.{Of, cellAt, place}
 use Rattle.tiling.specs.Cover.{apart, earlier, area}
-use Rattle.verdict.specs.Verdict.{Accepted}
+use Rattle.tiling.specs.Verdict.{Accepted}
 use Rattle.still.specs.declared.Still.{Still}
 use Rattle.still.specs.Checks.{largestOf}
 use Rattle.block.specs.Block.{sampleAt, predictedAt}

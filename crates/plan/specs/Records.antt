@@ -8,9 +8,9 @@ use Rattle.order.specs.Order.{pictureOk}
 use Rattle.tiling.specs.declared.Frame.{Frame}
 use Rattle.tiling.specs.Tiling.{pictureOf}
 use Rattle.records.specs.Records.{recordAt}
-use Rattle.verdict.specs.declared.Verdict.{Verdict}
-use Rattle.verdict.specs.Plan.{Plan}
-use Rattle.verdict.specs.Check.{blocksVerdict}
+use Rattle.tiling.specs.declared.Verdict.{Verdict}
+use Rattle.tiling.specs.Plan.{Plan}
+use Rattle.tiling.specs.PlanCheck.{blocksVerdict}
 
 -- the plan that bytes spell; bytes left over spell none
 abbrev pub recordsOf : List ℕ → Plan

@@ -3,12 +3,12 @@
 ghost use mathlib.Core.Path.{_≡_};
 ghost use Prim.Native.Nat.{_<_};
 ghost use lib.ListN.{length};
-ghost use Rattle.verdict.specs.Plan.{planOf, listed};
+ghost use Rattle.tiling.specs.Plan.{planOf, listed};
 ghost use Rattle.plan.specs.Records.{recordsOf, bytesVerdict};
-ghost use Rattle.verdict.specs.Check.{planVerdict};
+ghost use Rattle.tiling.specs.PlanCheck.{planVerdict};
 use tiling::Block;
 use tiling::Frame;
-use verdict::Verdict;
+use tiling::Verdict;
 
 // Block i of a plan.
 fn block_at(plan: &[[u32; 4]], i: usize) -> Block

@@ -12,8 +12,8 @@ use Rattle.laws.specs.Choose.{served}
 use Rattle.laws.specs.Chain.{sum}
 use Rattle.bytes.specs.Bytes.{samplesOf, residualsOf}
 use Rattle.bytes.specs.Laws.{AreBytes, length-samples}
-use Rattle.verdict.specs.declared.Verdict.{Verdict}
-use Rattle.verdict.specs.Plan.{Plan}
+use Rattle.tiling.specs.declared.Verdict.{Verdict}
+use Rattle.tiling.specs.Plan.{Plan}
 use Rattle.plan.specs.Records.{recordsOf}
 use Rattle.still.specs.declared.Still.{Still}
 use Rattle.steps.specs.Steps.{doing}

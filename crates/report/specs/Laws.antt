@@ -12,7 +12,7 @@ use Rattle.laws.specs.Fill.{fill}
 use Rattle.laws.specs.FillLaws.{length-fill}
 use Rattle.tiling.specs.declared.Block.{Block}
 use Rattle.tiling.specs.Tiling.{place}
-use Rattle.verdict.specs.Plan.{Plan}
+use Rattle.tiling.specs.Plan.{Plan}
 use Rattle.walk.specs.declared.Stepped.{Stepped}
 use Rattle.walked.specs.Block.{World}
 use Rattle.calls.specs.Door.{walkVerdict, walkAfter}

@@ -16,8 +16,8 @@ use Rattle.laws.specs.Choose.{if-yes, if-no, both-true, unserved}
 use Rattle.domain.specs.Facts.{size-small}
 use Rattle.file.specs.declared.Trailer.{Trailer}
 use Rattle.file.specs.File.{trailerOf, area, regionsOk, fileOk, sourceOf, recordAt, recordsOf}
-use Rattle.verdict.specs.declared.Verdict.{Verdict}
-use Rattle.verdict.specs.Plan.{Plan, planOf}
+use Rattle.tiling.specs.declared.Verdict.{Verdict}
+use Rattle.tiling.specs.Plan.{Plan, planOf}
 use Rattle.tiling.specs.Cover.{area as plan-area}
 use Rattle.still.specs.declared.Still.{Still}
 use Rattle.walk.specs.declared.Progress.{Progress}

@@ -5,7 +5,7 @@ ghost use Prim.Native.Nat.{_≤_, _<_};
 ghost use lib.ListN.{replicate};
 ghost use lib.ListN.{length as count};
 ghost use lib.IntN.{pos};
-ghost use Rattle.verdict.specs.Plan.{planOf};
+ghost use Rattle.tiling.specs.Plan.{planOf};
 ghost use Rattle.calls.specs.Door.{replayAfter};
 ghost use Rattle.report.specs.Told.{stillOf, tables, lines, told, jobOf, printed, reportOf};
 ghost use Rattle.text.specs.Laws.{Laid};

@@ -16,9 +16,9 @@ use Rattle.laws.specs.FillLaws.{length-fill, fill-at}
 use Rattle.domain.specs.Facts.{Depth}
 use Rattle.tiling.specs.declared.Frame.{Frame}
 use Rattle.tiling.specs.declared.Block.{Block}
-use Rattle.verdict.specs.declared.Verdict.{Verdict}
+use Rattle.tiling.specs.declared.Verdict.{Verdict}
 use Rattle.tiling.specs.Tiling.{pictureOf}
-use Rattle.verdict.specs.Plan.{planOf}
+use Rattle.tiling.specs.Plan.{planOf}
 use Rattle.walk.specs.declared.Stepped.{Stepped}
 use Rattle.still.specs.Checks.{largestOf}
 use Rattle.walk.specs.Door.{steppedBy}

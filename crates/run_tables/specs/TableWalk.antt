@@ -22,14 +22,14 @@ use Rattle.domain.specs.Facts.{Depth, Size}
 use Rattle.order.specs.Order.{pictureOk}
 use Rattle.tiling.specs.declared.Frame.{Frame}
 use Rattle.tiling.specs.declared.Block.{Block}
-use Rattle.verdict.specs.declared.Verdict.{Verdict}
+use Rattle.tiling.specs.declared.Verdict.{Verdict}
 use Rattle.tiling.specs.Tiling.{pictureOf, In, Covered, Placed, Next}
-use Rattle.verdict.specs.Plan.{Plan}
+use Rattle.tiling.specs.Plan.{Plan}
 use Rattle.tiling.specs.Check.{placedOk}
-use Rattle.verdict.specs.Check.{blocksVerdict, planVerdict}
+use Rattle.tiling.specs.PlanCheck.{blocksVerdict, planVerdict}
 use Rattle.plan.specs.Records.{recordsOf, wholeRecords, bytesVerdict}
 use Rattle.tiling.specs.Tests.{picture-good, placed-of}
-use Rattle.verdict.specs.Verdict.{Fine, Broken, bad-size, bad-mode, bad-place, bad-order, Told, is-good, bad-picture, bad-block, bad-cover, told, verdict-good, good-verdict}
+use Rattle.tiling.specs.Verdict.{Fine, Broken, bad-size, bad-mode, bad-place, bad-order, Told, is-good, bad-picture, bad-block, bad-cover, told, verdict-good, good-verdict}
 use Rattle.still.specs.declared.Still.{Still}
 use Rattle.walk.specs.declared.Progress.{Progress}
 use Rattle.walk.specs.declared.Stepped.{Stepped}

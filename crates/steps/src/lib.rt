@@ -2,7 +2,7 @@
 ghost use mathlib.Core.Path.{_≡_};
 ghost use Prim.Native.Nat.{min, _-_};
 ghost use Rattle.steps.specs.Steps.{doing, stepBy};
-use verdict::Verdict;
+use tiling::Verdict;
 
 // A call's number and the block that it is about, how many blocks it does, and the block that it goes up to; refused, it does none.
 pub struct Step {

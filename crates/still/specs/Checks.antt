@@ -8,7 +8,7 @@ use lib.ListN.{length}
 use Rattle.laws.specs.Choose.{_unless_, firstFail}
 use Rattle.domain.specs.Domain.{depthOk}
 use Rattle.order.specs.Order.{pictureOk}
-use Rattle.verdict.specs.declared.Verdict.{Verdict}
+use Rattle.tiling.specs.declared.Verdict.{Verdict}
 use Rattle.tiling.specs.Tiling.{pictureOf}
 use Rattle.still.specs.declared.Still.{Still}
 

@@ -12,7 +12,7 @@ use Rattle.laws.specs.Choose.{_unless_, firstFail, passed}
 use Rattle.domain.specs.Domain.{depthOk}
 use Rattle.domain.specs.Facts.{Depth, depth-of}
 use Rattle.order.specs.Order.{pictureOk}
-use Rattle.verdict.specs.declared.Verdict.{Verdict}
+use Rattle.tiling.specs.declared.Verdict.{Verdict}
 use Rattle.tiling.specs.Tiling.{pictureOf}
 use Rattle.still.specs.declared.Still.{Still}
 use Rattle.still.specs.Checks.{every, openingNo, callNo, settle}

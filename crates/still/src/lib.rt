@@ -7,7 +7,7 @@ ghost use Rattle.order.specs.Order.{pictureOk};
 ghost use Rattle.tiling.specs.Tiling.{pictureOf};
 ghost use Rattle.still.specs.Checks.{every, whole, roomy, openingNo, residualOk, replayNo, walkNo, settle};
 use tiling::Frame;
-use verdict::Verdict;
+use tiling::Verdict;
 
 // A still: its depth, its luma sides and its CTU.
 pub struct Still {

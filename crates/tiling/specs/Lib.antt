@@ -9,3 +9,12 @@ pub mod Cell
 pub mod Count
 pub mod Area
 pub mod Ahead
+-- Plan: a plan as numbers and as records. PlanCheck: its verdict, by a running count. Figures: small verdicts.
+pub mod Plan
+pub mod PlanCheck
+pub mod Figures
+-- Next: a plan's order in the document's own words. Verdict: what each verdict tells; its number is 0 exactly when the plan is good.
+pub mod Next
+pub mod Verdict
+-- Steps: the turns of a loop over the blocks.
+pub mod Steps

@@ -1,5 +1,5 @@
-// A still's frame and a block of its plan, what blocks cover, and what refuses one (document 01, 'Plan, walk, replay'): definitions and laws. Number 9 is decided
-// in next_cell, the others in block_check. Rests on the decode order's definitions and on the domain's tests.
+// A still's frame, a block of its plan and a plan's verdict: what blocks cover, what refuses one, and what refuses a plan (document 01, 'Plan, walk, replay'), definitions
+// and laws. Number 9 is decided in next_cell, the other numbers of a block in block_check, the verdict in verdict. Rests on the decode order's definitions and on the domain's tests.
 ghost use mathlib.Core.Path.{_≡_};
 ghost use Rattle.order.specs.Order.{pictureOk};
 ghost use Rattle.tiling.specs.Tiling.{pictureOf};
@@ -18,6 +18,12 @@ pub struct Block {
     pub col: u32,
     pub side: u32,
     pub mode: u32,
+}
+
+// A plan's number, and the list number of the block that it is about.
+pub struct Verdict {
+    pub no: u32,
+    pub block: u32,
 }
 
 // Number 4: whether the picture is not refused.

@@ -12,15 +12,15 @@ use Rattle.order.specs.Order.{pictureOk}
 use Rattle.order.specs.Good.{Good}
 use Rattle.tiling.specs.declared.Frame.{Frame}
 use Rattle.tiling.specs.declared.Block.{Block}
-use Rattle.verdict.specs.declared.Verdict.{Verdict}
+use Rattle.tiling.specs.declared.Verdict.{Verdict}
 use Rattle.verdict.specs.declared.Checking.{Checking}
 use Rattle.tiling.specs.Tiling.{pictureOf}
-use Rattle.verdict.specs.Plan.{Plan}
+use Rattle.tiling.specs.Plan.{Plan}
 use Rattle.tiling.specs.Check.{blockNo, blockDoor}
-use Rattle.verdict.specs.Check.{planVerdict}
+use Rattle.tiling.specs.PlanCheck.{planVerdict}
 use Rattle.tiling.specs.Ahead.{area-small}
 use Rattle.tiling.specs.Tests.{picture-good, door-good}
-use Rattle.verdict.specs.Steps.{Running, running-none, running-stops, block-fits, running-more, running-end}
+use Rattle.tiling.specs.Steps.{Running, running-none, running-stops, block-fits, running-more, running-end}
 
 -- number 4 comes before the blocks
 unfoldable pub startOf : Frame → Checking

@@ -1,16 +1,11 @@
-// The verdict on a plan, and the check that comes to it block by block (document 01, 'Plan, walk, replay'); where the blocks are read from is left to crates above.
-// Rests on what refuses one block.
+// The check that comes to a plan's verdict block by block (document 01, 'Plan, walk, replay'); where the blocks are read from is left to crates above.
+// Rests on the verdict's definition, in tiling, and on what refuses one block.
 ghost use mathlib.Core.Path.{_≡_};
 ghost use Prim.Native.Nat.{min};
 ghost use Rattle.verdict.specs.Standing.{startOf, stepOf, endOf};
 use tiling::Block;
 use tiling::Frame;
-
-// A plan's number, and the list number of the block that it is about.
-pub struct Verdict {
-    pub no: u32,
-    pub block: u32,
-}
+use tiling::Verdict;
 
 // Where the check of a plan stands: the first refusal, its block, and the samples covered before it.
 pub struct Checking {

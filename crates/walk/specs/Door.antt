@@ -1,8 +1,8 @@
 -- Document 01, 'Plan, walk, replay': what a call of walk or replay gives, by its verdict. Assumes nothing.
 use Prim.Native.Nat.{ℕ, _+_}
 use Rattle.laws.specs.Choose.{served}
-use Rattle.verdict.specs.declared.Verdict.{Verdict}
-use Rattle.verdict.specs.Plan.{Plan}
+use Rattle.tiling.specs.declared.Verdict.{Verdict}
+use Rattle.tiling.specs.Plan.{Plan}
 use Rattle.steps.specs.Steps.{doing}
 use Rattle.walk.specs.declared.Progress.{Progress}
 use Rattle.walk.specs.declared.Stepped.{Stepped}

@@ -7,9 +7,9 @@ use lib.ListN.{length}
 use lib.IntN.{ℤ}
 use Rattle.laws.specs.Chain.{units}
 use Rattle.laws.specs.Choose.{worked, unserved}
-use Rattle.verdict.specs.declared.Verdict.{Verdict}
-use Rattle.verdict.specs.Plan.{Plan, noBlock}
-use Rattle.verdict.specs.Check.{planVerdict}
+use Rattle.tiling.specs.declared.Verdict.{Verdict}
+use Rattle.tiling.specs.Plan.{Plan, noBlock}
+use Rattle.tiling.specs.PlanCheck.{planVerdict}
 use Rattle.still.specs.declared.Still.{Still}
 use Rattle.still.specs.Checks.{Tables, replayNo, walkNo, settle}
 use Rattle.rebuilt.specs.Block.{replayUnit}

@@ -6,7 +6,7 @@ ghost use Prim.Native.Nat.{_+_, _-_, _*_, _≤_, _<_};
 ghost use lib.Dec.{leb};
 ghost use lib.ListN.{length};
 ghost use Rattle.laws.specs.Chain.{units};
-ghost use Rattle.verdict.specs.Plan.{planOf, listed};
+ghost use Rattle.tiling.specs.Plan.{planOf, listed};
 ghost use Rattle.still.specs.Checks.{replayNo, walkNo, settle};
 ghost use Rattle.rebuilt.specs.Block.{rebuilt, replayUnit};
 ghost use Rattle.walked.specs.Block.{walked, walkUnit};
@@ -20,7 +20,7 @@ use scratch::AngularScratch;
 use steps::Step;
 use still::Still;
 use tiling::Block;
-use verdict::Verdict;
+use tiling::Verdict;
 
 // How many blocks of the plan are done; 0 when fresh.
 pub struct Progress {

@@ -1,9 +1,9 @@
 -- What each entry hands over, from the definition of the door behind it. Assumes nothing.
 use Prim.Native.Nat.{ℕ}
 use mathlib.Core.List.{List}
-use Rattle.verdict.specs.declared.Verdict.{Verdict}
-use Rattle.verdict.specs.Plan.{planOf}
-use Rattle.verdict.specs.Check.{planVerdict}
+use Rattle.tiling.specs.declared.Verdict.{Verdict}
+use Rattle.tiling.specs.Plan.{planOf}
+use Rattle.tiling.specs.PlanCheck.{planVerdict}
 use Rattle.still.specs.declared.Still.{Still}
 use Rattle.walk.specs.declared.Stepped.{Stepped}
 use Rattle.walk_probes.specs.declared.PlanAnswer.{PlanAnswer}

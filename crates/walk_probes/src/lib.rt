@@ -2,7 +2,7 @@
 // Rests on the doors' contracts.
 ghost use mathlib.Core.Path.{_≡_};
 ghost use lib.ListN.{length};
-ghost use Rattle.verdict.specs.Plan.{planOf, listed};
+ghost use Rattle.tiling.specs.Plan.{planOf, listed};
 ghost use Rattle.walk.specs.Listed.{scratchTables};
 ghost use Rattle.calls.specs.Door.{walkVerdict, walkAfter, replayVerdict, replayAfter};
 ghost use Rattle.walk.specs.Door.{steppedBy};

@@ -2,7 +2,7 @@
 use mathlib.Core.Path.{_≡_, sym, ap, _∙_}
 use Prim.Native.Nat.{ℕ, _%_}
 use lib.ListN.{length}
-use Rattle.verdict.specs.declared.Verdict.{Verdict}
+use Rattle.tiling.specs.declared.Verdict.{Verdict}
 use Rattle.byte_answer.specs.Door.{Lent}
 use Rattle.byte_replay.specs.Laws.{serves, plane-kept, result-refused, plane-done, result-served, all-three}
 use borrow.Author.Needs.{needs}

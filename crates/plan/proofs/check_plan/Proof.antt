@@ -47,17 +47,17 @@ use denote.Triple.Walked.{says, Stays, stay-none-slice, stay-none, walkOf, goes-
 use denote.Exit.{yes}
 use Rattle.tiling.specs.declared.Frame.{Frame}
 use Rattle.tiling.specs.declared.Block.{Block}
-use Rattle.verdict.specs.declared.Verdict.{Verdict}
+use Rattle.tiling.specs.declared.Verdict.{Verdict}
 use Rattle.verdict.specs.declared.Checking.{Checking}
-use Rattle.verdict.specs.Plan.{noBlock, listed}
-use Rattle.verdict.specs.Check.{planVerdict}
+use Rattle.tiling.specs.Plan.{noBlock, listed}
+use Rattle.tiling.specs.PlanCheck.{planVerdict}
 use Rattle.verdict.specs.Standing.{startOf, stepOf, endOf, Standing, standing-none, standing-more, standing-end}
 use Rattle.tiling.proofs.Frame as F
 use Rattle.tiling.proofs.Frame.Laws as F′
 use Rattle.tiling.proofs.Block as T
 use Rattle.tiling.proofs.Block.Laws as T′
-use Rattle.verdict.proofs.Verdict as Q
-use Rattle.verdict.proofs.Verdict.Laws as Q′
+use Rattle.tiling.proofs.Verdict as Q
+use Rattle.tiling.proofs.Verdict.Laws as Q′
 use Rattle.verdict.proofs.Checking as S
 use Rattle.verdict.proofs.Checking.Laws as S′
 use Rattle.verdict.proofs.check_start as beg

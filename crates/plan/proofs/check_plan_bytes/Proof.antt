@@ -5,7 +5,7 @@ use Rattle.laws.specs.Choose.{if-yes, if-no}
 use Rattle.order.specs.Order.{pictureOk}
 use Rattle.tiling.specs.Tiling.{pictureOf}
 use Rattle.plan.specs.Records.{wholeRecords, bytesVerdict}
-use Rattle.verdict.specs.Check.{planVerdict}
+use Rattle.tiling.specs.PlanCheck.{planVerdict}
 use borrow.Author.Needs.{needs}
 use Rattle.plan.proofs.check_plan_bytes.Statement.{statement}
 use Rattle.plan.proofs.check_plan_bytes.Tie as tie

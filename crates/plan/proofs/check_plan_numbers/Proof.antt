@@ -3,7 +3,7 @@ use mathlib.Core.Path.{_∙_, sym, subst}
 use Prim.Native.Nat.{_-_, _≤_}
 use lib.ListN.{length}
 use borrow.Author.Needs.{needs}
-use Rattle.verdict.specs.Plan.{planOf}
+use Rattle.tiling.specs.Plan.{planOf}
 use Rattle.verdict.specs.Standing.{Standing, standing-none, standing-more, standing-end}
 use Rattle.plan.proofs.check_plan_numbers.Statement.{statement}
 use Rattle.plan.proofs.check_plan_numbers.Tie as tie

@@ -4,7 +4,7 @@ use Prim.Native.Nat.{_-_, _*_, _≤_}
 use mathlib.Core.Path.{_≡_, ap, _∙_}
 use native.Mathlib.Omega.{arith}
 use lib.ListN.{length}
-use Rattle.verdict.specs.Plan.{planOf}
+use Rattle.tiling.specs.Plan.{planOf}
 use Rattle.tiling.specs.Tiling.{place}
 use Rattle.rebuilt.specs.Places.{place-none, place-more}
 use Rattle.report.specs.Told.{lines}

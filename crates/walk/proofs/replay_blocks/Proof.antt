@@ -8,7 +8,7 @@ use lib.ListN.{length}
 use native.Mathlib.Omega.{arith}
 use Rattle.laws.specs.Chain.{units}
 use Rattle.tiling.specs.declared.Block.{Block}
-use Rattle.verdict.specs.Plan.{planOf}
+use Rattle.tiling.specs.Plan.{planOf}
 use Rattle.tiling.specs.Tiling.{place}
 use Rattle.rebuilt.specs.Block.{rebuilt, replayUnit}
 use Rattle.rebuilt.specs.Places.{place-none, place-more}

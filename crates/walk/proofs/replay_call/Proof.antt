@@ -1,7 +1,7 @@
 -- `walk::replay_call` meets its contract: the checks, then what they come to.
 use mathlib.Core.Path.{sym, ap, _∙_}
 use borrow.Author.Needs.{needs}
-use Rattle.verdict.specs.declared.Verdict.{Verdict}
+use Rattle.tiling.specs.declared.Verdict.{Verdict}
 use Rattle.walk.specs.Listed.{bare, callOf}
 use Rattle.still.specs.Checks.{settle}
 use Rattle.still.specs.Laws.{settle-zero}

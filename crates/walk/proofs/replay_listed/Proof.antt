@@ -51,7 +51,7 @@ use denote.Exit.{yes}
 use Rattle.laws.specs.Chain.{units}
 use Rattle.tiling.specs.declared.Block.{Block}
 use Rattle.tiling.specs.Tiling.{place}
-use Rattle.verdict.specs.Plan.{noBlock, listed}
+use Rattle.tiling.specs.Plan.{noBlock, listed}
 use Rattle.tiling.proofs.Block as T
 use Rattle.tiling.proofs.Block.Laws as T′
 use Rattle.scratch.specs.declared.AngularScratch.{AngularScratch}

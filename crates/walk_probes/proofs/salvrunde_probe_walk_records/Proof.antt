@@ -38,7 +38,7 @@ use denote.Triple.Table.{entered, cited}
 use denote.Triple.Walked.{says, Stays, stay-none-slice, gave-slice, gave-ref, stay-none, walkOf, goes-none-slice, goes-gave-slice, goes-gave-ref, goes-none, Walks, ends-at, walked, walk-meets}
 use denote.Exit.{yes}
 use Rattle.tiling.specs.declared.Block.{Block}
-use Rattle.verdict.specs.Plan.{listed}
+use Rattle.tiling.specs.Plan.{listed}
 use Rattle.tiling.proofs.Block as T
 use Rattle.scratch.specs.declared.AngularScratch.{AngularScratch}
 use Rattle.scratch.proofs.AngularScratch as G

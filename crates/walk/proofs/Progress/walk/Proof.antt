@@ -41,14 +41,14 @@ use denote.Exit.{yes}
 use Rattle.laws.specs.Chain.{units}
 use Rattle.tiling.specs.declared.Frame.{Frame}
 use Rattle.tiling.specs.declared.Block.{Block}
-use Rattle.verdict.specs.declared.Verdict.{Verdict}
-use Rattle.verdict.specs.Plan.{listed}
-use Rattle.verdict.specs.Check.{planVerdict}
+use Rattle.tiling.specs.declared.Verdict.{Verdict}
+use Rattle.tiling.specs.Plan.{listed}
+use Rattle.tiling.specs.PlanCheck.{planVerdict}
 use Rattle.tiling.proofs.Frame as F
 use Rattle.tiling.proofs.Frame.Laws as F′
 use Rattle.tiling.proofs.Block as T
-use Rattle.verdict.proofs.Verdict as Q
-use Rattle.verdict.proofs.Verdict.Laws as Q′
+use Rattle.tiling.proofs.Verdict as Q
+use Rattle.tiling.proofs.Verdict.Laws as Q′
 use Rattle.plan.proofs.check_plan as chk
 use Rattle.plan.proofs.check_plan.Symbol as chk-def
 use Rattle.plan.proofs.check_plan.Symbol.{name as #plan·check-plan}

@@ -1,8 +1,8 @@
 -- `walk::Progress::walk_numbers` meets its contract. Every check precedes the first write; then the blocks. Rests on the loop over the blocks and on what a call comes to.
 use mathlib.Core.Path.{sym, ap, _∙_}
 use lib.ListN.{length}
-use Rattle.verdict.specs.declared.Verdict.{Verdict}
-use Rattle.verdict.specs.Plan.{planOf}
+use Rattle.tiling.specs.declared.Verdict.{Verdict}
+use Rattle.tiling.specs.Plan.{planOf}
 use Rattle.still.specs.Checks.{settle}
 use Rattle.still.specs.Laws.{settle-zero}
 use Rattle.calls.specs.Laws.{found-small}

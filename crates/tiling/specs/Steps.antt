@@ -9,14 +9,14 @@ use borrow.Author.Tests.{eq-eqb, ne-eqb}
 use Rattle.laws.specs.Choose.{if-yes, if-no}
 use Rattle.domain.specs.Facts.{size-small}
 use Rattle.order.specs.Good.{Good}
 use Rattle.tiling.specs.declared.Frame.{Frame}
 use Rattle.tiling.specs.declared.Block.{Block}
-use Rattle.verdict.specs.declared.Verdict.{Verdict}
+use Rattle.tiling.specs.declared.Verdict.{Verdict}
 use Rattle.tiling.specs.Tiling.{pictureOf}
 use Rattle.tiling.specs.Check.{blockNo}
-use Rattle.verdict.specs.Check.{verdictFrom}
+use Rattle.tiling.specs.PlanCheck.{verdictFrom}
 use Rattle.tiling.specs.Tests.{Numbered, is-fine, not-size, not-mode, not-placed, not-next, numbered}
 use Rattle.tiling.specs.Cover.{block-area}
 
 -- the loop over the blocks: block i is next, and `covered` samples lie before it; v is the whole verdict
 pub record Running (f : Frame) (plan : ℕ → Block) (v : Verdict) (count i covered : ℕ) : Type 0 where

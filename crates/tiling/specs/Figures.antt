@@ -3,11 +3,11 @@ use mathlib.Core.Path.{_≡_, refl}
 use mathlib.Core.List.{List, [], _∷_}
 use Prim.Native.Nat.{ℕ}
 use Rattle.h265.specs.Notation.{halvings}
 use Rattle.tiling.specs.declared.Frame.{Frame}
-use Rattle.verdict.specs.declared.Verdict.{Verdict}
-use Rattle.verdict.specs.Plan.{planOf, listed}
+use Rattle.tiling.specs.declared.Verdict.{Verdict}
+use Rattle.tiling.specs.Plan.{planOf, listed}
 use Rattle.tiling.specs.Check.{aheadBy, ahead, blockNo}
-use Rattle.verdict.specs.Check.{verdictFrom, planVerdict}
+use Rattle.tiling.specs.PlanCheck.{verdictFrom, planVerdict}
 
 abbrev still : ℕ → ℕ → Frame
 still width height = record { width = width; height = height; ctu = 16 }

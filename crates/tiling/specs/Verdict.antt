@@ -13,15 +13,15 @@ use Rattle.laws.specs.Choose.{if-yes, if-no}
 use Rattle.domain.specs.Facts.{Size}
 use Rattle.order.specs.Order.{pictureOk}
 use Rattle.order.specs.Good.{Good}
 use Rattle.tiling.specs.declared.Frame.{Frame}
 use Rattle.tiling.specs.declared.Block.{Block}
-use Rattle.verdict.specs.declared.Verdict.{Verdict}
+use Rattle.tiling.specs.declared.Verdict.{Verdict}
 use Rattle.tiling.specs.Tiling.{pictureOf, In, Covered, Placed, Next, GoodPlan, place}
-use Rattle.verdict.specs.Plan.{Plan}
+use Rattle.tiling.specs.Plan.{Plan}
 use Rattle.tiling.specs.Check.{ahead, blockNo}
-use Rattle.verdict.specs.Check.{verdictFrom, planVerdict}
+use Rattle.tiling.specs.PlanCheck.{verdictFrom, planVerdict}
 use Rattle.tiling.specs.Tests.{picture-good, good-picture, Numbered, is-fine, not-size, not-mode, not-placed, not-next, numbered}
 use Rattle.tiling.specs.Cover.{Checked, refusal-9, gap, good-plan}
 
 -- the modes of the first n blocks are modes
 abbrev pub Modes : (ℕ → Block) → ℕ → Type 0
