@@ -21,14 +21,18 @@ fn samples(list: &[u16]) -> Vec<u8> {
     bytes_of(list.iter().map(|v| v.to_le_bytes()))
 }
 
+/// A row, which starts at a line of the cache in either form.
+#[repr(C, align(64))]
+struct Line<T>(T);
+
 /// A block's references in both forms.
 struct Both {
     rows: Rows,
-    above: Vec<u8>,
-    left: Vec<u8>,
+    samples: [Line<[u16; 65]>; 2],
+    bytes: [Line<[u8; 130]>; 2],
 }
 
-/// What both sides are lent. The door's block and the entry's lie alike: a store that crosses a line of the cache takes longer, whoever makes it.
+/// What both sides are lent. The door's block and the entry's lie alike, as their rows do: a load or store that crosses a line of the cache takes longer, whoever makes it.
 #[repr(C, align(64))]
 struct Lent {
     pred: [u16; 1024],
@@ -72,7 +76,10 @@ impl<D: Fn(&Both, usize, u32, &mut Lent) -> u32, E: Fn(&Both, usize, u32, &mut L
 }
 
 fn time_prediction(table: &mut Table) {
-    let both = |rows: Rows| Both { above: samples(&rows.above), left: samples(&rows.left), rows };
+    let both = |rows: Rows| {
+        let bytes = [&rows.above, &rows.left].map(|row| Line(samples(row).try_into().unwrap()));
+        Both { samples: [Line(rows.above), Line(rows.left)], bytes, rows }
+    };
     let inputs: Vec<Both> = rows(9).into_iter().map(both).collect();
     let lent = || Lent { pred: [0; 1024], out: [0; 2048], refs: [0; 193], indices: [0; 32], fractions: [0; 32] };
     let mut lent = [lent(), lent()];
@@ -81,8 +88,8 @@ fn time_prediction(table: &mut Table) {
     let planar = Pair {
         what: "planar",
         modes: 0..=0,
-        door: |r, n, _, l| unsafe { door(r.rows.above.as_ptr(), 65, r.rows.left.as_ptr(), 65, n, l.pred.as_mut_ptr(), 1024) },
-        entry: |r, n, _, l| unsafe { entry(n as u32, r.above.as_ptr(), 130, r.left.as_ptr(), 130, l.out.as_mut_ptr(), 2048) },
+        door: |r, n, _, l| unsafe { door(r.samples[0].0.as_ptr(), 65, r.samples[1].0.as_ptr(), 65, n, l.pred.as_mut_ptr(), 1024) },
+        entry: |r, n, _, l| unsafe { entry(n as u32, r.bytes[0].0.as_ptr(), 130, r.bytes[1].0.as_ptr(), 130, l.out.as_mut_ptr(), 2048) },
     };
     planar.time(table, &inputs, &mut lent);
     let door: DcDoor = black_box(salvrunde_probe_predict_dc_into);
@@ -92,10 +99,10 @@ fn time_prediction(table: &mut Table) {
             what,
             modes: 1..=1,
             door: |r, n, _, l| unsafe {
-                door(r.rows.above.as_ptr(), 65, r.rows.left.as_ptr(), 65, n, edge, l.pred.as_mut_ptr(), 1024)
+                door(r.samples[0].0.as_ptr(), 65, r.samples[1].0.as_ptr(), 65, n, edge, l.pred.as_mut_ptr(), 1024)
             },
             entry: |r, n, _, l| unsafe {
-                entry(n as u32, edge as u32, r.above.as_ptr(), 130, r.left.as_ptr(), 130, l.out.as_mut_ptr(), 2048)
+                entry(n as u32, edge as u32, r.bytes[0].0.as_ptr(), 130, r.bytes[1].0.as_ptr(), 130, l.out.as_mut_ptr(), 2048)
             },
         };
         dc.time(table, &inputs, &mut lent);
@@ -107,11 +114,11 @@ fn time_prediction(table: &mut Table) {
         modes: 2..=34,
         door: |r, n, mode, l| {
             let (refs, indices, fractions) = (l.refs.as_mut_ptr(), l.indices.as_mut_ptr(), l.fractions.as_mut_ptr());
-            let (a, b, r, p) = (r.rows.above.as_ptr(), r.rows.left.as_ptr(), &r.rows, l.pred.as_mut_ptr());
+            let (a, b, r, p) = (r.samples[0].0.as_ptr(), r.samples[1].0.as_ptr(), &r.rows, l.pred.as_mut_ptr());
             unsafe { door(r.corner, a, 65, b, 65, n, mode as u8, true, r.bits, p, 1024, refs, 193, indices, 32, fractions, 32) }
         },
         entry: |r, n, mode, l| {
-            let (a, b, r, out) = (r.above.as_ptr(), r.left.as_ptr(), &r.rows, l.out.as_mut_ptr());
+            let (a, b, r, out) = (r.bytes[0].0.as_ptr(), r.bytes[1].0.as_ptr(), &r.rows, l.out.as_mut_ptr());
             unsafe { entry(r.bits, n as u32, mode, 1, r.corner, a, 130, b, 130, out, 2048) }
         },
     };
@@ -123,11 +130,11 @@ fn time_prediction(table: &mut Table) {
         modes: 0..=34,
         door: |r, n, mode, l| {
             let (refs, indices, fractions) = (l.refs.as_mut_ptr(), l.indices.as_mut_ptr(), l.fractions.as_mut_ptr());
-            let (a, b, r, p) = (r.rows.above.as_ptr(), r.rows.left.as_ptr(), &r.rows, l.pred.as_mut_ptr());
+            let (a, b, r, p) = (r.samples[0].0.as_ptr(), r.samples[1].0.as_ptr(), &r.rows, l.pred.as_mut_ptr());
             unsafe { door(mode as u8, r.corner, a, 65, b, 65, n, r.bits, p, 1024, refs, 193, indices, 32, fractions, 32) }
         },
         entry: |r, n, mode, l| {
-            let (a, b, r, out) = (r.above.as_ptr(), r.left.as_ptr(), &r.rows, l.out.as_mut_ptr());
+            let (a, b, r, out) = (r.bytes[0].0.as_ptr(), r.bytes[1].0.as_ptr(), &r.rows, l.out.as_mut_ptr());
             unsafe { entry(r.bits, n as u32, mode, r.corner, a, 130, b, 130, out, 2048) }
         },
     };
