@@ -88,8 +88,12 @@ fn time_prediction(table: &mut Table) {
     let planar = Pair {
         what: "planar",
         modes: 0..=0,
-        door: |r, n, _, l| unsafe { door(r.samples[0].0.as_ptr(), 65, r.samples[1].0.as_ptr(), 65, n, l.pred.as_mut_ptr(), 1024) },
-        entry: |r, n, _, l| unsafe { entry(n as u32, r.bytes[0].0.as_ptr(), 130, r.bytes[1].0.as_ptr(), 130, l.out.as_mut_ptr(), 2048) },
+        door: |r, n, _, l| unsafe {
+            door(r.samples[0].0.as_ptr(), 65, r.samples[1].0.as_ptr(), 65, n, l.pred.as_mut_ptr(), 1024)
+        },
+        entry: |r, n, _, l| unsafe {
+            entry(n as u32, r.bytes[0].0.as_ptr(), 130, r.bytes[1].0.as_ptr(), 130, l.out.as_mut_ptr(), 2048)
+        },
     };
     planar.time(table, &inputs, &mut lent);
     let door: DcDoor = black_box(salvrunde_probe_predict_dc_into);
