@@ -1,9 +1,9 @@
 -- Document 01, 'use from C': a gather's rows as bytes, and number 5 in its place. Assumes nothing.
-use Prim.Native.Nat.{ℕ, _+_, _*_}
+use Prim.Native.Nat.{ℕ}
 use mathlib.Core.Bool.{Bool, cond, _||_}
 use mathlib.Core.List.{List, _∷_, _++_}
-use lib.Dec.{leb, eqb}
-use lib.ListN.{length, getD}
+use lib.Dec.{eqb}
+use lib.ListN.{getD}
 use Rattle.laws.specs.Fill.{run}
 use Rattle.laws.specs.Bytes.{byteOf}
 use Rattle.rows.specs.declared.Rows.{Rows}
@@ -19,10 +19,6 @@ inLine r = r .corner ∷ (r .above ++ r .left)
 -- a buffer after rows were written into it, from byte at on
 unfoldable pub rowsAt : ℕ → Rows → List ℕ → List ℕ
 rowsAt at r d = run (sampleByte (inLine r)) at 262 d
-
--- from sample at on, where there is room
-unfoldable pub storedAt : ℕ → Rows → List ℕ → List ℕ
-storedAt at r d = cond (leb (2 * (at + 131)) (length d)) (rowsAt (2 * at) r d) d
 
 -- a gather's number, told whether its buffer is long enough
 abbrev pub roomNo : Bool → ℕ → ℕ

@@ -1,20 +1,17 @@
--- Samples stored as bytes: one more, a list after another, and rows. Assumes nothing.
+-- Samples stored as bytes: one more, some after others, and rows. Assumes nothing.
 use mathlib.Core.Path.{_≡_, refl, sym, ap, ap₂, _∙_}
 use mathlib.Core.List.{List}
-use Prim.Native.Nat.{ℕ, zero, suc, _+_, _*_, _/_, _%_, _^_, _≤_, _<_}
+use Prim.Native.Nat.{ℕ, zero, suc, _+_, _*_, _/_, _%_, _^_, _<_}
 use native.Mathlib.Nat.{div-one, add-zero, add-suc, add-assoc}
 use native.Mathlib.Omega.{arith}
-use borrow.Author.Tests.{le-leb}
-use lib.Dec.{leb}
 use lib.ListN.{length, getD, set, List·getD-append}
 use lib.Seq.{getD-append-add}
-use Rattle.laws.specs.Choose.{if-yes}
 use Rattle.laws.specs.Fill.{run}
-use Rattle.laws.specs.FillLaws.{run-none, run-more}
+use Rattle.laws.specs.FillLaws.{run-none, run-more, run-same}
 use Rattle.laws.specs.Bytes.{byteOf, byte-at}
 use Rattle.bytes.specs.Bytes.{byte1}
 use Rattle.rows.specs.declared.Rows.{Rows}
-use Rattle.byte_rows.specs.Line.{sampleByte, inLine, rowsAt, storedAt}
+use Rattle.byte_rows.specs.Line.{sampleByte, inLine, rowsAt}
 
 -- the two bytes of sample i
 low-byte : (f : ℕ → ℕ) (i : ℕ) → f i % 256 ≡ byteOf 2 f (2 * i)
@@ -38,12 +35,18 @@ unfolding run
 run-run f g a k zero d h = rw add-zero
 run-run f g a k (suc m) d h = rw (add-suc, run-run f g a k m d (λ j l. h j (omega arith)), h m (omega arith), add-assoc)
 
--- a list of samples after k samples
-pub list-more : (f : ℕ → ℕ) (from : List ℕ) (at k count : ℕ) (d : List ℕ) → ((i : ℕ) → i < count → getD from i 0 ≡ f (k + i))
-    → run (sampleByte from) (2 * (at + k)) (2 * count) (run (byteOf 2 f) (2 * at) (2 * k) d) ≡ run (byteOf 2 f) (2 * at) (2 * (k + count)) d
-list-more f from at k count d h =
-    ap (λ (x : ℕ). run (sampleByte from) x (2 * count) (run (byteOf 2 f) (2 * at) (2 * k) d)) (let q : 2 * (at + k) ≡ 2 * at + 2 * k = omega arith in q)
-    ∙ run-run (byteOf 2 f) (sampleByte from) (2 * at) (2 * k) (2 * count) d
+-- samples that are the same, whatever tells them
+pub samples-same : (f g : ℕ → ℕ) (at count : ℕ) (d : List ℕ) → ((i : ℕ) → i < count → f i ≡ g i)
+    → run (byteOf 2 f) (2 * at) (2 * count) d ≡ run (byteOf 2 g) (2 * at) (2 * count) d
+samples-same f g at count d h =
+    run-same (byteOf 2 f) (byteOf 2 g) (2 * at) (2 * count) d (λ j l. ap (λ (v : ℕ). v / 256 ^ (j % 2) % 256) (h (j / 2) (omega arith)))
+
+-- more samples after k of them
+pub samples-more : (f g : ℕ → ℕ) (at k count : ℕ) (d : List ℕ) → ((i : ℕ) → i < count → g i ≡ f (k + i))
+    → run (byteOf 2 g) (2 * (at + k)) (2 * count) (run (byteOf 2 f) (2 * at) (2 * k) d) ≡ run (byteOf 2 f) (2 * at) (2 * (k + count)) d
+samples-more f g at k count d h =
+    ap (λ (x : ℕ). run (byteOf 2 g) x (2 * count) (run (byteOf 2 f) (2 * at) (2 * k) d)) (let q : 2 * (at + k) ≡ 2 * at + 2 * k = omega arith in q)
+    ∙ run-run (byteOf 2 f) (byteOf 2 g) (2 * at) (2 * k) (2 * count) d
     (λ j l.
     ap₂ (λ (x y : ℕ). x / 256 ^ y % 256) (h (j / 2) (omega arith) ∙ ap f (let q : k + j / 2 ≡ (2 * k + j) / 2 = omega arith in q))
     (let q : j % 2 ≡ (2 * k + j) % 2 = omega arith in q))
@@ -65,10 +68,5 @@ module _ (r : Rows) (at : ℕ) (d : List ℕ) (long : length (r .above) ≡ 65) 
   unfolding rowsAt
   rows-stored p q w =
       let one = p ∙ ap (λ (k : ℕ). set (set d (2 * k) (r .corner % 256)) (2 * k + 1) (byte1 (r .corner))) (sym (add-zero at)) ∙ sample-more line at 0 d (run-none (byteOf 2 line) (2 * at) d) refl in
-      let two = q ∙ ap (run (sampleByte (r .above)) (2 * (at + 1)) (2 * 65)) one ∙ list-more line (r .above) at 1 65 d above-on in
-      w ∙ ap (run (sampleByte (r .left)) (2 * (at + 66)) (2 * 65)) two ∙ list-more line (r .left) at 66 65 d (λ i h. left-on i)
-
--- where there is room they are stored
-pub stored : (at : ℕ) (r : Rows) (d : List ℕ) → 2 * (at + 131) ≤ length d → storedAt at r d ≡ rowsAt (2 * at) r d
-unfolding storedAt
-stored at r d h = sym (if-yes (leb (2 * (at + 131)) (length d)) _ _ _ (le-leb (2 * (at + 131)) (length d) h) refl)
+      let two = q ∙ ap (run (sampleByte (r .above)) (2 * (at + 1)) (2 * 65)) one ∙ samples-more line (λ (i : ℕ). getD (r .above) i 0) at 1 65 d above-on in
+      w ∙ ap (run (sampleByte (r .left)) (2 * (at + 66)) (2 * 65)) two ∙ samples-more line (λ (i : ℕ). getD (r .left) i 0) at 66 65 d (λ i h. left-on i)

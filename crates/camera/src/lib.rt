@@ -6,8 +6,7 @@ ghost use Rattle.byte_entry.specs.Entries.{wrote};
 ghost use Rattle.byte_flat.specs.Entries.{planarEntry, dcEntry};
 ghost use Rattle.byte_angular.specs.Entries.{angularEntry};
 ghost use Rattle.byte_predict.specs.Entries.{chromaBlockEntry};
-ghost use Rattle.refs.specs.Entry.{lumaEntry};
-ghost use Rattle.camera.specs.Entries.{chromaEntry};
+ghost use Rattle.refs.specs.Entry.{lumaEntry, chromaEntry};
 use fmt::ChromaCol;
 use fmt::ChromaRow;
 use fmt::LumaCol;
@@ -83,13 +82,7 @@ pub extern "C" fn salvrunde_chroma_refs(
         cur_luma_row: LumaRow(cur_luma_row),
         cur_luma_col: LumaCol(cur_luma_col),
     };
-    let a = refs::get_reference_samples_chroma_pair_bytes(cb, cr, geo);
-    let no = byte_rows::room_no(a.no, 2, out.len());
-    if no == 0 {
-        byte_rows::store_rows(a.planes[0], &mut *out, 0);
-        byte_rows::store_rows(a.planes[1], &mut *out, 131);
-    }
-    no
+    refs::store_reference_samples_chroma_pair(cb, cr, geo, out)
 }
 
 // The planar block of side n, in rows, in the first 2 · n · n bytes of `out`; each row has at least 130 bytes. Numbers 2, 5.

@@ -101,8 +101,8 @@ use Rattle.substitution.proofs.substitute_refs.Reads as substitution-substitute
 use Rattle.refs.proofs.get_reference_samples.Reads as refs-get-reference-samples
 use Rattle.refs.proofs.get_reference_samples_chroma_pair.Reads as refs-get-reference-samples-chroma-pair
 use Rattle.refs.proofs.get_reference_samples_bytes.Reads as refs-get-reference-samples-bytes
-use Rattle.refs.proofs.get_reference_samples_chroma_pair_bytes.Reads as refs-get-reference-samples-chroma-pair-bytes
 use Rattle.refs.proofs.store_reference_samples.Reads as refs-store-reference-samples
+use Rattle.refs.proofs.store_reference_samples_chroma_pair.Reads as refs-store-reference-samples-chroma-pair
 use Rattle.tiling.proofs.picture_ok.Reads as tiling-picture-ok
 use Rattle.next_cell.proofs.is_next.Reads as next-cell-is-next
 use Rattle.block_check.proofs.block_no.Reads as block-check-block-no
@@ -179,7 +179,6 @@ use Rattle.walk_probes.proofs.salvrunde_probe_walk.Reads as walk-probes-salvrun
 use Rattle.walk_probes.proofs.salvrunde_probe_replay.Reads as walk-probes-salvrunde-probe-replay
 use Rattle.walk_probes.proofs.salvrunde_probe_walk_records as walk-probes-salvrunde-probe-walk-records
 use Rattle.walk_probes.proofs.salvrunde_probe_replay_records as walk-probes-salvrunde-probe-replay-records
-use Rattle.byte_rows.proofs.store_rows.Reads as byte-rows-store-rows
 use Rattle.byte_rows.proofs.room_no.Reads as byte-rows-room-no
 use Rattle.pairs.proofs.read.Reads as pairs-read
 use Rattle.pairs.proofs.store.Reads as pairs-store
@@ -486,14 +485,14 @@ refs-get-reference-samples-chroma-pair-once κs a x y s t p q = p ∙ sym q
 refs-get-reference-samples-bytes-once : (κs : Lfts 1) → Once (refs-get-reference-samples-bytes.Post κs)
 refs-get-reference-samples-bytes-once κs a x y s t p q = p ∙ sym q
 
-refs-get-reference-samples-chroma-pair-bytes-once : (κs : Lfts 2) → Once (refs-get-reference-samples-chroma-pair-bytes.Post κs)
-refs-get-reference-samples-chroma-pair-bytes-once κs a x y s t p q = p ∙ sym q
-
 by-written : {x y : ℕ} {l m : List ℕ} {w : Written} → wrote x l ≡ w → wrote y m ≡ w → (x ≡ y) × (l ≡ m)
 by-written p q = (ap (λ (v : Written). v .number) (p ∙ sym q), ap (λ (v : Written). v .bytes) (p ∙ sym q))
 
 refs-store-reference-samples-once : (κs : Lfts 2) → OnceLeft (λ s. now (s .1 .1 .0)) (refs-store-reference-samples.Post κs)
 refs-store-reference-samples-once κs a x y s t p q = by-written p q
+
+refs-store-reference-samples-chroma-pair-once : (κs : Lfts 3) → OnceLeft (λ s. now (s .1 .1 .1 .0)) (refs-store-reference-samples-chroma-pair.Post κs)
+refs-store-reference-samples-chroma-pair-once κs a x y s t p q = by-written p q
 
 -- tiling
 tiling-picture-ok-once : Once (tiling-picture-ok.Post tt)
@@ -746,9 +745,6 @@ byte-replay-replay-once : (κs : Lfts 4) → OnceLeft {L = List ℕ × List ℕ}
 byte-replay-replay-once κs a x y s t p q = by-after p q
 
 -- byte_rows
-byte-rows-store-rows-once : (κs : Lfts 1) → OnceLeft (λ s. now (s .1 .0)) (byte-rows-store-rows.Post κs)
-byte-rows-store-rows-once κs a x y s t p q = (refl, p ∙ sym q)
-
 byte-rows-room-no-once : Once (byte-rows-room-no.Post tt)
 byte-rows-room-no-once a x y s t p q = p ∙ sym q
 

@@ -101,11 +101,6 @@ chromaDoor cb cr g =
     let k = chromaNo (length cb) (length cr) g in
     record { no = k; planes = served k (chromaRows cb g ∷ chromaRows cr g ∷ []) (levelRows 0 ∷ levelRows 0 ∷ []) }
 
--- The same over planes of bytes.
+-- The same over planes of bytes: the number.
 unfoldable pub chromaBytesNo : ℕ → ℕ → ChromaRefGeometry → ℕ
 chromaBytesNo cb cr g = chromaNumber (eqb cb (2 * chromaLength g) && eqb cr (2 * chromaLength g)) g
-
-unfoldable pub chromaBytesDoor : List ℕ → List ℕ → ChromaRefGeometry → GatheredPair
-chromaBytesDoor cb cr g =
-    let k = chromaBytesNo (length cb) (length cr) g in
-    record { no = k; planes = served k (chromaRows (samplesOf cb) g ∷ chromaRows (samplesOf cr) g ∷ []) (levelRows 0 ∷ levelRows 0 ∷ []) }

@@ -9,15 +9,16 @@ use borrow.Author.Tests.{leb-true}
 use Rattle.laws.specs.Choose.{passed}
 use Rattle.domain.specs.Domain.{depthOk, sizeOk}
 use Rattle.order.specs.Order.{pictureOk}
-use Rattle.order.specs.Reach.{lumaPlaceOk}
+use Rattle.order.specs.Reach.{lumaPlaceOk, chromaPlaceOk}
 use Rattle.byte_rows.specs.Line.{roomNo}
 use Rattle.substitution.specs.Line.{told}
 use Rattle.refs.specs.declared.LumaRefGeometry.{LumaRefGeometry}
-use Rattle.refs.specs.Door.{lumaBlock, lumaLength, lumaBytesNo}
-use Rattle.refs.specs.Entry.{lumaEntryNo}
+use Rattle.refs.specs.declared.ChromaRefGeometry.{ChromaRefGeometry}
+use Rattle.refs.specs.Door.{lumaBlock, lumaLength, lumaBytesNo, chromaPicture, chromaBlock, chromaLength, chromaBytesNo}
+use Rattle.refs.specs.Entry.{lumaEntryNo, chromaEntryNo}
 
 -- depth, size, picture, plane, place; the buffer
-pub room-number : (d s p w q r : Bool) → cond d (cond s (cond p (cond (w && r) (cond q 0 6) 5) 4) 2) 1 ≡ roomNo r (cond d (cond s (cond p (cond w (cond q 0 6) 5) 4) 2) 1)
+room-number : (d s p w q r : Bool) → cond d (cond s (cond p (cond (w && r) (cond q 0 6) 5) 4) 2) 1 ≡ roomNo r (cond d (cond s (cond p (cond w (cond q 0 6) 5) 4) 2) 1)
 room-number false s p w q r = refl
 room-number true false p w q r = refl
 room-number true true false w q r = refl
@@ -28,7 +29,7 @@ room-number true true true true false true = refl
 room-number true true true true false false = refl
 
 -- a number of 0: the buffer is long enough, and nothing else refuses
-pub room-fine : (roomy : Bool) (k : ℕ) → roomNo roomy k ≡ 0 → (roomy ≡ true) × (k ≡ 0)
+room-fine : (roomy : Bool) (k : ℕ) → roomNo roomy k ≡ 0 → (roomy ≡ true) × (k ≡ 0)
 room-fine roomy k e =
     ⊎-elim (λ t. passed roomy k 5 (omega arith) (sym (ap (λ (b : Bool). cond b (cond roomy k 5) k) t) ∙ e))
     (λ t. absurd (stuck t (sym (ap (λ (b : Bool). cond b (cond roomy k 5) k) t) ∙ e)))
@@ -47,3 +48,15 @@ module _ (plane out : ℕ) (g : LumaRefGeometry) {j k : ℕ} (e : j ≡ lumaByte
 
   pub luma-entry-fine : k ≡ 0 → (262 ≤ out) × (lumaBytesNo plane g ≡ 0)
   luma-entry-fine z = let f = room-fine (leb 262 out) j (sym ek ∙ z) in (leb-true 262 out (f .0), sym e ∙ f .1)
+
+-- the chroma pair gather's
+module _ (cb cr out : ℕ) (g : ChromaRefGeometry) {j k : ℕ} (e : j ≡ chromaBytesNo cb cr g) (ek : k ≡ roomNo (leb 524 out) j) where
+  pub chroma-entry-no : k ≡ chromaEntryNo cb cr out g
+  unfolding chromaBytesNo
+  chroma-entry-no =
+      ek ∙ ap (roomNo (leb 524 out)) e
+      ∙ sym (room-number (depthOk (g .bits)) (sizeOk (g .n)) (pictureOk (chromaPicture g) && leb 1 (g .format) && leb (g .format) 3)
+      (eqb cb (2 * chromaLength g) && eqb cr (2 * chromaLength g)) (chromaPlaceOk (chromaBlock g)) (leb 524 out))
+
+  pub chroma-entry-fine : k ≡ 0 → (524 ≤ out) × (chromaBytesNo cb cr g ≡ 0)
+  chroma-entry-fine z = let f = room-fine (leb 524 out) j (sym ek ∙ z) in (leb-true 524 out (f .0), sym e ∙ f .1)

@@ -49,7 +49,7 @@ by-test true p q = p refl
 by-test false p q = q refl
 
 -- where neither the left column nor the corner has one, the row above has
-only-above : (a b c : Bool) → (a || b || c) ≡ true → a ≡ false → b ≡ false → c ≡ true
+pub only-above : (a b c : Bool) → (a || b || c) ≡ true → a ≡ false → b ≡ false → c ≡ true
 only-above true b c h p q = absurd (false≢true (sym p))
 only-above false true c h p q = absurd (false≢true (sym q))
 only-above false false c h p q = h

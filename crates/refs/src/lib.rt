@@ -2,19 +2,24 @@
 // Rests on the contracts of order (which neighbours are there), on substitution and on how rows are stored; a sample's value never says whether it is there.
 ghost use mathlib.Core.Path.{_≡_};
 ghost use mathlib.Core.List.{[], _∷_};
-ghost use Prim.Native.Nat.{ℕ, _+_, _-_, _*_, _/_, _≤_, _<_};
-ghost use lib.ListN.{length, getD};
-ghost use Rattle.laws.specs.Fill.{fill};
-ghost use Rattle.bytes.specs.Bytes.{samplesOf};
+ghost use Prim.Native.Nat.{ℕ, _+_, _-_, _*_, _/_, _%_, _≤_, _<_};
+ghost use mathlib.Core.Bool.{true};
+ghost use lib.ListN.{length, getD, set};
+ghost use Rattle.laws.specs.Fill.{fill, run};
+ghost use Rattle.laws.specs.Bytes.{byteOf};
+ghost use Rattle.bytes.specs.Bytes.{byte1, samplesOf};
 ghost use Rattle.order.specs.Edges.{Step};
 ghost use Rattle.order.specs.Reach.{lumaReach, chromaReach, chromaWidth};
+ghost use Rattle.byte_rows.specs.Line.{sampleByte, rowsAt};
 ghost use Rattle.byte_entry.specs.Entries.{wrote};
-ghost use Rattle.refs.specs.Entry.{lumaEntry};
-ghost use Rattle.refs.specs.Door.{lumaBlock, lumaLength, lumaNo, lumaRows, lumaDoor, lumaBytesNo, lumaBytesDoor, formatOf, chromaBlock, chromaLength, chromaNo, chromaRows, chromaDoor, chromaBytesDoor};
+ghost use Rattle.refs.specs.Entry.{lumaEntry, chromaEntry};
+ghost use Rattle.refs.specs.Door.{lumaBlock, lumaLength, lumaNo, lumaRows, lumaDoor, lumaBytesNo, lumaBytesDoor, formatOf, chromaBlock, chromaLength, chromaNo, chromaRows, chromaDoor, chromaBytesNo};
 ghost use Rattle.refs.specs.Served.{gatherNo};
-ghost use Rattle.substitution.specs.Line.{restBy};
-ghost use Rattle.refs.specs.Spots.{spotOf, onEdge, cornerOn, planeRows, Few, Reads};
+ghost use Rattle.substitution.specs.Line.{anyBy, restBy};
+ghost use Rattle.refs.specs.Counts.{startOf, cornerOf, restOf};
+ghost use Rattle.refs.specs.Spots.{spotOf, onEdge, cornerOn, aboveOn, leftOn, planeRows, Few, Reads};
 ghost use Rattle.refs.specs.Seen.{seenCorner, entry, padded, padRows};
+ghost use Rattle.refs.specs.Stored.{edgeIn, Kept};
 use fmt::ChromaCol;
 use fmt::ChromaFormat;
 use fmt::ChromaRow;
@@ -227,6 +232,143 @@ fn plane_rows_in(plane: &[u8], s: Spot, r: Reach, n: usize, neutral: u16) -> Row
     with_corner(corner, [above, left])
 }
 
+// An edge of a block: where its entry 0 stands in the plane, how far apart its entries do, how many are there, and what the others have.
+struct Border {
+    at: usize,
+    step: usize,
+    have: usize,
+    rest: u16,
+}
+
+// The gathers of the entries on bytes store their rows as they make them, in a lent buffer: rows that come back by value go through memory once more. Places in
+// the buffer are counted in samples.
+
+// Stores a sample.
+fn put(out: &mut [u8], at: usize, v: u16)
+    requires { ⌜ 2 * at + 1 < length (now out) ⌝ }
+    ensures { λ _. ⌜ now (out .exit) ≡ set (set (now (out .entry)) (2 * at) (v % 256)) (2 * at + 1) (byte1 v) ⌝ }
+{
+    let low = 2 * at;
+    out[low] = bytes::byte_0(v as u32);
+    out[low + 1] = bytes::byte_1(v as u32);
+}
+
+// Stores one value `count` times.
+fn store_level(v: u16, count: usize, out: &mut [u8], at: usize)
+    requires { ⌜ 2 * (at + count) ≤ length (now out) ⌝ }
+    ensures { λ _. ⌜ now (out .exit) ≡ run (byteOf 2 (λ (i : ℕ). v)) (2 * at) (2 * count) (now (out .entry)) ⌝ }
+{
+    let mut i = 0;
+    while i < count {
+        put(&mut *out, at + i, v);
+        i += 1;
+    }
+}
+
+// Stores the entries of an edge that are there.
+fn store_seen(plane: &[u8], e: Border, out: &mut [u8], at: usize)
+    requires { ⌜ (2 * (at + e .have) ≤ length (now out)) × ((i : ℕ) → i < e .have → e .at + i * e .step < length (samplesOf (now plane))) ⌝ }
+    ensures { λ _. ⌜ now (out .exit) ≡ run (byteOf 2 (onEdge (samplesOf (now (plane .entry))) (e .at) (e .step))) (2 * at) (2 * e .have) (now (out .entry)) ⌝ }
+{
+    let from = e.at;
+    let step = e.step;
+    let have = e.have;
+    let mut i = 0;
+    while i < have {
+        put(&mut *out, at + i, sample_in(plane, from + i * step));
+        i += 1;
+    }
+}
+
+// Stores an edge's 65 entries: those that are there, then what the others have up to entry 2n, then 0.
+fn store_edge(plane: &[u8], e: Border, n: usize, out: &mut [u8], at: usize)
+    requires { ⌜ Kept e (length (samplesOf (now plane))) n × (2 * (at + 65) ≤ length (now out)) ⌝ }
+    ensures { λ _. ⌜ now (out .exit) ≡ run (sampleByte (edgeIn (samplesOf (now (plane .entry))) e n)) (2 * at) (2 * 65) (now (out .entry)) ⌝ }
+{
+    let count = 2 * n + 1;
+    store_seen(plane, e, &mut *out, at);
+    store_level(e.rest, count - e.have, &mut *out, at + e.have);
+    store_level(0, 65 - count, &mut *out, at + count);
+}
+
+// What stands before the first sample that is there: that sample.
+fn start_in(plane: &[u8], s: Spot, r: Reach, n: usize) -> u16
+    requires { ⌜ Reads r s (length (samplesOf (now plane))) n × (anyBy (r .corner) (r .above) (r .left) ≡ true) ⌝ }
+    ensures { λ v. ⌜ v ≡ startOf r (cornerOn (samplesOf (now (plane .entry))) s) (aboveOn (samplesOf (now (plane .entry))) s) (leftOn (samplesOf (now (plane .entry))) s) ⌝ }
+{
+    if r.left > 0 {
+        return sample_in(plane, s.left + (r.left - 1) * s.width);
+    }
+    if r.corner {
+        return sample_in(plane, s.corner);
+    }
+    sample_in(plane, s.above)
+}
+
+// The corner: a missing one takes left[0].
+fn corner_in(plane: &[u8], s: Spot, r: Reach, n: usize, start: u16) -> u16
+    requires { ⌜ Reads r s (length (samplesOf (now plane))) n ⌝ }
+    ensures { λ v. ⌜ v ≡ cornerOf r (cornerOn (samplesOf (now (plane .entry))) s) (leftOn (samplesOf (now (plane .entry))) s) start ⌝ }
+{
+    if r.corner {
+        return sample_in(plane, s.corner);
+    }
+    if r.left > 0 {
+        return sample_in(plane, s.left);
+    }
+    start
+}
+
+// What stands after the last one of the row above: that one, or the corner.
+fn rest_in(plane: &[u8], s: Spot, r: Reach, n: usize, corner: u16) -> u16
+    requires { ⌜ Reads r s (length (samplesOf (now plane))) n ⌝ }
+    ensures { λ v. ⌜ v ≡ restOf r (aboveOn (samplesOf (now (plane .entry))) s) corner ⌝ }
+{
+    if r.above > 0 {
+        return sample_in(plane, s.above + (r.above - 1));
+    }
+    corner
+}
+
+// Stores the rows of a plane: the corner, the row above and the left column.
+fn store_plane_rows(
+    plane: &[u8],
+    s: Spot,
+    r: Reach,
+    n: usize,
+    neutral: u16,
+    out: &mut [u8],
+    at: usize,
+)
+    requires { ⌜ Reads r s (length (samplesOf (now plane))) n × (2 * (at + 131) ≤ length (now out)) ⌝ }
+    ensures { λ _. ⌜ now (out .exit) ≡ rowsAt (2 * at) (planeRows (samplesOf (now (plane .entry))) s r n neutral) (now (out .entry)) ⌝ }
+{
+    if !((r.left > 0) | r.corner | (r.above > 0)) {
+        store_level(neutral, 131, &mut *out, at);
+        return;
+    }
+    let above_at = at + 1;
+    let left_at = at + 66;
+    let start = start_in(plane, s, r, n);
+    let corner = corner_in(plane, s, r, n, start);
+    let rest = rest_in(plane, s, r, n, corner);
+    let above = Border {
+        at: s.above,
+        step: 1,
+        have: r.above,
+        rest,
+    };
+    let left = Border {
+        at: s.left,
+        step: s.width,
+        have: r.left,
+        rest: start,
+    };
+    put(&mut *out, at, corner);
+    store_edge(plane, above, n, &mut *out, above_at);
+    store_edge(plane, left, n, &mut *out, left_at);
+}
+
 // The number that refuses a gather, or 0: the depth's, then the reach's 2 or 4, then the planes', then the reach's 6.
 fn gather_no(bits: u32, reach: u32, whole: bool) -> u32
     ensures { λ r. ⌜ r ≡ gatherNo bits reach whole ⌝ }
@@ -325,8 +467,17 @@ pub fn get_reference_samples_bytes(plane: &[u8], geo: LumaRefGeometry) -> Gather
     }
 }
 
-// The same, stored as bytes: the corner, the row above and the left column. A door of its own, so that the rows are stored as they are made:
-// handed back first they go through memory once more.
+fn store_luma_rows(plane: &[u8], geo: LumaRefGeometry, reach: Reach, out: &mut [u8])
+    requires { ⌜ (reach ≡ lumaReach (lumaBlock geo)) × (lumaNo (length (samplesOf (now plane))) geo ≡ 0) × (262 ≤ length (now out)) ⌝ }
+    ensures { λ _. ⌜ now (out .exit) ≡ rowsAt 0 (lumaRows (samplesOf (now (plane .entry))) geo) (now (out .entry)) ⌝ }
+{
+    let width = geo.picture.width as usize;
+    let s = spot_of(width, geo.block_row.0 as usize, geo.block_col.0 as usize);
+    let neutral = substitution::neutral_of(geo.bits);
+    store_plane_rows(plane, s, reach, geo.n, neutral, &mut *out, 0);
+}
+
+// The same, stored as bytes: the corner, the row above and the left column.
 pub fn store_reference_samples(plane: &[u8], geo: LumaRefGeometry, out: &mut [u8]) -> u32
     ensures { λ r. ⌜ wrote r (now (out .exit)) ≡ lumaEntry (now (plane .entry)) geo (now (out .entry)) ⌝ }
 {
@@ -334,7 +485,7 @@ pub fn store_reference_samples(plane: &[u8], geo: LumaRefGeometry, out: &mut [u8
     let early = luma_no_in(plane.len(), geo, reach);
     let no = byte_rows::room_no(early, 1, out.len());
     if no == 0 {
-        byte_rows::store_rows(luma_rows_in(plane, geo, reach), &mut *out, 0);
+        store_luma_rows(plane, geo, reach, &mut *out);
     }
     no
 }
@@ -416,14 +567,16 @@ fn chroma_rows(
     [cb, cr]
 }
 
-fn chroma_rows_in(
+// The same out of planes of bytes, stored: Cb's rows, then Cr's.
+fn store_chroma_rows(
     plane_cb: &[u8],
     plane_cr: &[u8],
     geo: ChromaRefGeometry,
     reach: Reach,
-) -> [Rows; 2]
-    requires { ⌜ (reach ≡ chromaReach (chromaBlock geo)) × (chromaNo (length (samplesOf (now «plane_cb»))) (length (samplesOf (now «plane_cr»))) geo ≡ 0) ⌝ }
-    ensures { λ r. ⌜ r ≡ chromaRows (samplesOf (now («plane_cb» .entry))) geo ∷ chromaRows (samplesOf (now («plane_cr» .entry))) geo ∷ [] ⌝ }
+    out: &mut [u8],
+)
+    requires { ⌜ (reach ≡ chromaReach (chromaBlock geo)) × (chromaNo (length (samplesOf (now «plane_cb»))) (length (samplesOf (now «plane_cr»))) geo ≡ 0) × (524 ≤ length (now out)) ⌝ }
+    ensures { λ _. ⌜ now (out .exit) ≡ rowsAt 262 (chromaRows (samplesOf (now («plane_cr» .entry))) geo) (rowsAt 0 (chromaRows (samplesOf (now («plane_cb» .entry))) geo) (now (out .entry))) ⌝ }
 {
     let s = spot_of(
         chroma_width(geo),
@@ -432,9 +585,8 @@ fn chroma_rows_in(
     );
     let neutral = substitution::neutral_of(geo.bits);
     let n = geo.n;
-    let cb = plane_rows_in(plane_cb, s, reach, n, neutral);
-    let cr = plane_rows_in(plane_cr, s, reach, n, neutral);
-    [cb, cr]
+    store_plane_rows(plane_cb, s, reach, n, neutral, &mut *out, 0);
+    store_plane_rows(plane_cr, s, reach, n, neutral, &mut *out, 131);
 }
 
 // A plane's count of chroma samples.
@@ -469,27 +621,30 @@ pub fn get_reference_samples_chroma_pair(
     }
 }
 
-// The same out of planes of bytes.
-pub fn get_reference_samples_chroma_pair_bytes(
+// The number of a gather out of planes of so many bytes.
+fn chroma_no_in(cb: usize, cr: usize, geo: ChromaRefGeometry, reach: Reach) -> u32
+    requires { ⌜ reach ≡ chromaReach (chromaBlock geo) ⌝ }
+    ensures { λ r. ⌜ r ≡ chromaBytesNo cb cr geo ⌝ }
+{
+    let len = chroma_length(geo);
+    let whole = bytes::whole_in(cb, len) & bytes::whole_in(cr, len);
+    gather_no(geo.bits, reach.no, whole)
+}
+
+// The same out of planes of bytes, stored as bytes: Cb's corner, row above and left column, then Cr's.
+pub fn store_reference_samples_chroma_pair(
     plane_cb: &[u8],
     plane_cr: &[u8],
     geo: ChromaRefGeometry,
-) -> GatheredPair
-    ensures { λ r. ⌜ r ≡ chromaBytesDoor (now («plane_cb» .entry)) (now («plane_cr» .entry)) geo ⌝ }
+    out: &mut [u8],
+) -> u32
+    ensures { λ r. ⌜ wrote r (now (out .exit)) ≡ chromaEntry (now («plane_cb» .entry)) (now («plane_cr» .entry)) geo (now (out .entry)) ⌝ }
 {
     let reach = order::chroma_reach(chroma_block(geo));
-    let len = chroma_length(geo);
-    let whole = bytes::whole_in(plane_cb.len(), len) & bytes::whole_in(plane_cr.len(), len);
-    let no = gather_no(geo.bits, reach.no, whole);
-    if no != 0 {
-        let none = substitution::level_rows(0);
-        return GatheredPair {
-            no,
-            planes: [none, none],
-        };
+    let early = chroma_no_in(plane_cb.len(), plane_cr.len(), geo, reach);
+    let no = byte_rows::room_no(early, 2, out.len());
+    if no == 0 {
+        store_chroma_rows(plane_cb, plane_cr, geo, reach, &mut *out);
     }
-    GatheredPair {
-        no: 0,
-        planes: chroma_rows_in(plane_cb, plane_cr, geo, reach),
-    }
+    no
 }

@@ -24,7 +24,7 @@ use Rattle.substitution.specs.declared.Flags.{Flags}
 use Rattle.refs.specs.declared.LumaRefGeometry.{LumaRefGeometry}
 use Rattle.refs.specs.declared.ChromaRefGeometry.{ChromaRefGeometry}
 use Rattle.substitution.specs.Door.{substituteDoor}
-use Rattle.refs.specs.Door.{lumaDoor, lumaBytesDoor, chromaDoor, chromaBytesDoor}
+use Rattle.refs.specs.Door.{lumaDoor, lumaBytesDoor, chromaDoor}
 use Rattle.smooth.specs.Smoothing as smoothing
 use Rattle.smooth.specs.Smoothing.{ruleDoor, filterDoor}
 use Rattle.residual.specs.Residual.{residualNo, reconstructNo, residualsAfter, reconstructed}
@@ -76,10 +76,6 @@ chroma-gather cb cr g h = kept _ _ (zeroRows ∷ zeroRows ∷ []) h
 pub luma-gather-bytes : (b : List ℕ) (g : LumaRefGeometry) → ¬ (lumaBytesDoor b g .no ≡ 0) → lumaBytesDoor b g .rows ≡ zeroRows
 unfolding lumaBytesDoor
 luma-gather-bytes b g h = kept _ _ zeroRows h
-
-pub chroma-gather-bytes : (cb cr : List ℕ) (g : ChromaRefGeometry) → ¬ (chromaBytesDoor cb cr g .no ≡ 0) → chromaBytesDoor cb cr g .planes ≡ zeroRows ∷ zeroRows ∷ []
-unfolding chromaBytesDoor
-chroma-gather-bytes cb cr g h = kept _ _ (zeroRows ∷ zeroRows ∷ []) h
 
 -- smooth
 pub should-filter-refs : (mode n : ℕ) → ¬ (ruleDoor mode n .no ≡ 0) → ruleDoor mode n .yes ≡ false

@@ -11,10 +11,10 @@
 --   refs::get_reference_samples           luma-gather             predict::predict_luma_tb_slices        predict-luma
 --   refs::get_reference_samples_bytes     luma-gather-bytes       scratch_angular::.._into, _fresh       predict-angular-scratch
 --   refs::.._chroma_pair                  chroma-gather           scratch_predict::.._chroma_tb_..       predict-chroma-scratch
---   refs::.._chroma_pair_bytes            chroma-gather-bytes     scratch_predict::.._luma_tb_..         predict-luma-scratch
---   residual::compute_residual_i32_into   compute-residual        residual::reconstruct_into             reconstruct
+--   residual::compute_residual_i32_into   compute-residual        scratch_predict::.._luma_tb_..         predict-luma-scratch
+--   residual::reconstruct_into            reconstruct
 --
--- The plan check, walk and replay, whose numbers carry a block, are in run_tables/specs/TableWalk; the camera's entries and refs::store_reference_samples in TableBytes
+-- The plan check, walk and replay, whose numbers carry a block, are in run_tables/specs/TableWalk; the camera's entries and the two of refs that store rows in TableBytes
 -- there; what a refused call gives back is in Refused.
 use mathlib.Core.Path.{_≡_, refl, ap, subst}
 use mathlib.Core.Bool.{Bool, true, false, cond, _&&_, _||_, true≢false, false≢true}
@@ -52,7 +52,7 @@ use Rattle.substitution.specs.declared.Flags.{Flags}
 use Rattle.refs.specs.declared.LumaRefGeometry.{LumaRefGeometry}
 use Rattle.refs.specs.declared.ChromaRefGeometry.{ChromaRefGeometry}
 use Rattle.substitution.specs.Door.{substituteNo, substituteDoor}
-use Rattle.refs.specs.Door.{lumaBlock, lumaNumber, lumaLength, lumaNo, lumaDoor, lumaBytesNo, lumaBytesDoor, formatOf, chromaPicture, chromaBlock, chromaLength, chromaNumber, chromaNo, chromaDoor, chromaBytesNo, chromaBytesDoor}
+use Rattle.refs.specs.Door.{lumaBlock, lumaNumber, lumaLength, lumaNo, lumaDoor, lumaBytesNo, lumaBytesDoor, formatOf, chromaPicture, chromaBlock, chromaLength, chromaNumber, chromaNo, chromaDoor}
 use Rattle.smooth.specs.Smoothing as smoothing
 use Rattle.smooth.specs.Smoothing.{ruleDoor, filterNo, filterDoor}
 use Rattle.numbers.specs.Numbers.{flatNo, Lent, enough, angularNo, predictNo}
@@ -244,11 +244,6 @@ pub chroma-gather : (cb cr : List ℕ) (g : ChromaRefGeometry)
     → Exact (chromaDoor cb cr g .no) (chromaTable ((¬ (length cb ≡ chromaLength g)) or (¬ (length cr ≡ chromaLength g))) g)
 unfolding chromaDoor chromaNo
 chroma-gather cb cr g = chroma-number (all-of (same (length cb) (chromaLength g)) (same (length cr) (chromaLength g))) g
-
-pub chroma-gather-bytes : (cb cr : List ℕ) (g : ChromaRefGeometry)
-    → Exact (chromaBytesDoor cb cr g .no) (chromaTable ((¬ (length cb ≡ 2 * chromaLength g)) or (¬ (length cr ≡ 2 * chromaLength g))) g)
-unfolding chromaBytesDoor chromaBytesNo
-chroma-gather-bytes cb cr g = chroma-number (all-of (same (length cb) (2 * chromaLength g)) (same (length cr) (2 * chromaLength g))) g
 
 -- smooth
 pub should-filter-refs : (mode n : ℕ) → Exact (ruleDoor mode n .no) ((2 when ¬ Size n) ∷ (3 when 34 < mode) ∷ [])

@@ -1,11 +1,7 @@
 -- The reach, the number with the buffer's room, then the rows stored. Assumes nothing.
 use mathlib.Core.Path.{ap, _∙_}
-use native.Mathlib.Omega.{arith}
 use lib.ListN.{length}
-use Rattle.rows.specs.declared.Rows.{Rows}
 use Rattle.order.specs.Reach.{lumaReach}
-use Rattle.byte_rows.specs.Line.{rowsAt}
-use Rattle.byte_rows.specs.Stored.{stored}
 use Rattle.byte_entry.specs.Checks.{done, refused}
 use Rattle.refs.specs.Spelt.{luma-spelt-fine}
 use Rattle.refs.specs.Entry.{lumaEntry}
@@ -26,14 +22,11 @@ luma-no-in-requires c κs = c .luma-reach .ensures ∙ ap lumaReach (c .before .
 room-no-requires : tie.Need-room-no-requires
 room-no-requires c κs = search needs
 
-luma-rows-in-requires : tie.Need-luma-rows-in-requires
-luma-rows-in-requires c κs =
-    let a = c .before .before .before .before .before .before .before .args in
-    let f = luma-entry-fine (length (a .plane .now)) (length (a .out .now)) (a .geo) (c .before .before .luma-no-in .ensures) (c .before .room-no .ensures) (c .if1 .taken) in
-    (c .before .before .before .luma-reach .ensures ∙ ap lumaReach (c .before .before .before .before .luma-block .ensures), luma-spelt-fine (a .plane .now) (a .geo) (f .1) .1)
-
-store-rows-requires : tie.Need-store-rows-requires
-store-rows-requires c κs = search needs
+store-luma-rows-requires : tie.Need-store-luma-rows-requires
+store-luma-rows-requires c κs =
+    let a = c .before .before .before .before .before .before .before .before .args in
+    let f = luma-entry-fine (length (a .plane .now)) (length (a .out .now)) (a .geo) (c .before .before .before .luma-no-in .ensures) (c .before .before .room-no .ensures) (c .before .if1 .taken) in
+    (c .before .before .before .before .luma-reach .ensures ∙ ap lumaReach (c .before .before .before .before .before .luma-block .ensures), luma-spelt-fine (a .plane .now) (a .geo) (f .1) .1, f .0)
 
 same-length : tie.Need-same-length
 same-length c = search needs
@@ -41,13 +34,8 @@ same-length c = search needs
 returns : tie.Need-returns
 unfolding lumaEntry
 returns c =
-    let a = c .before .before .before .before .before .before .before .before .before .before .before .before .args in
-    let no = c .before .before .before .before .before .before .before .luma-no-in .ensures in
-    let room = c .before .before .before .before .before .before .room-no .ensures in
-    let none = c .before .before .before .before .before .if1 .taken in
-    let f = luma-entry-fine (length (a .plane .now)) (length (a .out .now)) (a .geo) no room none in
-    done _ _ _ (luma-entry-no (length (a .plane .now)) (length (a .out .now)) (a .geo) no room) none
-    (c .before .before .store-rows .ensures ∙ stored 0 _ (a .out .now) (omega (arith, f .0)) ∙ ap (λ (v : Rows). rowsAt 0 v (a .out .now)) (c .before .before .before .before .luma-rows-in .ensures))
+    let a = c .before .before .before .before .before .before .before .before .before .before .before .args in
+    done _ _ _ (luma-entry-no (length (a .plane .now)) (length (a .out .now)) (a .geo) (c .before .before .before .before .before .before .luma-no-in .ensures) (c .before .before .before .before .before .room-no .ensures)) (c .before .before .before .before .if1 .taken) (c .before .before .store-luma-rows .ensures)
 
 returns-2 : tie.Need-returns-2
 unfolding lumaEntry
@@ -63,8 +51,7 @@ store-reference-samples-spec =
     luma-reach-requires
     luma-no-in-requires
     room-no-requires
-    luma-rows-in-requires
-    store-rows-requires
+    store-luma-rows-requires
     same-length
     returns
     returns-2)

@@ -3,8 +3,8 @@ use mathlib.Core.Path.{ap₂}
 use Prim.Native.Nat.{ℕ, _+_, _*_}
 use lib.ListN.{set}
 use borrow.Author.Needs.{needs}
-use Rattle.byte_rows.proofs.put.Statement.{statement}
-use Rattle.byte_rows.proofs.put.Tie as tie
+use Rattle.refs.proofs.put.Statement.{statement}
+use Rattle.refs.proofs.put.Tie as tie
 
 mul-low : tie.Need-mul-low
 mul-low c = search needs
