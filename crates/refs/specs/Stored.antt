@@ -1,14 +1,14 @@
 -- Rows as they are stored in a lent buffer: an edge, level rows, the rows of a plane. Rests on how samples are stored as bytes.
-use mathlib.Core.Path.{_≡_, refl, sym, ap, _∙_}
+use mathlib.Core.Path.{_≡_, sym, ap, _∙_}
 use mathlib.Core.Bool.{Bool, true, false, cond}
 use mathlib.Core.List.{List}
 use Prim.Native.Nat.{ℕ, _+_, _-_, _*_, _%_, _≤_, _<_}
 use native.Mathlib.Omega.{arith}
 use lib.Dec.{ltb}
-use lib.ListN.{length, getD, set, replicate, length-replicate, getD-replicate}
+use lib.ListN.{length, set, replicate, length-replicate, getD-replicate}
 use borrow.Author.Tests.{lt-ltb, le-ltb}
-use Rattle.laws.specs.Choose.{if-yes, if-no}
-use Rattle.laws.specs.Fill.{fill, run}
+use Rattle.laws.specs.Choose.{if-yes}
+use Rattle.laws.specs.Fill.{run}
 use Rattle.laws.specs.FillLaws.{length-fill, fill-at, fill-past}
 use Rattle.laws.specs.Bytes.{byteOf}
 use Rattle.bytes.specs.Bytes.{byte1}
@@ -21,7 +21,7 @@ use Rattle.substitution.specs.Line.{anyBy}
 use Rattle.refs.specs.declared.Spot.{Spot}
 use Rattle.refs.specs.declared.Border.{Border}
 use Rattle.refs.specs.Counts.{startOf, cornerOf, restOf, edgeOf, reached, fromReach}
-use Rattle.refs.specs.Spots.{onEdge, cornerOn, aboveOn, leftOn, planeRows, Few}
+use Rattle.refs.specs.Spots.{onEdge, cornerOn, aboveOn, leftOn, planeRows}
 use Rattle.refs.specs.Seen.{entry, finish-none}
 
 -- an edge out of a plane
