@@ -119,7 +119,7 @@ fn predict_block(
     requires { ⌜ (earlyNo s b (fits s b (record { refs = length (now refs); indices = length (now indices); fractions = length (now fractions) }) (length (samplesOf (now plane))) 0 (length (now pred))) ≡ 0) × (length (now plane) % 2 ≡ 0) ⌝ }
     ensures { λ r. ⌜ (r ≡ numberOf s b (fits s b (record { refs = length (now (refs .entry)); indices = length (now (indices .entry)); fractions = length (now (fractions .entry)) }) (length (samplesOf (now (plane .entry)))) 0 (length (now (pred .entry))))) × ((now (pred .exit) ≡ served r (block (predictedAt s b (samplesOf (now (plane .entry)))) (b .side) (now (pred .entry))) (now (pred .entry))) × ((r ≡ 0 → ⊥) → (now (refs .exit) ≡ now (refs .entry)) × ((now (indices .exit) ≡ now (indices .entry)) × (now (fractions .exit) ≡ now (fractions .entry))))) ⌝ }
 {
-    let g = refs::get_reference_samples_bytes(plane, block::geometry(s, b));
+    let g = byte_refs::get_reference_samples(plane, block::geometry(s, b));
     if g.no != 0 {
         return g.no;
     }

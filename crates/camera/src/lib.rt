@@ -6,7 +6,7 @@ ghost use Rattle.byte_entry.specs.Entries.{wrote};
 ghost use Rattle.byte_flat.specs.Entries.{planarEntry, dcEntry};
 ghost use Rattle.byte_angular.specs.Entries.{angularEntry};
 ghost use Rattle.byte_predict.specs.Entries.{chromaBlockEntry};
-ghost use Rattle.refs.specs.Entry.{lumaEntry, chromaEntry};
+ghost use Rattle.byte_refs.specs.Entry.{lumaEntry, chromaEntry};
 use fmt::ChromaCol;
 use fmt::ChromaRow;
 use fmt::LumaCol;
@@ -47,7 +47,7 @@ pub extern "C" fn salvrunde_luma_refs(
         block_col: LumaCol(col),
         n: n as usize,
     };
-    refs::store_reference_samples(plane, geo, out)
+    byte_refs::store_reference_samples(plane, geo, out)
 }
 
 // The reference rows of a chroma block, out of the planes of Cb and of Cr: Cb's corner, above and left in the first 262 bytes of `out`,
@@ -82,7 +82,7 @@ pub extern "C" fn salvrunde_chroma_refs(
         cur_luma_row: LumaRow(cur_luma_row),
         cur_luma_col: LumaCol(cur_luma_col),
     };
-    refs::store_reference_samples_chroma_pair(cb, cr, geo, out)
+    byte_refs::store_reference_samples_chroma_pair(cb, cr, geo, out)
 }
 
 // The planar block of side n, in rows, in the first 2 · n · n bytes of `out`; each row has at least 130 bytes. Numbers 2, 5.

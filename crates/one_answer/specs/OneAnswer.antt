@@ -100,9 +100,16 @@ use Rattle.substitution.proofs.level_rows.Reads as substitution-level-rows
 use Rattle.substitution.proofs.substitute_refs.Reads as substitution-substitute-refs
 use Rattle.refs.proofs.get_reference_samples.Reads as refs-get-reference-samples
 use Rattle.refs.proofs.get_reference_samples_chroma_pair.Reads as refs-get-reference-samples-chroma-pair
-use Rattle.refs.proofs.get_reference_samples_bytes.Reads as refs-get-reference-samples-bytes
-use Rattle.refs.proofs.store_reference_samples.Reads as refs-store-reference-samples
-use Rattle.refs.proofs.store_reference_samples_chroma_pair.Reads as refs-store-reference-samples-chroma-pair
+use Rattle.refs.proofs.gather_no.Reads as refs-gather-no
+use Rattle.refs.proofs.luma_block.Reads as refs-luma-block
+use Rattle.refs.proofs.luma_spot.Reads as refs-luma-spot
+use Rattle.refs.proofs.luma_length.Reads as refs-luma-length
+use Rattle.refs.proofs.chroma_block.Reads as refs-chroma-block
+use Rattle.refs.proofs.chroma_spot.Reads as refs-chroma-spot
+use Rattle.refs.proofs.chroma_length.Reads as refs-chroma-length
+use Rattle.byte_refs.proofs.get_reference_samples.Reads as byte-refs-get-reference-samples
+use Rattle.byte_refs.proofs.store_reference_samples.Reads as byte-refs-store-reference-samples
+use Rattle.byte_refs.proofs.store_reference_samples_chroma_pair.Reads as byte-refs-store-reference-samples-chroma-pair
 use Rattle.tiling.proofs.picture_ok.Reads as tiling-picture-ok
 use Rattle.next_cell.proofs.is_next.Reads as next-cell-is-next
 use Rattle.block_check.proofs.block_no.Reads as block-check-block-no
@@ -482,17 +489,39 @@ refs-get-reference-samples-once κs a x y s t p q = p ∙ sym q
 refs-get-reference-samples-chroma-pair-once : (κs : Lfts 2) → Once (refs-get-reference-samples-chroma-pair.Post κs)
 refs-get-reference-samples-chroma-pair-once κs a x y s t p q = p ∙ sym q
 
-refs-get-reference-samples-bytes-once : (κs : Lfts 1) → Once (refs-get-reference-samples-bytes.Post κs)
-refs-get-reference-samples-bytes-once κs a x y s t p q = p ∙ sym q
+refs-gather-no-once : Once (refs-gather-no.Post tt)
+refs-gather-no-once a x y s t p q = p ∙ sym q
+
+refs-luma-block-once : Once (refs-luma-block.Post tt)
+refs-luma-block-once a x y s t p q = p ∙ sym q
+
+refs-luma-spot-once : Once (refs-luma-spot.Post tt)
+refs-luma-spot-once a x y s t p q = p ∙ sym q
+
+refs-luma-length-once : Once (refs-luma-length.Post tt)
+refs-luma-length-once a x y s t p q = p ∙ sym q
+
+refs-chroma-block-once : Once (refs-chroma-block.Post tt)
+refs-chroma-block-once a x y s t p q = p ∙ sym q
+
+refs-chroma-spot-once : Once (refs-chroma-spot.Post tt)
+refs-chroma-spot-once a x y s t p q = p ∙ sym q
+
+refs-chroma-length-once : Once (refs-chroma-length.Post tt)
+refs-chroma-length-once a x y s t p q = p ∙ sym q
+
+-- byte_refs
+byte-refs-get-reference-samples-once : (κs : Lfts 1) → Once (byte-refs-get-reference-samples.Post κs)
+byte-refs-get-reference-samples-once κs a x y s t p q = p ∙ sym q
 
 by-written : {x y : ℕ} {l m : List ℕ} {w : Written} → wrote x l ≡ w → wrote y m ≡ w → (x ≡ y) × (l ≡ m)
 by-written p q = (ap (λ (v : Written). v .number) (p ∙ sym q), ap (λ (v : Written). v .bytes) (p ∙ sym q))
 
-refs-store-reference-samples-once : (κs : Lfts 2) → OnceLeft (λ s. now (s .1 .1 .0)) (refs-store-reference-samples.Post κs)
-refs-store-reference-samples-once κs a x y s t p q = by-written p q
+byte-refs-store-reference-samples-once : (κs : Lfts 2) → OnceLeft (λ s. now (s .1 .1 .0)) (byte-refs-store-reference-samples.Post κs)
+byte-refs-store-reference-samples-once κs a x y s t p q = by-written p q
 
-refs-store-reference-samples-chroma-pair-once : (κs : Lfts 3) → OnceLeft (λ s. now (s .1 .1 .1 .0)) (refs-store-reference-samples-chroma-pair.Post κs)
-refs-store-reference-samples-chroma-pair-once κs a x y s t p q = by-written p q
+byte-refs-store-reference-samples-chroma-pair-once : (κs : Lfts 3) → OnceLeft (λ s. now (s .1 .1 .1 .0)) (byte-refs-store-reference-samples-chroma-pair.Post κs)
+byte-refs-store-reference-samples-chroma-pair-once κs a x y s t p q = by-written p q
 
 -- tiling
 tiling-picture-ok-once : Once (tiling-picture-ok.Post tt)

@@ -5,7 +5,6 @@ use mathlib.Core.List.{List, [], _∷_}
 use lib.Dec.{leb, eqb}
 use lib.ListN.{length}
 use Rattle.laws.specs.Choose.{_unless_, firstFail, served}
-use Rattle.bytes.specs.Bytes.{samplesOf}
 use Rattle.domain.specs.Domain.{depthOk, sizeOk}
 use Rattle.fmt.specs.declared.ChromaFormat.{ChromaFormat}
 use Rattle.fmt.specs.declared.ChromaFormat.the-variants.{Monochrome, Yuv420, Yuv422, Yuv444}
@@ -47,13 +46,6 @@ lumaRows plane g =
 
 unfoldable pub lumaDoor : List ℕ → LumaRefGeometry → Gathered
 lumaDoor plane g = let k = lumaNo (length plane) g in record { no = k; rows = served k (lumaRows plane g) (levelRows 0) }
-
--- The same over a plane of bytes, two a sample: number 5 counts bytes, and the rows are those of the samples that the bytes spell.
-unfoldable pub lumaBytesNo : ℕ → LumaRefGeometry → ℕ
-lumaBytesNo len g = lumaNumber (eqb len (2 * lumaLength g)) g
-
-unfoldable pub lumaBytesDoor : List ℕ → LumaRefGeometry → Gathered
-lumaBytesDoor b g = let k = lumaBytesNo (length b) g in record { no = k; rows = served k (lumaRows (samplesOf b) g) (levelRows 0) }
 
 -- The chroma pair gather refuses 1, 2, 4, 5, 6. Order is counted in CTUs of 64; formats go by chroma_format_idc.
 abbrev pub chromaCtu : ℕ
@@ -100,7 +92,3 @@ unfoldable pub chromaDoor : List ℕ → List ℕ → ChromaRefGeometry → Gath
 chromaDoor cb cr g =
     let k = chromaNo (length cb) (length cr) g in
     record { no = k; planes = served k (chromaRows cb g ∷ chromaRows cr g ∷ []) (levelRows 0 ∷ levelRows 0 ∷ []) }
-
--- The same over planes of bytes: the number.
-unfoldable pub chromaBytesNo : ℕ → ℕ → ChromaRefGeometry → ℕ
-chromaBytesNo cb cr g = chromaNumber (eqb cb (2 * chromaLength g) && eqb cr (2 * chromaLength g)) g

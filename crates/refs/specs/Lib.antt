@@ -1,6 +1,6 @@
 -- Document 01, modules 3 and 4: Gather (by any rule), Door (refusals and answers). Counts: the
 -- rows from how far the neighbours reach. Spots: where they stand in a plane. Seen: what is read, and the rows made of it. Rules: the luma and the chroma rule. Served:
--- numbers, and what a served call rests on. Spelt: planes of bytes. Entry: rows stored as bytes. Room: their number. Stored: how the code stores them.
+-- numbers, and what a served call rests on.
 pub mod Gather
 pub mod Door
 pub mod Counts
@@ -8,7 +8,3 @@ pub mod Spots
 pub mod Seen
 pub mod Rules
 pub mod Served
-pub mod Spelt
-pub mod Entry
-pub mod Room
-pub mod Stored

@@ -63,7 +63,7 @@ module _ (have : ℕ) (at : ℕ → ℕ) (rest : ℕ) where
   abbrev on : ℕ → ℕ
   on i = cond (ltb i have) (at i) rest
 
-  pad-edge : (count : ℕ) → have ≤ count → padded count have rest (seenEdge have at) ≡ edgeOf count have at rest
+  pub pad-edge : (count : ℕ) → have ≤ count → padded count have rest (seenEdge have at) ≡ edgeOf count have at rest
   unfolding edgeOf
   pad-edge count h =
       ap (run (λ i. rest) have (count - have)) (fill-same at on have (replicate 65 0) (λ i l. ap (λ (b : Bool). cond b (at i) rest) (sym (lt-ltb i have l))))

@@ -3,17 +3,15 @@ use mathlib.Core.Path.{_≡_, refl, sym, ap, ap₂, _∙_, subst}
 use mathlib.Core.Bool.{Bool, true, false, cond, _&&_, _||_, false≢true}
 use mathlib.Core.List.{List, [], _∷_}
 use mathlib.Core.Logic.{_⊎_, ⊎-elim}
-use Prim.Native.Nat.{ℕ, zero, suc, _-_, _*_, _≤_}
-use native.Mathlib.Nat.{div-le-self}
+use Prim.Native.Nat.{ℕ, zero, suc, _*_, _≤_}
 use native.Mathlib.Omega.{arith}
 use lib.Dec.{leb, eqb}
 use lib.IntN.{ℤ}
 use lib.ListN.{length}
-use borrow.Author.Tests.{eq-eqb, ne-eqb, eqb-true, eqb-false, le-leb, lt-leb}
+use borrow.Author.Tests.{ne-eqb, eqb-true, le-leb, lt-leb}
 use Rattle.laws.specs.Choose.{served, worked, passed, both-true}
 use Rattle.domain.specs.Domain.{depthOk, sizeOk}
 use Rattle.domain.specs.Facts.{size-small}
-use Rattle.fmt.specs.Fmt.{subWidth, subHeight}
 use Rattle.order.specs.declared.LumaBlock.{LumaBlock}
 use Rattle.order.specs.declared.ChromaBlock.{ChromaBlock}
 use Rattle.order.specs.declared.Reach.{Reach}
@@ -31,7 +29,7 @@ use Rattle.refs.specs.Door.{lumaBlock, lumaNumber, lumaLength, lumaNo, l
 use Rattle.substitution.specs.Line.{told}
 use Rattle.substitution.specs.Served.{neutral-for}
 use Rattle.refs.specs.Counts.{Counted}
-use Rattle.refs.specs.Spots.{spotOf, planeRows, Reads, rows-are}
+use Rattle.refs.specs.Spots.{spotOf, lumaSpot, chromaSpot, planeRows, Reads, rows-are}
 use Rattle.refs.specs.Rules.{Rule, luma-rule, chroma-rule, counted, reads}
 
 -- 1, then what the reach gives of 2 and 4, then 5, then its 6; a plane of the right length is whole
@@ -99,20 +97,16 @@ gather-fine bits k whole e =
     stuck : (eqb k 2 || eqb k 4) ≡ true → k ≡ 0 → ⊥
     stuck t z = false≢true (ap (λ (v : ℕ). eqb v 2 || eqb v 4) (sym z) ∙ t)
 
--- What the work of a gather rests on: the rule's counts, the reads inside the plane, and small numbers
+-- What the work of a gather rests on: the rule's counts, and the reads inside the plane
 pub record Ready (has : ℤ → ℤ → Bool) (r : Reach) (len width row col n : ℕ) : Type 0 where
   pub known : Counted has row col n r
   pub reads : Reads r (spotOf width row col) len n
-  pub row-few : row ≤ 4096
-  pub col-few : col ≤ 4096
-  pub width-few : width ≤ 4096
 
 ready : {has : ℤ → ℤ → Bool} {height width : ℕ} → Rule has height width → (r : Reach) (len row col n : ℕ) → r ≡ reachBy 0 has row col n → len ≡ height * width
-    → n ≤ 32 → row ≤ height → col ≤ width → height ≤ 4096 → width ≤ 4096 → Ready has r len width row col n
-ready {has} {height} {width} rule r len row col n er el small hr hc tall wide =
+    → n ≤ 32 → Ready has r len width row col n
+ready {has} {height} {width} rule r len row col n er el small =
     subst (λ (q : Reach). Ready has q len width row col n) (sym er)
-    (subst (λ (l : ℕ). Ready has (reachBy 0 has row col n) l width row col n) (sym el)
-    (record { known = counted rule row col n; reads = reads rule row col n small; row-few = omega arith; col-few = omega arith; width-few = wide }))
+    (subst (λ (l : ℕ). Ready has (reachBy 0 has row col n) l width row col n) (sym el) (record { known = counted rule row col n; reads = reads rule row col n small }))
 
 pub luma-ready : (len : ℕ) (g : LumaRefGeometry) (r : Reach) → r ≡ lumaReach (lumaBlock g) → lumaNo len g ≡ 0
     → (depthOk (g .bits) ≡ true) × Ready (lumaHas (lumaBlock g)) r len (g .picture .width) (g .«block_row» .0) (g .«block_col» .0) (g .n)
@@ -124,8 +118,7 @@ luma-ready len g r er e =
       f .0,
       ready (luma-rule b (w .good)) r len (g .«block_row» .0) (g .«block_col» .0) (g .n)
           (er ∙ sym (worked (lumaReachNo b) (reachBy 0 (lumaHas b) (b .row .0) (b .col .0) (b .n)) (noReach (lumaReachNo b)) (f .1)))
-          (eqb-true len (lumaLength g) (f .2)) (size-small (g .n) (w .size) .1)
-          (omega (arith, w .placed .row-in)) (omega (arith, w .placed .col-in)) (w .good .tall .high) (w .good .wide .high),
+          (eqb-true len (lumaLength g) (f .2)) (size-small (g .n) (w .size) .1),
     )
 
 pub chroma-ready : (cb cr : ℕ) (g : ChromaRefGeometry) (r : Reach) → r ≡ chromaReach (chromaBlock g) → chromaNo cb cr g ≡ 0
@@ -143,9 +136,7 @@ chroma-ready cb cr g r er e =
     λ len t.
     ready (chroma-rule b (w .good)) r len (g .«block_row» .0) (g .«block_col» .0) (g .n)
     (er ∙ sym (worked (chromaReachNo b) (reachBy 0 (chromaHas b) (b .row .0) (b .col .0) (b .n)) (noReach (chromaReachNo b)) (f .1)))
-    (eqb-true len (chromaLength g) t) (size-small (g .n) (w .size) .1)
-    (omega (arith, w .placed .row-in)) (omega (arith, w .placed .col-in))
-    (omega (arith, w .good .tall .high, div-le-self (g .«luma_h») (subHeight (formatOf (g .format))))) (omega (arith, w .good .wide .high, div-le-self (g .«luma_w») (subWidth (formatOf (g .format))))) in
+    (eqb-true len (chromaLength g) t) (size-small (g .n) (w .size) .1) in
     (f .0, one cb (l .0), one cr (l .1))
 
 -- a pair of planes
@@ -165,65 +156,49 @@ chroma-number whole g eb er ew ek =
     let e = er ∙ ap chromaReach eb in
     (e, ek ∙ ap₂ (gatherNo (g .bits)) (ap (λ (q : Reach). q .no) e ∙ chroma-reach-no g) ew ∙ sym (chroma-no whole g))
 
--- a plane of whole samples in bytes: as long as it should be, and so are its samples
-pub twice : (m k : ℕ) → eqb (2 * m) (2 * k) ≡ eqb m k
-twice m k =
-    ⊎-elim (λ e. eq-eqb (2 * m) (2 * k) (ap (λ (x : ℕ). 2 * x) (eqb-true m k e)) ∙ sym e)
-    (λ e. ne-eqb (2 * m) (2 * k) (λ q. eqb-false m k e (let w : 2 * m ≡ 2 * k = q in omega arith)) ∙ sym e)
-    (told (eqb m k))
-
 -- the rows of a plane, from the parts that the code makes
-module _ {has : ℤ → ℤ → Bool} {r : Reach} (plane : List ℕ) (width row col n bits : ℕ) (y : Ready has r (length plane) width row col n) where
-  inside : {w : ℕ} {s : Spot} → w ≡ width → s ≡ spotOf w row col → Reads r s (length plane) n
-  inside e es = subst (λ (t : Spot). Reads r t (length plane) n) (sym (es ∙ ap (λ (x : ℕ). spotOf x row col) e)) (y .reads)
+module _ {has : ℤ → ℤ → Bool} {r : Reach} (plane : List ℕ) (width row col n bits : ℕ) (y : Ready has r (length plane) width row col n) {s : Spot}
+    (es : s ≡ spotOf width row col) where
+  inside : Reads r s (length plane) n
+  inside = subst (λ (t : Spot). Reads r t (length plane) n) (sym es) (y .reads)
 
-  made : depthOk bits ≡ true → {w neutral : ℕ} {s : Spot} {v : Rows} → w ≡ width → s ≡ spotOf w row col → neutral ≡ neutralFor bits
-      → v ≡ planeRows plane s r n neutral → v ≡ gatheredBy has (sampleOf plane width) row col n (neutralAt bits)
-  made deep e es en ev =
+  made : depthOk bits ≡ true → {neutral : ℕ} {v : Rows} → neutral ≡ neutralFor bits → v ≡ planeRows plane s r n neutral
+      → v ≡ gatheredBy has (sampleOf plane width) row col n (neutralAt bits)
+  made deep en ev =
       ev
-      ∙ ap₂ (λ (t : Spot) (k : ℕ). planeRows plane t r n k) (es ∙ ap (λ (x : ℕ). spotOf x row col) e) (en ∙ neutral-for bits deep)
+      ∙ ap₂ (λ (t : Spot) (k : ℕ). planeRows plane t r n k) es (en ∙ neutral-for bits deep)
       ∙ rows-are has plane width row col n (neutralAt bits) r (y .reads .few .side) (y .known)
 
 -- the same for the two doors, whose calls are not refused
-module _ (plane : List ℕ) (g : LumaRefGeometry) (r : Reach) (er : r ≡ lumaReach (lumaBlock g)) (e : lumaNo (length plane) g ≡ 0) where
-  abbrev luma : Ready (lumaHas (lumaBlock g)) r (length plane) (g .picture .width) (g .«block_row» .0) (g .«block_col» .0) (g .n)
-  luma = luma-ready (length plane) g r er e .1
+module _ (plane : List ℕ) (g : LumaRefGeometry) (r : Reach) (er : r ≡ lumaReach (lumaBlock g)) (e : lumaNo (length plane) g ≡ 0) {s : Spot} (es : s ≡ lumaSpot g) where
+  abbrev luma : (depthOk (g .bits) ≡ true) × Ready (lumaHas (lumaBlock g)) r (length plane) (g .picture .width) (g .«block_row» .0) (g .«block_col» .0) (g .n)
+  luma = luma-ready (length plane) g r er e
 
-  luma-depth : depthOk (g .bits) ≡ true
-  luma-depth = luma-ready (length plane) g r er e .0
+  pub luma-inside : Reads r s (length plane) (g .n)
+  luma-inside = inside plane (g .picture .width) (g .«block_row» .0) (g .«block_col» .0) (g .n) (g .bits) (luma .1) es
 
-  pub luma-small : (g .picture .width ≤ 4096) × (g .«block_row» .0 ≤ 4096) × (g .«block_col» .0 ≤ 4096)
-  luma-small = (luma .width-few, luma .row-few, luma .col-few)
-
-  pub luma-inside : {s : Spot} → s ≡ spotOf (g .picture .width) (g .«block_row» .0) (g .«block_col» .0) → Reads r s (length plane) (g .n)
-  luma-inside es = inside plane (g .picture .width) (g .«block_row» .0) (g .«block_col» .0) (g .n) (g .bits) luma refl es
-
-  pub luma-made : {s : Spot} {neutral : ℕ} {v : Rows} → s ≡ spotOf (g .picture .width) (g .«block_row» .0) (g .«block_col» .0) → neutral ≡ neutralFor (g .bits)
-      → v ≡ planeRows plane s r (g .n) neutral → v ≡ lumaRows plane g
+  pub luma-made : {neutral : ℕ} {v : Rows} → neutral ≡ neutralFor (g .bits) → v ≡ planeRows plane s r (g .n) neutral → v ≡ lumaRows plane g
   unfolding lumaRows
-  luma-made es en ev = made plane (g .picture .width) (g .«block_row» .0) (g .«block_col» .0) (g .n) (g .bits) luma luma-depth refl es en ev
+  luma-made en ev = made plane (g .picture .width) (g .«block_row» .0) (g .«block_col» .0) (g .n) (g .bits) (luma .1) es (luma .0) en ev
 
-module _ (cb cr : List ℕ) (g : ChromaRefGeometry) (r : Reach) (er : r ≡ chromaReach (chromaBlock g)) (e : chromaNo (length cb) (length cr) g ≡ 0) where
-  abbrev pub Chroma : List ℕ → Type 0
+module _ (cb cr : List ℕ) (g : ChromaRefGeometry) (r : Reach) (er : r ≡ chromaReach (chromaBlock g)) (e : chromaNo (length cb) (length cr) g ≡ 0) {s : Spot}
+    (es : s ≡ chromaSpot g) where
+  abbrev Chroma : List ℕ → Type 0
   Chroma plane = Ready (chromaHas (chromaBlock g)) r (length plane) (chromaWidth (chromaBlock g)) (g .«block_row» .0) (g .«block_col» .0) (g .n)
 
   abbrev fine : (depthOk (g .bits) ≡ true) × Chroma cb × Chroma cr
   fine = chroma-ready (length cb) (length cr) g r er e
 
-  pub chroma-small : {w : ℕ} → w ≡ chromaWidth (chromaBlock g) → (w ≤ 4096) × (g .«block_row» .0 ≤ 4096) × (g .«block_col» .0 ≤ 4096)
-  chroma-small ew = (omega (arith, fine .1 .width-few), fine .1 .row-few, fine .1 .col-few)
+  one-inside : (plane : List ℕ) → Chroma plane → Reads r s (length plane) (g .n)
+  one-inside plane y = inside plane (chromaWidth (chromaBlock g)) (g .«block_row» .0) (g .«block_col» .0) (g .n) (g .bits) y es
 
-  module _ {w : ℕ} {s : Spot} (ew : w ≡ chromaWidth (chromaBlock g)) (es : s ≡ spotOf w (g .«block_row» .0) (g .«block_col» .0)) where
-    one-inside : (plane : List ℕ) → Chroma plane → Reads r s (length plane) (g .n)
-    one-inside plane y = inside plane (chromaWidth (chromaBlock g)) (g .«block_row» .0) (g .«block_col» .0) (g .n) (g .bits) y ew es
+  pub chroma-inside : Reads r s (length cb) (g .n) × Reads r s (length cr) (g .n)
+  chroma-inside = (one-inside cb (fine .1), one-inside cr (fine .2))
 
-    pub chroma-inside : Reads r s (length cb) (g .n) × Reads r s (length cr) (g .n)
-    chroma-inside = (one-inside cb (fine .1), one-inside cr (fine .2))
+  one-made : (plane : List ℕ) → Chroma plane → {neutral : ℕ} {v : Rows} → neutral ≡ neutralFor (g .bits) → v ≡ planeRows plane s r (g .n) neutral → v ≡ chromaRows plane g
+  unfolding chromaRows
+  one-made plane y en ev = made plane (chromaWidth (chromaBlock g)) (g .«block_row» .0) (g .«block_col» .0) (g .n) (g .bits) y es (fine .0) en ev
 
-    one-made : (plane : List ℕ) → Chroma plane → {neutral : ℕ} {v : Rows} → neutral ≡ neutralFor (g .bits) → v ≡ planeRows plane s r (g .n) neutral → v ≡ chromaRows plane g
-    unfolding chromaRows
-    one-made plane y en ev = made plane (chromaWidth (chromaBlock g)) (g .«block_row» .0) (g .«block_col» .0) (g .n) (g .bits) y (fine .0) ew es en ev
-
-    pub chroma-made : {neutral : ℕ} {v u : Rows} → neutral ≡ neutralFor (g .bits) → v ≡ planeRows cb s r (g .n) neutral → u ≡ planeRows cr s r (g .n) neutral
-        → _≡_ {A = List Rows} (v ∷ u ∷ []) (chromaRows cb g ∷ chromaRows cr g ∷ [])
-    chroma-made en ev eu = ap₂ (λ (a b : Rows). a ∷ b ∷ []) (one-made cb (fine .1) en ev) (one-made cr (fine .2) en eu)
+  pub chroma-made : {neutral : ℕ} {v u : Rows} → neutral ≡ neutralFor (g .bits) → v ≡ planeRows cb s r (g .n) neutral → u ≡ planeRows cr s r (g .n) neutral
+      → _≡_ {A = List Rows} (v ∷ u ∷ []) (chromaRows cb g ∷ chromaRows cr g ∷ [])
+  chroma-made en ev eu = ap₂ (λ (a b : Rows). a ∷ b ∷ []) (one-made cb (fine .1) en ev) (one-made cr (fine .2) en eu)

@@ -3,20 +3,30 @@ use mathlib.Core.Path.{_≡_, sym, ap, ap₂, _∙_, fun-ext}
 use mathlib.Core.Bool.{Bool, true}
 use mathlib.Core.List.{List}
 use Prim.Native.Nat.{ℕ, _+_, _-_, _*_, _≤_, _<_}
-use native.Mathlib.Nat.{mul-le-mul}
 use native.Mathlib.Omega.{arith}
 use lib.IntN.{ℤ}
 use lib.ListN.{getD}
 use Rattle.order.specs.declared.Reach.{Reach}
+use Rattle.order.specs.Reach.{chromaWidth}
 use Rattle.rows.specs.declared.Rows.{Rows}
 use Rattle.refs.specs.declared.Spot.{Spot}
+use Rattle.refs.specs.declared.LumaRefGeometry.{LumaRefGeometry}
+use Rattle.refs.specs.declared.ChromaRefGeometry.{ChromaRefGeometry}
 use Rattle.refs.specs.Gather.{gatheredBy, sampleOf}
+use Rattle.refs.specs.Door.{chromaBlock}
 use Rattle.refs.specs.Counts.{cornerAt, aboveAt, leftAt, fromReach, Counted, from-reach}
 
 -- the corner, and entry 0 of the row above and of the left column
 abbrev pub spotOf : ℕ → ℕ → ℕ → Spot
 spotOf width row col =
     record { corner = (row - 1) * width + (col - 1); above = (row - 1) * width + col; left = row * width + (col - 1); width = width }
+
+-- of a luma block, and of a chroma block in either plane
+abbrev pub lumaSpot : LumaRefGeometry → Spot
+lumaSpot g = spotOf (g .picture .width) (g .«block_row» .0) (g .«block_col» .0)
+
+abbrev pub chromaSpot : ChromaRefGeometry → Spot
+chromaSpot g = spotOf (chromaWidth (chromaBlock g)) (g .«block_row» .0) (g .«block_col» .0)
 
 -- entry i of an edge from at on, each entry step samples further
 abbrev pub onEdge : List ℕ → ℕ → ℕ → ℕ → ℕ
@@ -59,7 +69,3 @@ rows-are has plane width row col n neutral r small known =
 
     left : leftAt (sampleOf plane width) row col ≡ leftOn plane (spotOf width row col)
     left = fun-ext (λ i. ap (λ (k : ℕ). getD plane k 0) (let q : (row + i) * width + (col - 1) ≡ row * width + (col - 1) + i * width = omega arith in q))
-
--- rows and columns of a picture are small
-pub area : (row width : ℕ) → row ≤ 4096 → width ≤ 4096 → row * width ≤ 16777216
-area row width h k = mul-le-mul h k

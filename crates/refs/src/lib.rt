@@ -1,25 +1,17 @@
 // Reference samples: the luma gather and the chroma pair gather (document 01, modules 3 and 4).
-// Rests on the contracts of order (which neighbours are there), on substitution and on how rows are stored; a sample's value never says whether it is there.
+// Rests on the contracts of order (which neighbours are there) and on substitution; a sample's value never says whether it is there.
 ghost use mathlib.Core.Path.{_≡_};
 ghost use mathlib.Core.List.{[], _∷_};
-ghost use Prim.Native.Nat.{ℕ, _+_, _-_, _*_, _/_, _%_, _≤_, _<_};
-ghost use mathlib.Core.Bool.{true};
-ghost use lib.ListN.{length, getD, set};
-ghost use Rattle.laws.specs.Fill.{fill, run};
-ghost use Rattle.laws.specs.Bytes.{byteOf};
-ghost use Rattle.bytes.specs.Bytes.{byte1, samplesOf};
+ghost use Prim.Native.Nat.{ℕ, _+_, _-_, _*_, _/_, _≤_, _<_};
+ghost use lib.ListN.{length, getD};
+ghost use Rattle.laws.specs.Fill.{fill};
 ghost use Rattle.order.specs.Edges.{Step};
 ghost use Rattle.order.specs.Reach.{lumaReach, chromaReach, chromaWidth};
-ghost use Rattle.byte_rows.specs.Line.{sampleByte, rowsAt};
-ghost use Rattle.byte_entry.specs.Entries.{wrote};
-ghost use Rattle.refs.specs.Entry.{lumaEntry, chromaEntry};
-ghost use Rattle.refs.specs.Door.{lumaBlock, lumaLength, lumaNo, lumaRows, lumaDoor, lumaBytesNo, lumaBytesDoor, formatOf, chromaBlock, chromaLength, chromaNo, chromaRows, chromaDoor, chromaBytesNo};
+ghost use Rattle.refs.specs.Door.{lumaBlock, lumaLength, lumaNo, lumaRows, lumaDoor, formatOf, chromaBlock, chromaLength, chromaNo, chromaRows, chromaDoor};
 ghost use Rattle.refs.specs.Served.{gatherNo};
-ghost use Rattle.substitution.specs.Line.{anyBy, restBy};
-ghost use Rattle.refs.specs.Counts.{startOf, cornerOf, restOf};
-ghost use Rattle.refs.specs.Spots.{spotOf, onEdge, cornerOn, aboveOn, leftOn, planeRows, Few, Reads};
+ghost use Rattle.substitution.specs.Line.{restBy};
+ghost use Rattle.refs.specs.Spots.{spotOf, lumaSpot, chromaSpot, onEdge, cornerOn, planeRows, Few, Reads};
 ghost use Rattle.refs.specs.Seen.{seenCorner, entry, padded, padRows};
-ghost use Rattle.refs.specs.Stored.{edgeIn, Kept};
 use fmt::ChromaCol;
 use fmt::ChromaFormat;
 use fmt::ChromaRow;
@@ -63,11 +55,11 @@ pub struct ChromaRefGeometry {
 
 // Where a block's neighbours stand in a plane: the corner, entry 0 of the row above and entry 0 of the left column, and the plane's
 // width.
-struct Spot {
-    corner: usize,
-    above: usize,
-    left: usize,
-    width: usize,
+pub struct Spot {
+    pub corner: usize,
+    pub above: usize,
+    pub left: usize,
+    pub width: usize,
 }
 
 // The row or column before one, 0 for the first.
@@ -77,17 +69,20 @@ fn back(v: usize) -> usize
     if v == 0 { 0 } else { v - 1 }
 }
 
-fn spot_of(width: usize, row: usize, col: usize) -> Spot
-    requires { ⌜ (width ≤ 4096) × (row ≤ 4096) × (col ≤ 4096) ⌝ }
+// Numbers of 32 bits: no product can pass the type's end.
+fn spot_of(width: u32, row: u32, col: u32) -> Spot
     ensures { λ r. ⌜ r ≡ spotOf width row col ⌝ }
 {
-    let up = back(row) * width;
-    let aside = back(col);
+    let across = width as usize;
+    let down = row as usize;
+    let along = col as usize;
+    let up = back(down) * across;
+    let aside = back(along);
     Spot {
         corner: up + aside,
-        above: up + col,
-        left: row * width + aside,
-        width,
+        above: up + along,
+        left: down * across + aside,
+        width: across,
     }
 }
 
@@ -110,38 +105,6 @@ fn corner_seen(plane: &[u16], s: Spot, r: Reach, n: usize) -> u16
 {
     let at = s.corner;
     if r.corner { plane[at] } else { 0 }
-}
-
-// The sample at a place of a plane of bytes.
-fn sample_in(plane: &[u8], at: usize) -> u16
-    requires { ⌜ at < length (samplesOf (now plane)) ⌝ }
-    ensures { λ r. ⌜ r ≡ getD (samplesOf (now (plane .entry))) at 0 ⌝ }
-{
-    let low = 2 * at;
-    let high = low + 1;
-    bytes::sample(plane[low], plane[high])
-}
-
-// An edge and the corner out of a plane of bytes.
-fn edge_in(plane: &[u8], at: usize, step: usize, have: usize, out: &mut [u16])
-    requires { ⌜ (have ≤ length (now out)) × ((i : ℕ) → i < have → at + i * step < length (samplesOf (now plane))) ⌝ }
-    ensures { λ _. ⌜ now (out .exit) ≡ fill (onEdge (samplesOf (now (plane .entry))) at step) have (now (out .entry)) ⌝ }
-{
-    let mut i = 0;
-    while i < have {
-        out[i] = sample_in(plane, at + i * step);
-        i += 1;
-    }
-}
-
-fn corner_seen_in(plane: &[u8], s: Spot, r: Reach, n: usize) -> u16
-    requires { ⌜ Reads r s (length (samplesOf (now plane))) n ⌝ }
-    ensures { λ v. ⌜ v ≡ seenCorner r (cornerOn (samplesOf (now (plane .entry))) s) ⌝ }
-{
-    if r.corner {
-        return sample_in(plane, s.corner);
-    }
-    0
 }
 
 // The last entry that is there, or another sample where none is.
@@ -215,162 +178,8 @@ fn plane_rows(plane: &[u16], s: Spot, r: Reach, n: usize, neutral: u16) -> Rows
     with_corner(corner, [above, left])
 }
 
-// The same out of a plane of bytes.
-fn plane_rows_in(plane: &[u8], s: Spot, r: Reach, n: usize, neutral: u16) -> Rows
-    requires { ⌜ Reads r s (length (samplesOf (now plane))) n ⌝ }
-    ensures { λ v. ⌜ v ≡ planeRows (samplesOf (now (plane .entry))) s r n neutral ⌝ }
-{
-    if !((r.left > 0) | r.corner | (r.above > 0)) {
-        return substitution::level_rows(neutral);
-    }
-    let mut above = [0u16; 65];
-    let mut left = [0u16; 65];
-    edge_in(plane, s.above, 1, r.above, &mut above);
-    edge_in(plane, s.left, s.width, r.left, &mut left);
-    let seen = corner_seen_in(plane, s, r, n);
-    let corner = finish(&mut above, &mut left, seen, r, n);
-    with_corner(corner, [above, left])
-}
-
-// An edge of a block: where its entry 0 stands in the plane, how far apart its entries do, how many are there, and what the others have.
-struct Border {
-    at: usize,
-    step: usize,
-    have: usize,
-    rest: u16,
-}
-
-// The gathers of the entries on bytes store their rows as they make them, in a lent buffer: rows that come back by value go through memory once more. Places in
-// the buffer are counted in samples.
-
-// Stores a sample.
-fn put(out: &mut [u8], at: usize, v: u16)
-    requires { ⌜ 2 * at + 1 < length (now out) ⌝ }
-    ensures { λ _. ⌜ now (out .exit) ≡ set (set (now (out .entry)) (2 * at) (v % 256)) (2 * at + 1) (byte1 v) ⌝ }
-{
-    let low = 2 * at;
-    out[low] = bytes::byte_0(v as u32);
-    out[low + 1] = bytes::byte_1(v as u32);
-}
-
-// Stores one value `count` times.
-fn store_level(v: u16, count: usize, out: &mut [u8], at: usize)
-    requires { ⌜ 2 * (at + count) ≤ length (now out) ⌝ }
-    ensures { λ _. ⌜ now (out .exit) ≡ run (byteOf 2 (λ (i : ℕ). v)) (2 * at) (2 * count) (now (out .entry)) ⌝ }
-{
-    let mut i = 0;
-    while i < count {
-        put(&mut *out, at + i, v);
-        i += 1;
-    }
-}
-
-// Stores the entries of an edge that are there.
-fn store_seen(plane: &[u8], e: Border, out: &mut [u8], at: usize)
-    requires { ⌜ (2 * (at + e .have) ≤ length (now out)) × ((i : ℕ) → i < e .have → e .at + i * e .step < length (samplesOf (now plane))) ⌝ }
-    ensures { λ _. ⌜ now (out .exit) ≡ run (byteOf 2 (onEdge (samplesOf (now (plane .entry))) (e .at) (e .step))) (2 * at) (2 * e .have) (now (out .entry)) ⌝ }
-{
-    let from = e.at;
-    let step = e.step;
-    let have = e.have;
-    let mut i = 0;
-    while i < have {
-        put(&mut *out, at + i, sample_in(plane, from + i * step));
-        i += 1;
-    }
-}
-
-// Stores an edge's 65 entries: those that are there, then what the others have up to entry 2n, then 0.
-fn store_edge(plane: &[u8], e: Border, n: usize, out: &mut [u8], at: usize)
-    requires { ⌜ Kept e (length (samplesOf (now plane))) n × (2 * (at + 65) ≤ length (now out)) ⌝ }
-    ensures { λ _. ⌜ now (out .exit) ≡ run (sampleByte (edgeIn (samplesOf (now (plane .entry))) e n)) (2 * at) (2 * 65) (now (out .entry)) ⌝ }
-{
-    let count = 2 * n + 1;
-    store_seen(plane, e, &mut *out, at);
-    store_level(e.rest, count - e.have, &mut *out, at + e.have);
-    store_level(0, 65 - count, &mut *out, at + count);
-}
-
-// What stands before the first sample that is there: that sample.
-fn start_in(plane: &[u8], s: Spot, r: Reach, n: usize) -> u16
-    requires { ⌜ Reads r s (length (samplesOf (now plane))) n × (anyBy (r .corner) (r .above) (r .left) ≡ true) ⌝ }
-    ensures { λ v. ⌜ v ≡ startOf r (cornerOn (samplesOf (now (plane .entry))) s) (aboveOn (samplesOf (now (plane .entry))) s) (leftOn (samplesOf (now (plane .entry))) s) ⌝ }
-{
-    if r.left > 0 {
-        return sample_in(plane, s.left + (r.left - 1) * s.width);
-    }
-    if r.corner {
-        return sample_in(plane, s.corner);
-    }
-    sample_in(plane, s.above)
-}
-
-// The corner: a missing one takes left[0].
-fn corner_in(plane: &[u8], s: Spot, r: Reach, n: usize, start: u16) -> u16
-    requires { ⌜ Reads r s (length (samplesOf (now plane))) n ⌝ }
-    ensures { λ v. ⌜ v ≡ cornerOf r (cornerOn (samplesOf (now (plane .entry))) s) (leftOn (samplesOf (now (plane .entry))) s) start ⌝ }
-{
-    if r.corner {
-        return sample_in(plane, s.corner);
-    }
-    if r.left > 0 {
-        return sample_in(plane, s.left);
-    }
-    start
-}
-
-// What stands after the last one of the row above: that one, or the corner.
-fn rest_in(plane: &[u8], s: Spot, r: Reach, n: usize, corner: u16) -> u16
-    requires { ⌜ Reads r s (length (samplesOf (now plane))) n ⌝ }
-    ensures { λ v. ⌜ v ≡ restOf r (aboveOn (samplesOf (now (plane .entry))) s) corner ⌝ }
-{
-    if r.above > 0 {
-        return sample_in(plane, s.above + (r.above - 1));
-    }
-    corner
-}
-
-// Stores the rows of a plane: the corner, the row above and the left column.
-fn store_plane_rows(
-    plane: &[u8],
-    s: Spot,
-    r: Reach,
-    n: usize,
-    neutral: u16,
-    out: &mut [u8],
-    at: usize,
-)
-    requires { ⌜ Reads r s (length (samplesOf (now plane))) n × (2 * (at + 131) ≤ length (now out)) ⌝ }
-    ensures { λ _. ⌜ now (out .exit) ≡ rowsAt (2 * at) (planeRows (samplesOf (now (plane .entry))) s r n neutral) (now (out .entry)) ⌝ }
-{
-    if !((r.left > 0) | r.corner | (r.above > 0)) {
-        store_level(neutral, 131, &mut *out, at);
-        return;
-    }
-    let above_at = at + 1;
-    let left_at = at + 66;
-    let start = start_in(plane, s, r, n);
-    let corner = corner_in(plane, s, r, n, start);
-    let rest = rest_in(plane, s, r, n, corner);
-    let above = Border {
-        at: s.above,
-        step: 1,
-        have: r.above,
-        rest,
-    };
-    let left = Border {
-        at: s.left,
-        step: s.width,
-        have: r.left,
-        rest: start,
-    };
-    put(&mut *out, at, corner);
-    store_edge(plane, above, n, &mut *out, above_at);
-    store_edge(plane, left, n, &mut *out, left_at);
-}
-
 // The number that refuses a gather, or 0: the depth's, then the reach's 2 or 4, then the planes', then the reach's 6.
-fn gather_no(bits: u32, reach: u32, whole: bool) -> u32
+pub fn gather_no(bits: u32, reach: u32, whole: bool) -> u32
     ensures { λ r. ⌜ r ≡ gatherNo bits reach whole ⌝ }
 {
     if !domain::depth_ok(bits) {
@@ -382,7 +191,8 @@ fn gather_no(bits: u32, reach: u32, whole: bool) -> u32
     if whole { reach } else { 5 }
 }
 
-fn luma_block(geo: LumaRefGeometry) -> LumaBlock
+// The block of a luma gather.
+pub fn luma_block(geo: LumaRefGeometry) -> LumaBlock
     ensures { λ r. ⌜ r ≡ lumaBlock geo ⌝ }
 {
     let picture = geo.picture;
@@ -396,17 +206,23 @@ fn luma_block(geo: LumaRefGeometry) -> LumaBlock
     }
 }
 
+// Where its neighbours stand.
+pub fn luma_spot(geo: LumaRefGeometry) -> Spot
+    ensures { λ r. ⌜ r ≡ lumaSpot geo ⌝ }
+{
+    spot_of(geo.picture.width, geo.block_row.0, geo.block_col.0)
+}
+
 fn luma_rows(plane: &[u16], geo: LumaRefGeometry, reach: Reach) -> Rows
     requires { ⌜ (reach ≡ lumaReach (lumaBlock geo)) × (lumaNo (length (now plane)) geo ≡ 0) ⌝ }
     ensures { λ r. ⌜ r ≡ lumaRows (now (plane .entry)) geo ⌝ }
 {
-    let width = geo.picture.width as usize;
-    let s = spot_of(width, geo.block_row.0 as usize, geo.block_col.0 as usize);
+    let s = luma_spot(geo);
     plane_rows(plane, s, reach, geo.n, substitution::neutral_of(geo.bits))
 }
 
 // A plane's count of luma samples.
-fn luma_length(geo: LumaRefGeometry) -> usize
+pub fn luma_length(geo: LumaRefGeometry) -> usize
     ensures { λ r. ⌜ r ≡ lumaLength geo ⌝ }
 {
     (geo.picture.height as usize) * (geo.picture.width as usize)
@@ -431,65 +247,6 @@ pub fn get_reference_samples(plane: &[u16], geo: LumaRefGeometry) -> Gathered
     }
 }
 
-fn luma_rows_in(plane: &[u8], geo: LumaRefGeometry, reach: Reach) -> Rows
-    requires { ⌜ (reach ≡ lumaReach (lumaBlock geo)) × (lumaNo (length (samplesOf (now plane))) geo ≡ 0) ⌝ }
-    ensures { λ r. ⌜ r ≡ lumaRows (samplesOf (now (plane .entry))) geo ⌝ }
-{
-    let width = geo.picture.width as usize;
-    let s = spot_of(width, geo.block_row.0 as usize, geo.block_col.0 as usize);
-    plane_rows_in(plane, s, reach, geo.n, substitution::neutral_of(geo.bits))
-}
-
-// The number of a gather out of a plane of so many bytes.
-fn luma_no_in(len: usize, geo: LumaRefGeometry, reach: Reach) -> u32
-    requires { ⌜ reach ≡ lumaReach (lumaBlock geo) ⌝ }
-    ensures { λ r. ⌜ r ≡ lumaBytesNo len geo ⌝ }
-{
-    let whole = bytes::whole_in(len, luma_length(geo));
-    gather_no(geo.bits, reach.no, whole)
-}
-
-// The same out of a plane of bytes: two a sample, the lower first.
-pub fn get_reference_samples_bytes(plane: &[u8], geo: LumaRefGeometry) -> Gathered
-    ensures { λ r. ⌜ r ≡ lumaBytesDoor (now (plane .entry)) geo ⌝ }
-{
-    let reach = order::luma_reach(luma_block(geo));
-    let no = luma_no_in(plane.len(), geo, reach);
-    if no != 0 {
-        return Gathered {
-            no,
-            rows: substitution::level_rows(0),
-        };
-    }
-    Gathered {
-        no: 0,
-        rows: luma_rows_in(plane, geo, reach),
-    }
-}
-
-fn store_luma_rows(plane: &[u8], geo: LumaRefGeometry, reach: Reach, out: &mut [u8])
-    requires { ⌜ (reach ≡ lumaReach (lumaBlock geo)) × (lumaNo (length (samplesOf (now plane))) geo ≡ 0) × (262 ≤ length (now out)) ⌝ }
-    ensures { λ _. ⌜ now (out .exit) ≡ rowsAt 0 (lumaRows (samplesOf (now (plane .entry))) geo) (now (out .entry)) ⌝ }
-{
-    let width = geo.picture.width as usize;
-    let s = spot_of(width, geo.block_row.0 as usize, geo.block_col.0 as usize);
-    let neutral = substitution::neutral_of(geo.bits);
-    store_plane_rows(plane, s, reach, geo.n, neutral, &mut *out, 0);
-}
-
-// The same, stored as bytes: the corner, the row above and the left column.
-pub fn store_reference_samples(plane: &[u8], geo: LumaRefGeometry, out: &mut [u8]) -> u32
-    ensures { λ r. ⌜ wrote r (now (out .exit)) ≡ lumaEntry (now (plane .entry)) geo (now (out .entry)) ⌝ }
-{
-    let reach = order::luma_reach(luma_block(geo));
-    let early = luma_no_in(plane.len(), geo, reach);
-    let no = byte_rows::room_no(early, 1, out.len());
-    if no == 0 {
-        store_luma_rows(plane, geo, reach, &mut *out);
-    }
-    no
-}
-
 // The format that a chroma_format_idc names; monochrome where it names none, which is refused as monochrome is.
 fn format_of(idc: u32) -> ChromaFormat
     ensures { λ r. ⌜ r ≡ formatOf idc ⌝ }
@@ -502,7 +259,8 @@ fn format_of(idc: u32) -> ChromaFormat
     }
 }
 
-fn chroma_block(geo: ChromaRefGeometry) -> ChromaBlock
+// The block of a chroma gather.
+pub fn chroma_block(geo: ChromaRefGeometry) -> ChromaBlock
     ensures { λ r. ⌜ r ≡ chromaBlock geo ⌝ }
 {
     let picture = Picture {
@@ -545,6 +303,14 @@ fn chroma_width(geo: ChromaRefGeometry) -> usize
     over(geo.luma_w, format_of(geo.format).sub_w())
 }
 
+// Where its neighbours stand in a plane of Cb or of Cr.
+pub fn chroma_spot(geo: ChromaRefGeometry) -> Spot
+    ensures { λ r. ⌜ r ≡ chromaSpot geo ⌝ }
+{
+    let width = chroma_width(geo);
+    spot_of(width as u32, geo.block_row.0, geo.block_col.0)
+}
+
 // The rows of Cb and of Cr: one reach for both.
 fn chroma_rows(
     plane_cb: &[u16],
@@ -555,11 +321,7 @@ fn chroma_rows(
     requires { ⌜ (reach ≡ chromaReach (chromaBlock geo)) × (chromaNo (length (now «plane_cb»)) (length (now «plane_cr»)) geo ≡ 0) ⌝ }
     ensures { λ r. ⌜ r ≡ chromaRows (now («plane_cb» .entry)) geo ∷ chromaRows (now («plane_cr» .entry)) geo ∷ [] ⌝ }
 {
-    let s = spot_of(
-        chroma_width(geo),
-        geo.block_row.0 as usize,
-        geo.block_col.0 as usize,
-    );
+    let s = chroma_spot(geo);
     let neutral = substitution::neutral_of(geo.bits);
     let n = geo.n;
     let cb = plane_rows(plane_cb, s, reach, n, neutral);
@@ -567,30 +329,8 @@ fn chroma_rows(
     [cb, cr]
 }
 
-// The same out of planes of bytes, stored: Cb's rows, then Cr's.
-fn store_chroma_rows(
-    plane_cb: &[u8],
-    plane_cr: &[u8],
-    geo: ChromaRefGeometry,
-    reach: Reach,
-    out: &mut [u8],
-)
-    requires { ⌜ (reach ≡ chromaReach (chromaBlock geo)) × (chromaNo (length (samplesOf (now «plane_cb»))) (length (samplesOf (now «plane_cr»))) geo ≡ 0) × (524 ≤ length (now out)) ⌝ }
-    ensures { λ _. ⌜ now (out .exit) ≡ rowsAt 262 (chromaRows (samplesOf (now («plane_cr» .entry))) geo) (rowsAt 0 (chromaRows (samplesOf (now («plane_cb» .entry))) geo) (now (out .entry))) ⌝ }
-{
-    let s = spot_of(
-        chroma_width(geo),
-        geo.block_row.0 as usize,
-        geo.block_col.0 as usize,
-    );
-    let neutral = substitution::neutral_of(geo.bits);
-    let n = geo.n;
-    store_plane_rows(plane_cb, s, reach, n, neutral, &mut *out, 0);
-    store_plane_rows(plane_cr, s, reach, n, neutral, &mut *out, 131);
-}
-
 // A plane's count of chroma samples.
-fn chroma_length(geo: ChromaRefGeometry) -> usize
+pub fn chroma_length(geo: ChromaRefGeometry) -> usize
     ensures { λ r. ⌜ r ≡ chromaLength geo ⌝ }
 {
     over(geo.luma_h, format_of(geo.format).sub_h()) * chroma_width(geo)
@@ -619,32 +359,4 @@ pub fn get_reference_samples_chroma_pair(
         no: 0,
         planes: chroma_rows(plane_cb, plane_cr, geo, reach),
     }
-}
-
-// The number of a gather out of planes of so many bytes.
-fn chroma_no_in(cb: usize, cr: usize, geo: ChromaRefGeometry, reach: Reach) -> u32
-    requires { ⌜ reach ≡ chromaReach (chromaBlock geo) ⌝ }
-    ensures { λ r. ⌜ r ≡ chromaBytesNo cb cr geo ⌝ }
-{
-    let len = chroma_length(geo);
-    let whole = bytes::whole_in(cb, len) & bytes::whole_in(cr, len);
-    gather_no(geo.bits, reach.no, whole)
-}
-
-// The same out of planes of bytes, stored as bytes: Cb's corner, row above and left column, then Cr's.
-pub fn store_reference_samples_chroma_pair(
-    plane_cb: &[u8],
-    plane_cr: &[u8],
-    geo: ChromaRefGeometry,
-    out: &mut [u8],
-) -> u32
-    ensures { λ r. ⌜ wrote r (now (out .exit)) ≡ chromaEntry (now («plane_cb» .entry)) (now («plane_cr» .entry)) geo (now (out .entry)) ⌝ }
-{
-    let reach = order::chroma_reach(chroma_block(geo));
-    let early = chroma_no_in(plane_cb.len(), plane_cr.len(), geo, reach);
-    let no = byte_rows::room_no(early, 2, out.len());
-    if no == 0 {
-        store_chroma_rows(plane_cb, plane_cr, geo, reach, &mut *out);
-    }
-    no
 }

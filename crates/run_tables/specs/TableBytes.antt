@@ -5,7 +5,7 @@
 --   salvrunde_planar        planar           salvrunde_replay         replay
 --   salvrunde_dc            dc
 --
--- refs::store_reference_samples and refs::store_reference_samples_chroma_pair, to which the gathers forward, have luma-refs and chroma-refs too.
+-- byte_refs::store_reference_samples and byte_refs::store_reference_samples_chroma_pair, to which the gathers forward, have luma-refs and chroma-refs too.
 use mathlib.Core.Path.{_≡_, refl}
 use mathlib.Core.Bool.{Bool}
 use mathlib.Core.List.{List, [], _∷_}
@@ -27,7 +27,7 @@ use Rattle.byte_entry.specs.Entries.{entry, room, flatEntryNo, modeEntryNo}
 use Rattle.byte_flat.specs.Entries.{planarEntry, dcEntry}
 use Rattle.byte_angular.specs.Entries.{angularEntry}
 use Rattle.byte_predict.specs.Entries.{chromaBlockEntry}
-use Rattle.refs.specs.Entry.{lumaEntry, chromaEntry}
+use Rattle.byte_refs.specs.Entry.{lumaEntry, chromaEntry}
 use Rattle.tables.specs.Exact.{_when_, _or_, Exact, ExactFirst, Tells, exact-none, exact-row, first-row, all-of, at-most, same}
 use Rattle.tables.specs.Table.{BadPicture, depth, size, picture, lumaTable, luma-number, chromaTable, chroma-number, angularTable, predictTable}
 use Rattle.run_tables.specs.TableWalk.{about, done, Some, every-one, lastRows, last-first, number-exact}

@@ -24,7 +24,8 @@ use Rattle.substitution.specs.declared.Flags.{Flags}
 use Rattle.refs.specs.declared.LumaRefGeometry.{LumaRefGeometry}
 use Rattle.refs.specs.declared.ChromaRefGeometry.{ChromaRefGeometry}
 use Rattle.substitution.specs.Door.{substituteDoor}
-use Rattle.refs.specs.Door.{lumaDoor, lumaBytesDoor, chromaDoor}
+use Rattle.refs.specs.Door.{lumaDoor, chromaDoor}
+use Rattle.byte_refs.specs.Door.{lumaBytesDoor}
 use Rattle.smooth.specs.Smoothing as smoothing
 use Rattle.smooth.specs.Smoothing.{ruleDoor, filterDoor}
 use Rattle.residual.specs.Residual.{residualNo, reconstructNo, residualsAfter, reconstructed}

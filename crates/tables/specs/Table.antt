@@ -9,12 +9,12 @@
 --   order::chroma_reach                   chroma-reach            angular::predict_angular_slices        predict-angular
 --   substitution::substitute_refs         substitute-refs         predict::predict_chroma_tb_slices      predict-chroma
 --   refs::get_reference_samples           luma-gather             predict::predict_luma_tb_slices        predict-luma
---   refs::get_reference_samples_bytes     luma-gather-bytes       scratch_angular::.._into, _fresh       predict-angular-scratch
+--   byte_refs::get_reference_samples      luma-gather-bytes       scratch_angular::.._into, _fresh       predict-angular-scratch
 --   refs::.._chroma_pair                  chroma-gather           scratch_predict::.._chroma_tb_..       predict-chroma-scratch
 --   residual::compute_residual_i32_into   compute-residual        scratch_predict::.._luma_tb_..         predict-luma-scratch
 --   residual::reconstruct_into            reconstruct
 --
--- The plan check, walk and replay, whose numbers carry a block, are in run_tables/specs/TableWalk; the camera's entries and the two of refs that store rows in TableBytes
+-- The plan check, walk and replay, whose numbers carry a block, are in run_tables/specs/TableWalk; the camera's entries and the two of byte_refs that store rows in TableBytes
 -- there; what a refused call gives back is in Refused.
 use mathlib.Core.Path.{_≡_, refl, ap, subst}
 use mathlib.Core.Bool.{Bool, true, false, cond, _&&_, _||_, true≢false, false≢true}
@@ -52,7 +52,8 @@ use Rattle.substitution.specs.declared.Flags.{Flags}
 use Rattle.refs.specs.declared.LumaRefGeometry.{LumaRefGeometry}
 use Rattle.refs.specs.declared.ChromaRefGeometry.{ChromaRefGeometry}
 use Rattle.substitution.specs.Door.{substituteNo, substituteDoor}
-use Rattle.refs.specs.Door.{lumaBlock, lumaNumber, lumaLength, lumaNo, lumaDoor, lumaBytesNo, lumaBytesDoor, formatOf, chromaPicture, chromaBlock, chromaLength, chromaNumber, chromaNo, chromaDoor}
+use Rattle.refs.specs.Door.{lumaBlock, lumaNumber, lumaLength, lumaNo, lumaDoor, formatOf, chromaPicture, chromaBlock, chromaLength, chromaNumber, chromaNo, chromaDoor}
+use Rattle.byte_refs.specs.Door.{lumaBytesNo, lumaBytesDoor}
 use Rattle.smooth.specs.Smoothing as smoothing
 use Rattle.smooth.specs.Smoothing.{ruleDoor, filterNo, filterDoor}
 use Rattle.numbers.specs.Numbers.{flatNo, Lent, enough, angularNo, predictNo}

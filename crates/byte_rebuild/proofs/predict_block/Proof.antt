@@ -5,8 +5,8 @@ use native.Mathlib.Omega.{arith}
 use lib.ListN.{length}
 use Rattle.laws.specs.Choose.{unserved}
 use Rattle.bytes.specs.Bytes.{samplesOf}
-use Rattle.refs.specs.Door.{lumaBytesDoor}
-use Rattle.refs.specs.Spelt.{luma-spelt}
+use Rattle.byte_refs.specs.Door.{lumaBytesDoor}
+use Rattle.byte_refs.specs.Spelt.{luma-spelt}
 use Rattle.block.specs.Bridge.{geoOf}
 use Rattle.block.specs.Laws.{gather-says, mode-small, predict-says}
 use borrow.Author.Needs.{needs}
@@ -16,14 +16,14 @@ use Rattle.byte_rebuild.proofs.predict_block.Tie as tie
 geometry-requires : tie.Need-geometry-requires
 geometry-requires c κs = search needs
 
-get-reference-samples-bytes-requires : tie.Need-get-reference-samples-bytes-requires
-get-reference-samples-bytes-requires c κs = search needs
+get-reference-samples-requires : tie.Need-get-reference-samples-requires
+get-reference-samples-requires c κs = search needs
 
 returns : tie.Need-returns
 returns c =
     let a = c .before .before .before .before .before .before .before .before .before .args in
     let h = c .before .before .before .before .before .before .before .before .before .pre in
-    let f = c .before .before .get-reference-samples-bytes .ensures ∙ ap (lumaBytesDoor (a .plane .now)) (c .before .before .before .geometry .ensures) ∙ luma-spelt (a .plane .now) (geoOf (a .s) (a .b)) (length (a .plane .now) / 2) (omega (arith, h .1)) in
+    let f = c .before .before .get-reference-samples .ensures ∙ ap (lumaBytesDoor (a .plane .now)) (c .before .before .before .geometry .ensures) ∙ luma-spelt (a .plane .now) (geoOf (a .s) (a .b)) (length (a .plane .now) / 2) (omega (arith, h .1)) in
     (gather-says (a .s) (a .b) (record { refs = length (a .refs .now); indices = length (a .indices .now); fractions = length (a .fractions .now) }) (samplesOf (a .plane .now)) (a .pred .now) 0 (sym (h .0)) refl _ f, (unserved _ _ _ (c .if1 .taken), λ _. (refl, (refl, refl))))
 
 cast-predict-luma-tb-slices : tie.Need-cast-predict-luma-tb-slices
@@ -54,7 +54,7 @@ returns-2 : tie.Need-returns-2
 returns-2 c =
     let a = c .before .before .before .before .before .before .before .before .before .before .before .before .before .before .before .before .before .before .before .before .before .before .before .before .args in
     let h = c .before .before .before .before .before .before .before .before .before .before .before .before .before .before .before .before .before .before .before .before .before .before .before .before .pre in
-    let f = c .before .before .before .before .before .before .before .before .before .before .before .before .before .before .before .before .before .get-reference-samples-bytes .ensures ∙ ap (lumaBytesDoor (a .plane .now)) (c .before .before .before .before .before .before .before .before .before .before .before .before .before .before .before .before .before .before .geometry .ensures) ∙ luma-spelt (a .plane .now) (geoOf (a .s) (a .b)) (length (a .plane .now) / 2) (omega (arith, h .1)) in
+    let f = c .before .before .before .before .before .before .before .before .before .before .before .before .before .before .before .before .before .get-reference-samples .ensures ∙ ap (lumaBytesDoor (a .plane .now)) (c .before .before .before .before .before .before .before .before .before .before .before .before .before .before .before .before .before .before .geometry .ensures) ∙ luma-spelt (a .plane .now) (geoOf (a .s) (a .b)) (length (a .plane .now) / 2) (omega (arith, h .1)) in
     let p = c .before .before .before .before .before .before .before .before .predict-luma-tb-slices .ensures in
     let q = predict-says (a .s) (a .b) (record { refs = length (a .refs .now); indices = length (a .indices .now); fractions = length (a .fractions .now) }) (samplesOf (a .plane .now)) (a .pred .now) 0 (sym (h .0)) refl _ f (c .before .before .before .before .before .before .before .before .before .before .before .before .before .before .before .if1 .left) _ _ (p .0) (p .1 .0) in
     (q .1 .0, (q .1 .1, λ d. absurd (d (q .0))))
@@ -64,7 +64,7 @@ predict-block-spec =
     tie.close
     (tie.spec
     geometry-requires
-    get-reference-samples-bytes-requires
+    get-reference-samples-requires
     returns
     cast-predict-luma-tb-slices
     cast-predict-luma-tb-slices-2
