@@ -26,7 +26,7 @@ use Rattle.substitution.specs.Line.{told}
 use Rattle.substitution.specs.Served.{gathered}
 use Rattle.refs.specs.Served.{gather-fine, luma-no, chroma-no}
 
--- twice as much is as much twice
+-- numbers are the same where their doubles are
 twice : (m k : ℕ) → eqb (2 * m) (2 * k) ≡ eqb m k
 twice m k =
     ⊎-elim (λ e. eq-eqb (2 * m) (2 * k) (ap (λ (x : ℕ). 2 * x) (eqb-true m k e)) ∙ sym e)
