@@ -2,3 +2,4 @@
 pub mod Bytes
 -- Laws: how many, what each is, and how one is stored.
 pub mod Laws
+pub mod pairs

@@ -1,5 +1,7 @@
 // Samples and residuals as bytes, the lowest byte first: one number at a time, so that a caller reads and stores its own bytes.
 // Rests on nothing.
+pub mod pairs;
+
 ghost use mathlib.Core.Path.{_≡_};
 ghost use Prim.Native.Nat.{_+_, _*_, _/_, _%_, _<_};
 ghost use lib.Dec.{eqb};

@@ -1,21 +1,31 @@
 // What the camera's C firmware calls: gathering, prediction and replay on numbers and byte slices, samples of two bytes, the lower first.
 // Each entry gives back its number, and writes nothing where it refuses. Rests on the doors' contracts and on how rows are stored.
+pub mod byte_angular;
+pub mod byte_answer;
+pub mod byte_entry;
+pub mod byte_flat;
+pub mod byte_predict;
+pub mod byte_rebuild;
+pub mod byte_refs;
+pub mod byte_replay;
+pub mod byte_rows;
+
 ghost use mathlib.Core.Path.{_≡_};
-ghost use Rattle.byte_replay.specs.Door.{replayed};
-ghost use Rattle.byte_entry.specs.Entries.{wrote};
-ghost use Rattle.byte_flat.specs.Entries.{planarEntry, dcEntry};
-ghost use Rattle.byte_angular.specs.Entries.{angularEntry};
-ghost use Rattle.byte_predict.specs.Entries.{chromaBlockEntry};
-ghost use Rattle.byte_refs.specs.Entry.{lumaEntry, chromaEntry};
+ghost use Rattle.camera.specs.byte_replay.Door.{replayed};
+ghost use Rattle.camera.specs.byte_entry.Entries.{wrote};
+ghost use Rattle.camera.specs.byte_flat.Entries.{planarEntry, dcEntry};
+ghost use Rattle.camera.specs.byte_angular.Entries.{angularEntry};
+ghost use Rattle.camera.specs.byte_predict.Entries.{chromaBlockEntry};
+ghost use Rattle.camera.specs.byte_refs.Entry.{lumaEntry, chromaEntry};
 use fmt::ChromaCol;
 use fmt::ChromaRow;
 use fmt::LumaCol;
 use fmt::LumaRow;
 use order::Picture;
+use plan::tiling::Frame;
 use refs::ChromaRefGeometry;
 use refs::LumaRefGeometry;
-use still::Still;
-use tiling::Frame;
+use walk::still::Still;
 
 // The reference rows of a luma block, out of a plane of exactly 2 · width · height bytes: the corner, 65 samples above, 65 samples left,
 // in the first 262 bytes of `out`. Numbers 1, 2, 4, 5, 6.

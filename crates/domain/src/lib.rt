@@ -1,5 +1,8 @@
 // Document 01's domain: which depths, sizes, modes, sides, CTUs and units there are, each told by one test.
 // Every door asks these and no other. Rests on the laws alone.
+pub mod helpers;
+pub mod rows;
+
 ghost use mathlib.Core.Path.{_≡_};
 ghost use Rattle.domain.specs.Domain.{depthOk, sizeOk, modeOk, sideOk, ctuOk, unitOk};
 

@@ -1,5 +1,7 @@
 // Chroma format: the rules of fmt.rs about it that the port takes, the door from a number, and the kinds of places. Depth is in crate depth.
 // Assumes nothing.
+pub mod depth;
+
 ghost use mathlib.Core.Path.{_≡_};
 ghost use Prim.Native.Nat.{_*_, _/_, _<_, _≤_};
 ghost use Rattle.fmt.specs.Fmt.{subWidth, subHeight, formatFrom};

@@ -14,11 +14,11 @@ use Rattle.domain.specs.Domain.{sideOk, ctuOk, unitOk}
 use Rattle.domain.specs.Facts.{Ctu, Unit, Side, ctu-of, unit-of, side-of}
 use Rattle.fmt.specs.declared.LumaRow.{LumaRow}
 use Rattle.fmt.specs.declared.LumaCol.{LumaCol}
-use Rattle.cells.specs.Row.{ctusOf}
+use Rattle.order.specs.cells.Row.{ctusOf}
 use Rattle.order.specs.declared.Picture.{Picture}
 use Rattle.order.specs.declared.Shifts.{Shifts}
 use Rattle.order.specs.Order.{gridOf, numberAt, pictureOk, placeOk, orderNo}
-use Rattle.order.specs.Cells.{cellNo, cell-bound, cell-zs}
+use Rattle.order.specs.CellWalk.{cellNo, cell-bound, cell-zs}
 
 pub record Good (p : Picture) : Type 0 where
   pub wide : Side (p .width)

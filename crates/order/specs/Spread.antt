@@ -6,8 +6,8 @@ use native.Mathlib.Omega.{arith}
 use lib.Arith.{mod-mul}
 use lib.Pow.{pow-pos}
 use Rattle.h265.specs.Order.{interleaved, zScan}
-use Rattle.cells.specs.Spread.{spread, interleaved-spread}
-use Rattle.order.specs.Cells.{half-half, quad}
+use Rattle.order.specs.cells.Spread.{spread, interleaved-spread}
+use Rattle.order.specs.CellWalk.{half-half, quad}
 
 -- bits above the number's own are 0
 top : (j v : ℕ) → v < 2 ^ j → spread (suc j) v ≡ spread j v

@@ -1,5 +1,7 @@
 // Decode order of a picture's cells (H.265 6.5.2) and which luma neighbours are available (document 01, module 2).
 // Rests on the domain's tests, on what a cell's number is made of and on the kinds of places.
+pub mod cells;
+
 ghost use mathlib.Core.Path.{_≡_};
 ghost use Prim.Native.Nat.{ℕ, _+_, _-_, _*_, _/_, _%_, _^_, _≤_, _<_, min};
 ghost use lib.Dec.{ltb, eqb};

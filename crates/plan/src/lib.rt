@@ -1,14 +1,20 @@
 // Plans: which blocks, in which order, cover a still (document 01, 'Plan, walk, replay').
 // Rests on the steps of a verdict.
+pub mod block_check;
+pub mod next_cell;
+pub mod records;
+pub mod tiling;
+pub mod verdict;
+
 ghost use mathlib.Core.Path.{_≡_};
 ghost use Prim.Native.Nat.{_<_};
 ghost use lib.ListN.{length};
-ghost use Rattle.tiling.specs.Plan.{planOf, listed};
-ghost use Rattle.plan.specs.Records.{recordsOf, bytesVerdict};
-ghost use Rattle.tiling.specs.PlanCheck.{planVerdict};
-use tiling::Block;
-use tiling::Frame;
-use tiling::Verdict;
+ghost use Rattle.plan.specs.tiling.Plan.{planOf, listed};
+ghost use Rattle.plan.specs.RecordPlan.{recordsOf, bytesVerdict};
+ghost use Rattle.plan.specs.tiling.PlanCheck.{planVerdict};
+use crate::tiling::Block;
+use crate::tiling::Frame;
+use crate::tiling::Verdict;
 
 // Block i of a plan.
 fn block_at(plan: &[[u32; 4]], i: usize) -> Block

@@ -17,14 +17,14 @@ use Rattle.h265.specs.Setting.{Component, lumaAt, first}
 use Rattle.h265.specs.Filtering.{filterFlag, filtered}
 use Rattle.h265.specs.Prediction.{filters, prepared, predSamples}
 use Rattle.h265.specs.Mean.{Agree}
-use Rattle.rows.specs.declared.Rows.{Rows}
-use Rattle.rows.specs.Neighbours.{neighboursOf}
+use Rattle.domain.specs.declared.rows.Rows.{Rows}
+use Rattle.domain.specs.rows.Neighbours.{neighboursOf}
 use Rattle.smooth.specs.Smoothing.{smoothed, ruleDoor, lumaDoor}
 use Rattle.smooth.specs.Standard.{is-standard}
-use Rattle.luma_rows.specs.LumaRows.{usedRows}
-use Rattle.by_mode.specs.Door.{Block, fit, side, highest}
-use Rattle.numbers.specs.Numbers.{Lent, predictNo}
-use Rattle.modes.specs.Modes.{byMode, plain, is-by-mode, by-mode-alone}
+use Rattle.predict.specs.luma_rows.LumaRows.{usedRows}
+use Rattle.predict.specs.by_mode.Door.{Block, fit, side, highest}
+use Rattle.samples.specs.numbers.Numbers.{Lent, predictNo}
+use Rattle.predict.specs.modes.Modes.{byMode, plain, is-by-mode, by-mode-alone}
 
 -- chroma of the first edition; how it is sampled, here 4:2:0, plays no part once the neighbours are there
 abbrev pub chromaAt : ℕ → Component

@@ -1,5 +1,13 @@
 // A block's prediction in any mode, H.265 8.4.4.2.1: chroma from its references as they are, luma from references that are smoothed by the rule.
 // Rests on the choice by mode and on the rows that it is given.
+pub mod angular;
+pub mod by_mode;
+pub mod flat;
+pub mod luma_rows;
+pub mod scratch;
+pub mod scratch_angular;
+pub mod scratch_predict;
+
 ghost use mathlib.Core.Path.{_≡_};
 ghost use mathlib.Core.Bool.{true};
 ghost use Prim.Native.Nat.{ℕ};
@@ -9,9 +17,10 @@ ghost use Rattle.laws.specs.Choose.{served};
 ghost use Rattle.h265.specs.Notation.{fromRows};
 ghost use Rattle.h265.specs.Setting.{lumaAt, first};
 ghost use Rattle.h265.specs.Prediction.{predSamples};
-ghost use Rattle.rows.specs.Neighbours.{neighboursOf};
-ghost use Rattle.numbers.specs.Numbers.{predictNo};
+ghost use Rattle.domain.specs.rows.Neighbours.{neighboursOf};
+ghost use Rattle.samples.specs.numbers.Numbers.{predictNo};
 ghost use Rattle.predict.specs.Contents.{chromaAt};
+use domain::rows;
 
 // A chroma block: nothing is smoothed, and no edge is filtered. The last three slices are scratch.
 pub fn predict_chroma_tb_slices(

@@ -1,2 +1,3 @@
 -- Probes: the doors' answers as the plain numbers that the entries hand over.
 pub mod Probes
+pub mod walk_probes

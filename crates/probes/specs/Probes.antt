@@ -4,11 +4,11 @@ use mathlib.Core.Bool.{Bool, true, false}
 use mathlib.Core.List.{List, []}
 use lib.IntN.{ℤ}
 use lib.ListN.{getD}
-use Rattle.depth.specs.declared.DepthFrom.{DepthFrom}
-use Rattle.depth.specs.declared.DepthFrom.the-variants.{Depth, Refused}
+use Rattle.fmt.specs.declared.depth.DepthFrom.{DepthFrom}
+use Rattle.fmt.specs.declared.depth.DepthFrom.the-variants.{Depth, Refused}
 use Rattle.fmt.specs.declared.FormatFrom.{FormatFrom}
 use Rattle.fmt.specs.declared.FormatFrom.the-variants.{Format, Unknown}
-use Rattle.depth.specs.Depth.{bitsOf, largest, neutralOf, depthFrom}
+use Rattle.fmt.specs.depth.Depth.{bitsOf, largest, neutralOf, depthFrom}
 use Rattle.fmt.specs.Fmt.{formatFrom, subWidth, subHeight}
 use Rattle.fmt.specs.Places.{lumaRow, lumaCol, chromaRow, chromaCol}
 use Rattle.order.specs.declared.Picture.{Picture}
@@ -19,12 +19,12 @@ use Rattle.smooth.specs.declared.Rule.{Rule}
 use Rattle.smooth.specs.declared.FilteredRows.{FilteredRows}
 use Rattle.smooth.specs.declared.Smoothed.{Smoothed}
 use Rattle.smooth.specs.Smoothing.{ruleDoor, filterDoor, lumaDoor}
-use Rattle.rows.specs.declared.Rows.{Rows}
-use Rattle.substitution.specs.declared.Flags.{Flags}
-use Rattle.rows.specs.declared.Gathered.{Gathered}
+use Rattle.domain.specs.declared.rows.Rows.{Rows}
+use Rattle.refs.specs.declared.substitution.Flags.{Flags}
+use Rattle.domain.specs.declared.rows.Gathered.{Gathered}
 use Rattle.refs.specs.declared.GatheredPair.{GatheredPair}
 use Rattle.refs.specs.declared.ChromaRefGeometry.{ChromaRefGeometry}
-use Rattle.substitution.specs.Door.{substituteDoor}
+use Rattle.refs.specs.substitution.Door.{substituteDoor}
 use Rattle.refs.specs.Door as gather
 use Rattle.probes.specs.declared.Answer.{Answer}
 use Rattle.probes.specs.declared.PairReferences.{PairReferences}

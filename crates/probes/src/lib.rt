@@ -1,23 +1,27 @@
 // Entries at native types for the runs of what comes before prediction, the rules of fmt, order, smoothing and gathering, against the Rust: each calls a
 // door and hands its answer over as plain numbers. Rests on the doors' contracts.
+pub mod predict_probes;
+pub mod walk_probes;
+
 ghost use mathlib.Core.Path.{_≡_};
 ghost use Rattle.probes.specs.Probes.{depthFigures, formatFigures, onLuma, onChroma, orderAnswer, availableAnswer};
 ghost use Rattle.probes.specs.Probes.{ruleAnswer, filterAnswer, lumaAnswer};
 ghost use Rattle.probes.specs.Probes.{pictureOf, substituteAnswer, gatherAnswer, pairAnswer};
-use depth::BitDepth;
-use depth::DepthFrom;
+use domain::rows::Rows;
 use fmt::ChromaCol;
 use fmt::ChromaFormat;
 use fmt::ChromaRow;
 use fmt::FormatFrom;
 use fmt::LumaCol;
 use fmt::LumaRow;
+use fmt::depth::BitDepth;
+use fmt::depth::DepthFrom;
 use order::LumaNeighbour;
 use order::Picture;
 use refs::ChromaRefGeometry;
 use refs::LumaRefGeometry;
-use rows::Rows;
-use substitution::Flags;
+use refs::substitution;
+use refs::substitution::Flags;
 
 // A depth's figures, all 0 where the call is refused.
 #[repr(C)]

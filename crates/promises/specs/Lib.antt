@@ -2,3 +2,8 @@
 pub mod OnBytes
 -- Program: intrawalk prints a refusal, or all blocks and `same`.
 pub mod Program
+pub mod demand2
+pub mod demand3
+pub mod tables
+pub mod run_tables
+pub mod one_answer

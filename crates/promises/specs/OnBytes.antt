@@ -12,22 +12,22 @@ use Rattle.laws.specs.Choose.{served}
 use Rattle.laws.specs.Chain.{sum}
 use Rattle.bytes.specs.Bytes.{samplesOf, residualsOf}
 use Rattle.bytes.specs.Laws.{AreBytes, length-samples}
-use Rattle.tiling.specs.declared.Verdict.{Verdict}
-use Rattle.tiling.specs.Plan.{Plan}
-use Rattle.plan.specs.Records.{recordsOf}
-use Rattle.still.specs.declared.Still.{Still}
-use Rattle.steps.specs.Steps.{doing}
-use Rattle.walked.specs.Block.{World}
+use Rattle.plan.specs.declared.tiling.Verdict.{Verdict}
+use Rattle.plan.specs.tiling.Plan.{Plan}
+use Rattle.plan.specs.RecordPlan.{recordsOf}
+use Rattle.walk.specs.declared.still.Still.{Still}
+use Rattle.walk.specs.steps.Steps.{doing}
+use Rattle.walk.specs.walked.Block.{World}
 use Rattle.walk.specs.declared.Progress.{Progress}
 use Rattle.walk.specs.declared.Stepped.{Stepped}
 use Rattle.walk.specs.Door.{steppedBy}
-use Rattle.byte_answer.specs.Door.{Lent, bytesFit, byteVerdict}
-use Rattle.byte_answer.specs.Laws.{fitting}
-use Rattle.byte_replay.specs.Door.{nextWritten, planeAfter}
-use Rattle.byte_replay.specs.Laws.{own}
-use Rattle.byte_replay.specs.Spelt.{spelt-verdict, left}
-use Rattle.demand3.specs.Calls.{Job, Held, Served, count, fresh, calls, walkNo, walkCall, replayCall}
-use Rattle.demand3.specs.Proof3.{demand-3}
+use Rattle.camera.specs.byte_answer.Door.{Lent, bytesFit, byteVerdict}
+use Rattle.camera.specs.byte_answer.Laws.{fitting}
+use Rattle.camera.specs.byte_replay.Door.{nextWritten, planeAfter}
+use Rattle.camera.specs.byte_replay.Laws.{own}
+use Rattle.camera.specs.byte_replay.Spelt.{spelt-verdict, left}
+use Rattle.promises.specs.demand3.Calls.{Job, Held, Served, count, fresh, calls, walkNo, walkCall, replayCall}
+use Rattle.promises.specs.demand3.Proof3.{demand-3}
 
 -- what all calls share: the still, the bytes of plan and residuals, and how long the result buffer is
 pub record ByteJob : Type 0 where

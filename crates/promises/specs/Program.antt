@@ -10,14 +10,14 @@ use lib.Dec.{eqb}
 use lib.ListN.{length, getD, length-replicate}
 use borrow.Author.Tests.{eq-eqb, eqb-true}
 use Rattle.laws.specs.Chain.{sum}
-use Rattle.file.specs.File.{fileOk}
-use Rattle.spans.specs.Spans.{agree}
-use Rattle.text.specs.Text.{refusal, ending}
+use Rattle.report.specs.file.File.{fileOk}
+use Rattle.walk.specs.spans.Spans.{agree}
+use Rattle.report.specs.text.Text.{refusal, ending}
 use Rattle.report.specs.Told.{tables, zeros, blank, verdict, residuals, replayed, lines, told, printed, jobOf}
 use Rattle.report.specs.Told.{Job as File}
-use Rattle.demand3.specs.Calls.{Job, calls}
-use Rattle.demand3.specs.Chains.{sum-none, sum-more}
-use Rattle.demand3.specs.Proof3.{demand-3}
+use Rattle.promises.specs.demand3.Calls.{Job, calls}
+use Rattle.promises.specs.demand3.Chains.{sum-none, sum-more}
+use Rattle.promises.specs.demand3.Proof3.{demand-3}
 
 -- a file's walk and replay as demand 3 has them: one call each, which is granted every block
 abbrev job : File → Job

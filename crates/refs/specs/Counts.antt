@@ -18,10 +18,10 @@ use Rattle.laws.specs.Choose.{if-yes, if-no}
 use Rattle.h265.specs.Substitution.{firstMarked}
 use Rattle.order.specs.declared.Reach.{Reach}
 use Rattle.order.specs.Reach.{cornerHas, aboveHas, leftHas}
-use Rattle.rows.specs.declared.Rows.{Rows}
-use Rattle.substitution.specs.Substitution.{flagsOn, samplesOn, levelRows, substituted}
+use Rattle.domain.specs.declared.rows.Rows.{Rows}
+use Rattle.refs.specs.substitution.Substitution.{flagsOn, samplesOn, levelRows, substituted}
 use Rattle.refs.specs.Gather.{flagsBy, samplesBy, gatheredBy}
-use Rattle.substitution.specs.Line.{on-left, on-corner, on-above, anyBy, startBy, leftBy, cornerBy, restBy, aboveBy, CountedLine, told, settled-left, settled-corner, settled-above, starts, nothing}
+use Rattle.refs.specs.substitution.Line.{on-left, on-corner, on-above, anyBy, startBy, leftBy, cornerBy, restBy, aboveBy, CountedLine, told, settled-left, settled-corner, settled-above, starts, nothing}
 
 -- the samples of a block's neighbours
 abbrev pub aboveAt : (ℕ → ℕ → ℕ) → ℕ → ℕ → ℕ → ℕ

@@ -13,13 +13,13 @@ use Rattle.order.specs.declared.LumaBlock.{LumaBlock}
 use Rattle.order.specs.declared.ChromaBlock.{ChromaBlock}
 use Rattle.order.specs.Order.{pictureOk}
 use Rattle.order.specs.Reach.{lumaPlaceOk, lumaHas, chromaPlaceOk, chromaHas, chromaHeight, chromaWidth}
-use Rattle.rows.specs.declared.Rows.{Rows}
-use Rattle.rows.specs.declared.Gathered.{Gathered}
+use Rattle.domain.specs.declared.rows.Rows.{Rows}
+use Rattle.domain.specs.declared.rows.Gathered.{Gathered}
 use Rattle.refs.specs.declared.GatheredPair.{GatheredPair}
 use Rattle.refs.specs.declared.LumaRefGeometry.{LumaRefGeometry}
 use Rattle.refs.specs.declared.ChromaRefGeometry.{ChromaRefGeometry}
-use Rattle.substitution.specs.Substitution.{levelRows}
-use Rattle.substitution.specs.Door.{neutralAt}
+use Rattle.refs.specs.substitution.Substitution.{levelRows}
+use Rattle.refs.specs.substitution.Door.{neutralAt}
 use Rattle.refs.specs.Gather.{gatheredBy, sampleOf}
 
 -- The luma gather refuses 1, 2, 4, 5, 6; a plane of another length than the picture's is not whole.

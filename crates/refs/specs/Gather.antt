@@ -6,9 +6,9 @@ use lib.IntN.{ℤ}
 use lib.ListN.{getD, replicate}
 use Rattle.laws.specs.Fill.{fill}
 use Rattle.order.specs.Reach.{cornerHas, aboveHas, leftHas}
-use Rattle.rows.specs.declared.Rows.{Rows}
-use Rattle.substitution.specs.declared.Flags.{Flags}
-use Rattle.substitution.specs.Substitution.{substituted}
+use Rattle.domain.specs.declared.rows.Rows.{Rows}
+use Rattle.refs.specs.declared.substitution.Flags.{Flags}
+use Rattle.refs.specs.substitution.Substitution.{substituted}
 
 -- which neighbours of the block at (row, col) are there, entries 0 to 2n
 abbrev pub flagsBy : (ℤ → ℤ → Bool) → ℕ → ℕ → ℕ → Flags

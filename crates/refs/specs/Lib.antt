@@ -8,3 +8,5 @@ pub mod Spots
 pub mod Seen
 pub mod Rules
 pub mod Served
+pub mod substitution
+pub mod standard

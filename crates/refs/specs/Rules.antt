@@ -18,11 +18,11 @@ use Rattle.order.specs.declared.ChromaBlock.{ChromaBlock}
 use Rattle.order.specs.Order.{before, numberAt}
 use Rattle.order.specs.Good.{Good}
 use Rattle.order.specs.Leading.{leading-from-leads}
-use Rattle.order_laws.specs.Laws.{row-rises, col-rises, before-up, before-left}
+use Rattle.order.specs.order_laws.Laws.{row-rises, col-rises, before-up, before-left}
 use Rattle.order.specs.Reach.{aboveHas, leftHas, leading, reachBy, lumaHas, chromaHas, chromaHeight, chromaWidth}
 use Rattle.refs.specs.Counts.{Counted}
 use Rattle.refs.specs.Spots.{spotOf, Reads}
-use Rattle.substitution.specs.Line.{told}
+use Rattle.refs.specs.substitution.Line.{told}
 
 -- nothing is there above or left of the plane
 pub record Bounded (has : ℤ → ℤ → Bool) : Type 0 where

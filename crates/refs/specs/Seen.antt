@@ -11,10 +11,10 @@ use Rattle.laws.specs.Choose.{if-yes, if-no}
 use Rattle.laws.specs.Fill.{fill, run}
 use Rattle.laws.specs.FillLaws.{fill-at, fill-same, fill-run}
 use Rattle.order.specs.declared.Reach.{Reach}
-use Rattle.rows.specs.declared.Rows.{Rows}
+use Rattle.domain.specs.declared.rows.Rows.{Rows}
 use Rattle.refs.specs.declared.Spot.{Spot}
-use Rattle.substitution.specs.Substitution.{levelRows}
-use Rattle.substitution.specs.Line.{anyBy}
+use Rattle.refs.specs.substitution.Substitution.{levelRows}
+use Rattle.refs.specs.substitution.Line.{anyBy}
 use Rattle.refs.specs.Spots.{cornerOn, aboveOn, leftOn, planeRows, Few}
 use Rattle.refs.specs.Counts.{startOf, cornerOf, restOf, edgeOf, reached, fromReach}
 

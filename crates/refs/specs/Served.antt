@@ -18,16 +18,16 @@ use Rattle.order.specs.declared.Reach.{Reach}
 use Rattle.order.specs.Order.{pictureOk}
 use Rattle.order.specs.Reach.{reachBy, noReach, lumaPlaceOk, lumaReachNo, lumaHas, lumaReach, colour, chromaPlaceOk, chromaReachNo, chromaHas, chromaReach, chromaWidth}
 use Rattle.order.specs.Blocks.{luma-fine, chroma-fine}
-use Rattle.rows.specs.declared.Rows.{Rows}
+use Rattle.domain.specs.declared.rows.Rows.{Rows}
 use Rattle.refs.specs.declared.GatheredPair.{GatheredPair}
 use Rattle.refs.specs.declared.Spot.{Spot}
 use Rattle.refs.specs.declared.LumaRefGeometry.{LumaRefGeometry}
 use Rattle.refs.specs.declared.ChromaRefGeometry.{ChromaRefGeometry}
 use Rattle.refs.specs.Gather.{gatheredBy, sampleOf}
-use Rattle.substitution.specs.Door.{neutralAt, neutralFor}
+use Rattle.refs.specs.substitution.Door.{neutralAt, neutralFor}
 use Rattle.refs.specs.Door.{lumaBlock, lumaNumber, lumaLength, lumaNo, lumaRows, formatOf, chromaPicture, chromaBlock, chromaLength, chromaNumber, chromaNo, chromaRows}
-use Rattle.substitution.specs.Line.{told}
-use Rattle.substitution.specs.Served.{neutral-for}
+use Rattle.refs.specs.substitution.Line.{told}
+use Rattle.refs.specs.substitution.Served.{neutral-for}
 use Rattle.refs.specs.Counts.{Counted}
 use Rattle.refs.specs.Spots.{spotOf, lumaSpot, chromaSpot, planeRows, Reads, rows-are}
 use Rattle.refs.specs.Rules.{Rule, luma-rule, chroma-rule, counted, reads}

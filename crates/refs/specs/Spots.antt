@@ -8,7 +8,7 @@ use lib.IntN.{ℤ}
 use lib.ListN.{getD}
 use Rattle.order.specs.declared.Reach.{Reach}
 use Rattle.order.specs.Reach.{chromaWidth}
-use Rattle.rows.specs.declared.Rows.{Rows}
+use Rattle.domain.specs.declared.rows.Rows.{Rows}
 use Rattle.refs.specs.declared.Spot.{Spot}
 use Rattle.refs.specs.declared.LumaRefGeometry.{LumaRefGeometry}
 use Rattle.refs.specs.declared.ChromaRefGeometry.{ChromaRefGeometry}

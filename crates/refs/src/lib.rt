@@ -1,5 +1,7 @@
 // Reference samples: the luma gather and the chroma pair gather (document 01, modules 3 and 4).
 // Rests on the contracts of order (which neighbours are there) and on substitution; a sample's value never says whether it is there.
+pub mod substitution;
+
 ghost use mathlib.Core.Path.{_≡_};
 ghost use mathlib.Core.List.{[], _∷_};
 ghost use Prim.Native.Nat.{ℕ, _+_, _-_, _*_, _/_, _≤_, _<_};
@@ -9,9 +11,11 @@ ghost use Rattle.order.specs.Edges.{Step};
 ghost use Rattle.order.specs.Reach.{lumaReach, chromaReach, chromaWidth};
 ghost use Rattle.refs.specs.Door.{lumaBlock, lumaLength, lumaNo, lumaRows, lumaDoor, formatOf, chromaBlock, chromaLength, chromaNo, chromaRows, chromaDoor};
 ghost use Rattle.refs.specs.Served.{gatherNo};
-ghost use Rattle.substitution.specs.Line.{restBy};
+ghost use Rattle.refs.specs.substitution.Line.{restBy};
 ghost use Rattle.refs.specs.Spots.{spotOf, lumaSpot, chromaSpot, onEdge, cornerOn, planeRows, Few, Reads};
 ghost use Rattle.refs.specs.Seen.{seenCorner, entry, padded, padRows};
+use domain::rows::Gathered;
+use domain::rows::Rows;
 use fmt::ChromaCol;
 use fmt::ChromaFormat;
 use fmt::ChromaRow;
@@ -21,8 +25,6 @@ use order::ChromaBlock;
 use order::LumaBlock;
 use order::Picture;
 use order::Reach;
-use rows::Gathered;
-use rows::Rows;
 
 // A call's number, and the rows of Cb and of Cr, all 0 where it is refused.
 pub struct GatheredPair {

@@ -4,12 +4,12 @@
 // The list is made by `tests/differential/run list`. A line is eleven words of eight hex digits: the kind of the call, what
 // it is given, what it is to answer, and zeros. A line that opens with # and eight spaces is a comment, as long as the others.
 ghost use Prim.Native.Nat.{_+_, _≤_};
-use depth::BitDepth;
-use depth::DepthFrom;
 use fmt::ChromaFormat;
 use fmt::FormatFrom;
 use fmt::LumaCol;
 use fmt::LumaRow;
+use fmt::depth::BitDepth;
+use fmt::depth::DepthFrom;
 use listing::Count;
 use order::LumaNeighbour;
 use order::Picture;

@@ -10,8 +10,10 @@
 // samples of either end. The corner has the seed's own, the row above the numbers that follow, the row on the left and the
 // second block those that follow `other` of the seed.
 ghost use Prim.Native.Nat.{_+_, _≤_, _<_};
+use domain::rows::Rows;
 use listing::Count;
-use rows::Rows;
+use predict::angular;
+use predict::flat;
 
 // What a line gives a call, and the number and the value that it wants.
 struct Call {

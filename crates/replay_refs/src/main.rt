@@ -14,6 +14,7 @@
 ghost use Prim.Native.Nat.{_≤_, _<_};
 ghost use lib.ListN.{length};
 ghost use mathlib.Core.Path.{_≡_};
+use domain::rows::Rows;
 use fmt::ChromaCol;
 use fmt::ChromaRow;
 use fmt::LumaCol;
@@ -22,8 +23,8 @@ use listing::Count;
 use order::Picture;
 use refs::ChromaRefGeometry;
 use refs::LumaRefGeometry;
-use rows::Rows;
-use substitution::Flags;
+use refs::substitution;
+use refs::substitution::Flags;
 
 // What a line gives a call, which entries it compares, and the number and the corner that it wants.
 struct Call {

@@ -10,17 +10,17 @@ use lib.IntN.{ℤ}
 use lib.Seq.{take-at, set-append-left}
 use Rattle.laws.specs.Fill.{fill}
 use Rattle.laws.specs.FillLaws.{length-fill}
-use Rattle.tiling.specs.declared.Block.{Block}
-use Rattle.tiling.specs.Tiling.{place}
-use Rattle.tiling.specs.Plan.{Plan}
+use Rattle.plan.specs.declared.tiling.Block.{Block}
+use Rattle.plan.specs.tiling.Tiling.{place}
+use Rattle.plan.specs.tiling.Plan.{Plan}
 use Rattle.walk.specs.declared.Stepped.{Stepped}
-use Rattle.walked.specs.Block.{World}
-use Rattle.calls.specs.Door.{walkVerdict, walkAfter}
+use Rattle.walk.specs.walked.Block.{World}
+use Rattle.walk.specs.calls.Door.{walkVerdict, walkAfter}
 use Rattle.walk.specs.Door.{steppedBy}
-use Rattle.rebuilt.specs.Places.{place-in}
-use Rattle.spans.specs.Spans.{absolutes}
-use Rattle.text.specs.Text.{laid, line}
-use Rattle.text.specs.Laws.{Laid, then, said}
+use Rattle.walk.specs.rebuilt.Places.{place-in}
+use Rattle.walk.specs.spans.Spans.{absolutes}
+use Rattle.report.specs.text.Text.{laid, line}
+use Rattle.report.specs.text.Laws.{Laid, then, said}
 use Rattle.report.specs.Told.{Job, tables, fresh, lines}
 
 -- a plan whose blocks have their residuals among so many, and of which the text has room

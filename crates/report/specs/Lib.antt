@@ -3,3 +3,5 @@ pub mod Told
 -- Laws: what joins the functions that lay all lines. Whole: what joins them with walk and replay.
 pub mod Laws
 pub mod Whole
+pub mod file
+pub mod text

@@ -5,20 +5,20 @@ use mathlib.Core.List.{List, [], _++_}
 use lib.Dec.{eqb}
 use lib.IntN.{ℤ, pos}
 use lib.ListN.{length, replicate}
-use Rattle.tiling.specs.declared.Verdict.{Verdict}
-use Rattle.tiling.specs.declared.Block.{Block}
-use Rattle.tiling.specs.Tiling.{place}
-use Rattle.tiling.specs.Plan.{Plan, planOf}
-use Rattle.still.specs.declared.Still.{Still}
+use Rattle.plan.specs.declared.tiling.Verdict.{Verdict}
+use Rattle.plan.specs.declared.tiling.Block.{Block}
+use Rattle.plan.specs.tiling.Tiling.{place}
+use Rattle.plan.specs.tiling.Plan.{Plan, planOf}
+use Rattle.walk.specs.declared.still.Still.{Still}
 use Rattle.walk.specs.declared.Progress.{Progress}
-use Rattle.walked.specs.Block.{World}
-use Rattle.still.specs.Checks.{Tables}
-use Rattle.calls.specs.Door.{walkVerdict, walkAfter, replayAfter}
+use Rattle.walk.specs.walked.Block.{World}
+use Rattle.walk.specs.still.Checks.{Tables}
+use Rattle.walk.specs.calls.Door.{walkVerdict, walkAfter, replayAfter}
 use Rattle.report.specs.declared.Printout.{Printout}
-use Rattle.file.specs.declared.Trailer.{Trailer}
-use Rattle.file.specs.File.{trailerOf, fileOk, sourceOf, recordsOf}
-use Rattle.spans.specs.Spans.{agree, absolutes}
-use Rattle.text.specs.Text.{laid, line, refusal, ending}
+use Rattle.report.specs.declared.file.Trailer.{Trailer}
+use Rattle.report.specs.file.File.{trailerOf, fileOk, sourceOf, recordsOf}
+use Rattle.walk.specs.spans.Spans.{agree, absolutes}
+use Rattle.report.specs.text.Text.{laid, line, refusal, ending}
 
 -- a file's contents: the still, its plan and its source
 pub record Job : Type 0 where

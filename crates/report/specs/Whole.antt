@@ -14,22 +14,22 @@ use Rattle.laws.specs.FillLaws.{length-fill}
 use Rattle.laws.specs.Bytes.{leAt}
 use Rattle.laws.specs.Choose.{if-yes, if-no, both-true, unserved}
 use Rattle.domain.specs.Facts.{size-small}
-use Rattle.file.specs.declared.Trailer.{Trailer}
-use Rattle.file.specs.File.{trailerOf, area, regionsOk, fileOk, sourceOf, recordAt, recordsOf}
-use Rattle.tiling.specs.declared.Verdict.{Verdict}
-use Rattle.tiling.specs.Plan.{Plan, planOf}
-use Rattle.tiling.specs.Cover.{area as plan-area}
-use Rattle.still.specs.declared.Still.{Still}
+use Rattle.report.specs.declared.file.Trailer.{Trailer}
+use Rattle.report.specs.file.File.{trailerOf, area, regionsOk, fileOk, sourceOf, recordAt, recordsOf}
+use Rattle.plan.specs.declared.tiling.Verdict.{Verdict}
+use Rattle.plan.specs.tiling.Plan.{Plan, planOf}
+use Rattle.plan.specs.tiling.Cover.{area as plan-area}
+use Rattle.walk.specs.declared.still.Still.{Still}
 use Rattle.walk.specs.declared.Progress.{Progress}
 use Rattle.walk.specs.declared.Stepped.{Stepped}
-use Rattle.walked.specs.Block.{World}
-use Rattle.calls.specs.Door.{walkVerdict, walkAfter, replayAfter}
-use Rattle.calls.specs.Ready.{Sound}
-use Rattle.calls.specs.Laws.{walk-sound}
+use Rattle.walk.specs.walked.Block.{World}
+use Rattle.walk.specs.calls.Door.{walkVerdict, walkAfter, replayAfter}
+use Rattle.walk.specs.calls.Ready.{Sound}
+use Rattle.walk.specs.calls.Laws.{walk-sound}
 use Rattle.walk.specs.Door.{steppedBy}
-use Rattle.spans.specs.Spans.{agree}
-use Rattle.text.specs.Text.{laid, refusal, ending}
-use Rattle.text.specs.Laws.{Laid}
+use Rattle.walk.specs.spans.Spans.{agree}
+use Rattle.report.specs.text.Text.{laid, refusal, ending}
+use Rattle.report.specs.text.Laws.{Laid}
 use Rattle.report.specs.declared.Printout.{Printout}
 use Rattle.report.specs.Told.{Job, stillOf, jobOf, tables, fresh, zeros, blank, verdict, residuals, replayed, lines, told, printed, reportOf}
 use Rattle.report.specs.Laws.{Listed, Walked, take-fill}

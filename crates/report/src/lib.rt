@@ -1,22 +1,26 @@
 // What intrawalk prints of its input (document 01, 'The program'): the whole text, from the bytes alone.
 // Rests on the contracts of walk and replay, of the sums and of the lines.
+pub mod file;
+pub mod text;
+
 ghost use mathlib.Core.Path.{_≡_};
 ghost use Prim.Native.Nat.{_≤_, _<_};
 ghost use lib.ListN.{replicate};
 ghost use lib.ListN.{length as count};
 ghost use lib.IntN.{pos};
-ghost use Rattle.tiling.specs.Plan.{planOf};
-ghost use Rattle.calls.specs.Door.{replayAfter};
+ghost use Rattle.plan.specs.tiling.Plan.{planOf};
+ghost use Rattle.walk.specs.calls.Door.{replayAfter};
 ghost use Rattle.report.specs.Told.{stillOf, tables, lines, told, jobOf, printed, reportOf};
-ghost use Rattle.text.specs.Laws.{Laid};
+ghost use Rattle.report.specs.text.Laws.{Laid};
 ghost use Rattle.report.specs.Laws.{Listed, Walked};
 ghost use Rattle.report.specs.Whole.{Blank, Held};
-use file::Trailer;
-use still::Still;
-use tiling::Block;
-use tiling::Frame;
+use crate::file::Trailer;
+use plan::tiling::Block;
+use plan::tiling::Frame;
 use walk::Progress;
 use walk::Stepped;
+use walk::spans;
+use walk::still::Still;
 
 // The text and how many bytes it has.
 pub struct Printout {

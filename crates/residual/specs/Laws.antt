@@ -17,8 +17,8 @@ use Rattle.laws.specs.FillLaws.{fill-at, fill-run}
 use Rattle.laws.specs.Choose.{Check, _unless_, firstFail, passed, both-true}
 use Rattle.domain.specs.Domain.{depthOk, sizeOk}
 use Rattle.domain.specs.Facts.{Depth, Size, depth-of, size-of}
-use Rattle.deltas.specs.Deltas.{inRange}
-use Rattle.deltas.specs.Laws.{small}
+use Rattle.samples.specs.deltas.Deltas.{inRange}
+use Rattle.samples.specs.deltas.Laws.{small}
 use Rattle.residual.specs.Residual.{allInRange, blockChecks, residualNo, reconstructNo}
 
 -- nothing laid over nothing

@@ -9,7 +9,7 @@ use Rattle.laws.specs.Fill.{fill}
 use Rattle.laws.specs.Choose.{Check, _unless_, firstFail, served}
 use Rattle.h265.specs.Notation.{clipTo}
 use Rattle.domain.specs.Domain.{depthOk, sizeOk}
-use Rattle.deltas.specs.Deltas.{inRange}
+use Rattle.samples.specs.deltas.Deltas.{inRange}
 
 -- original less prediction, at entry i
 abbrev pub residualAt : List ℕ → List ℕ → ℕ → ℤ

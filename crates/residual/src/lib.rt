@@ -9,6 +9,9 @@ ghost use Rattle.h265.specs.Notation.{clipTo};
 ghost use Rattle.domain.specs.Facts.{Size};
 ghost use Rattle.residual.specs.Residual.{residualAt, rebuiltTo, allInRange, residualNo, reconstructNo, residualsAfter, reconstructed};
 ghost use Rattle.residual.specs.Laws.{Fits};
+use domain::helpers;
+use samples::deltas;
+use samples::taps;
 
 // How many runs of 16 samples a block of side n has.
 fn runs_of(n: usize) -> usize

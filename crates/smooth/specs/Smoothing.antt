@@ -9,8 +9,8 @@ use Rattle.laws.specs.Choose.{Check, _unless_, firstFail, served}
 use Rattle.h265.specs.Notation.{fromRows}
 use Rattle.h265.specs.Filtering.{filterFlag, filtered}
 use Rattle.domain.specs.Domain.{depthOk, sizeOk, modeOk, smoothingRow}
-use Rattle.rows.specs.declared.Rows.{Rows}
-use Rattle.rows.specs.Neighbours.{zeroRows}
+use Rattle.domain.specs.declared.rows.Rows.{Rows}
+use Rattle.domain.specs.rows.Neighbours.{zeroRows}
 use Rattle.smooth.specs.declared.Rule.{Rule}
 use Rattle.smooth.specs.declared.FilteredRows.{FilteredRows}
 use Rattle.smooth.specs.declared.Smoothed.{Smoothed}

@@ -14,7 +14,7 @@ use Rattle.laws.specs.Diff.{order, sub-pos}
 use Rattle.h265.specs.Mean.{Agree}
 use Rattle.h265.specs.Notation.{Neighbours, fromRows}
 use Rattle.h265.specs.Filtering.{biIntFlag, strongAt, weakAt, filtered}
-use Rattle.rows.specs.Neighbours.{neighboursOf}
+use Rattle.domain.specs.rows.Neighbours.{neighboursOf}
 use Rattle.smooth.specs.Smoothing.{rowEntry, rowOf, smoothed, lumaNo, lumaDoor}
 use Rattle.smooth.specs.Steps.{luma-ready}
 use Rattle.smooth.specs.Forms.{line, weakRow, strong-side, strong-is, weak-is}

@@ -14,7 +14,7 @@ use Rattle.domain.specs.Domain.{depthOk, sizeOk}
 use Rattle.domain.specs.Facts.{Depth, Size, depth-of, size-of, size-small}
 use Rattle.h265.specs.Notation.{fromRows}
 use Rattle.h265.specs.Filtering.{biIntFlag, strongAt, weakAt}
-use Rattle.rows.specs.declared.Rows.{Rows}
+use Rattle.domain.specs.declared.rows.Rows.{Rows}
 use Rattle.smooth.specs.declared.FilteredRows.{FilteredRows}
 use Rattle.smooth.specs.Smoothing.{rowEntry, rowOf, smoothed, filterNo, lumaNo, filterDoor}
 use Rattle.smooth.specs.Forms.{weakRow, strong-side, strong-is, weak-is, never-strong}

@@ -9,6 +9,8 @@ ghost use Rattle.domain.specs.Facts.{Depth};
 ghost use Rattle.smooth.specs.Smoothing.{ruleNo, filterNo, lumaNo, ruleDoor, filterDoor, lumaDoor, rowOf, smoothed};
 ghost use Rattle.smooth.specs.Forms.{weakRow};
 ghost use Rattle.smooth.specs.Steps.{Ready};
+use domain::rows;
+use samples::filters;
 
 // Whether a block's references are smoothed, or why the call is refused.
 pub struct Rule {

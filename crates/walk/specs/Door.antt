@@ -1,9 +1,9 @@
 -- Document 01, 'Plan, walk, replay': what a call of walk or replay gives, by its verdict. Assumes nothing.
 use Prim.Native.Nat.{ℕ, _+_}
 use Rattle.laws.specs.Choose.{served}
-use Rattle.tiling.specs.declared.Verdict.{Verdict}
-use Rattle.tiling.specs.Plan.{Plan}
-use Rattle.steps.specs.Steps.{doing}
+use Rattle.plan.specs.declared.tiling.Verdict.{Verdict}
+use Rattle.plan.specs.tiling.Plan.{Plan}
+use Rattle.walk.specs.steps.Steps.{doing}
 use Rattle.walk.specs.declared.Progress.{Progress}
 use Rattle.walk.specs.declared.Stepped.{Stepped}
 

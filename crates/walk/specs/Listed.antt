@@ -7,18 +7,18 @@ use lib.ListN.{length}
 use lib.IntN.{ℤ}
 use Rattle.laws.specs.Chain.{units}
 use Rattle.laws.specs.Choose.{worked, unserved}
-use Rattle.tiling.specs.declared.Verdict.{Verdict}
-use Rattle.tiling.specs.Plan.{Plan, noBlock}
-use Rattle.tiling.specs.PlanCheck.{planVerdict}
-use Rattle.still.specs.declared.Still.{Still}
-use Rattle.still.specs.Checks.{Tables, replayNo, walkNo, settle}
-use Rattle.rebuilt.specs.Block.{replayUnit}
-use Rattle.walked.specs.Block.{World, walkUnit}
-use Rattle.steps.specs.declared.Step.{Step}
-use Rattle.steps.specs.Steps.{stepBy}
-use Rattle.calls.specs.Door.{replayVerdict, replayAfter, walkVerdict, walkAfter}
-use Rattle.calls.specs.Ready.{ReplayReady, WalkReady}
-use Rattle.calls.specs.Laws as calls
+use Rattle.plan.specs.declared.tiling.Verdict.{Verdict}
+use Rattle.plan.specs.tiling.Plan.{Plan, noBlock}
+use Rattle.plan.specs.tiling.PlanCheck.{planVerdict}
+use Rattle.walk.specs.declared.still.Still.{Still}
+use Rattle.walk.specs.still.Checks.{Tables, replayNo, walkNo, settle}
+use Rattle.walk.specs.rebuilt.Block.{replayUnit}
+use Rattle.walk.specs.walked.Block.{World, walkUnit}
+use Rattle.walk.specs.declared.steps.Step.{Step}
+use Rattle.walk.specs.steps.Steps.{stepBy}
+use Rattle.walk.specs.calls.Door.{replayVerdict, replayAfter, walkVerdict, walkAfter}
+use Rattle.walk.specs.calls.Ready.{ReplayReady, WalkReady}
+use Rattle.walk.specs.calls.Laws as calls
 use Rattle.walk.specs.declared.Progress.{Progress}
 use Rattle.walk.specs.declared.Stepped.{Stepped}
 use Rattle.walk.specs.declared.Call.{Call}

@@ -1,26 +1,35 @@
 // Walk and replay of a luma still, block by block, in any number of calls (document 01, 'Plan, walk, replay').
 // Rests on the contracts of a still's checks, of the plan check and of the work on one block alone.
+pub mod block;
+pub mod block_door;
+pub mod block_rows;
+pub mod coded;
+pub mod rebuild;
+pub mod spans;
+pub mod steps;
+pub mod still;
+
 ghost use mathlib.Core.Path.{_≡_};
 ghost use mathlib.Core.Bool.{cond};
 ghost use Prim.Native.Nat.{_+_, _-_, _*_, _≤_, _<_};
 ghost use lib.Dec.{leb};
 ghost use lib.ListN.{length};
 ghost use Rattle.laws.specs.Chain.{units};
-ghost use Rattle.tiling.specs.Plan.{planOf, listed};
-ghost use Rattle.still.specs.Checks.{replayNo, walkNo, settle};
-ghost use Rattle.rebuilt.specs.Block.{rebuilt, replayUnit};
-ghost use Rattle.walked.specs.Block.{walked, walkUnit};
-ghost use Rattle.block.specs.Ready.{Ready};
-ghost use Rattle.rebuilt.specs.Ready.{Lies};
-ghost use Rattle.calls.specs.Door.{replayVerdict, replayAfter, walkVerdict, walkAfter};
-ghost use Rattle.calls.specs.Ready.{ReplayReady, WalkReady};
+ghost use Rattle.plan.specs.tiling.Plan.{planOf, listed};
+ghost use Rattle.walk.specs.still.Checks.{replayNo, walkNo, settle};
+ghost use Rattle.walk.specs.rebuilt.Block.{rebuilt, replayUnit};
+ghost use Rattle.walk.specs.walked.Block.{walked, walkUnit};
+ghost use Rattle.walk.specs.block.Ready.{Ready};
+ghost use Rattle.walk.specs.rebuilt.Ready.{Lies};
+ghost use Rattle.walk.specs.calls.Door.{replayVerdict, replayAfter, walkVerdict, walkAfter};
+ghost use Rattle.walk.specs.calls.Ready.{ReplayReady, WalkReady};
 ghost use Rattle.walk.specs.Door.{steppedBy};
 ghost use Rattle.walk.specs.Listed.{scratchTables, bare, callOf};
-use scratch::AngularScratch;
-use steps::Step;
-use still::Still;
-use tiling::Block;
-use tiling::Verdict;
+use crate::steps::Step;
+use crate::still::Still;
+use plan::tiling::Block;
+use plan::tiling::Verdict;
+use predict::scratch::AngularScratch;
 
 // How many blocks of the plan are done; 0 when fresh.
 pub struct Progress {

@@ -1,6 +1,6 @@
 -- `figures::planar_block` meets its contract. What the door leaves, with its number put in.
 use borrow.Author.Needs.{needs}
-use Rattle.figure_table.specs.Figures.{by-number}
+use Rattle.figures.specs.figure_table.Figures.{by-number}
 use Rattle.figures.proofs.planar_block.Statement.{statement}
 use Rattle.figures.proofs.planar_block.Tie as tie
 

@@ -1,5 +1,5 @@
 -- `figures::smooths` meets its contract. The door's flag, unless it refused.
-use Rattle.figure_table.specs.Figures.{smooths-refused, smooths-told}
+use Rattle.figures.specs.figure_table.Figures.{smooths-refused, smooths-told}
 use native.Mathlib.Omega.{arith}
 use borrow.Author.Needs.{needs}
 use Rattle.figures.proofs.smooths.Statement.{statement}

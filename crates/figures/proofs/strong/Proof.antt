@@ -3,7 +3,7 @@ use mathlib.Core.Path.{ap₂}
 use mathlib.Core.Bool.{not}
 use Prim.Native.Nat.{ℕ}
 use lib.Dec.{eqb}
-use Rattle.figure_table.specs.Figures.{bit}
+use Rattle.figures.specs.figure_table.Figures.{bit}
 use borrow.Author.Needs.{needs}
 use Rattle.figures.proofs.strong.Statement.{statement}
 use Rattle.figures.proofs.strong.Tie as tie

@@ -1,5 +1,5 @@
 -- `plan::check_plan` meets its contract: a walk of its MIR, by hand, with a loop. Each turn copies block i out of the plan and calls `check_step` with it; before the loop stands `check_start`, after it `check_end`. Of each the proof knows only the contract.
--- The invariant is `Standing` of verdict/specs/Standing, by the laws that the form over lent numbers has. The measure is what is left of the plan. Assumes nothing.
+-- The invariant is `Standing` of plan/specs/verdict/Standing, by the laws that the form over lent numbers has. The measure is what is left of the plan. Assumes nothing.
 use mathlib.Core.Path.{_≡_, refl, sym, ap, _∙_, subst}
 use Prim.Native.Nat.{ℕ, _+_, _-_, _*_, _<_, _^_}
 use native.Mathlib.Numerals.{add-one-dec}
@@ -45,33 +45,33 @@ use denote.Triple.Spec.{Meets, tripleOf}
 use denote.Triple.Table.{entered, cited}
 use denote.Triple.Walked.{says, Stays, stay-none-slice, stay-none, walkOf, goes-none-slice, goes-none, Walks, ends-at, walked, walk-meets}
 use denote.Exit.{yes}
-use Rattle.tiling.specs.declared.Frame.{Frame}
-use Rattle.tiling.specs.declared.Block.{Block}
-use Rattle.tiling.specs.declared.Verdict.{Verdict}
-use Rattle.verdict.specs.declared.Checking.{Checking}
-use Rattle.tiling.specs.Plan.{noBlock, listed}
-use Rattle.tiling.specs.PlanCheck.{planVerdict}
-use Rattle.verdict.specs.Standing.{startOf, stepOf, endOf, Standing, standing-none, standing-more, standing-end}
-use Rattle.tiling.proofs.Frame as F
-use Rattle.tiling.proofs.Frame.Laws as F′
-use Rattle.tiling.proofs.Block as T
-use Rattle.tiling.proofs.Block.Laws as T′
-use Rattle.tiling.proofs.Verdict as Q
-use Rattle.tiling.proofs.Verdict.Laws as Q′
-use Rattle.verdict.proofs.Checking as S
-use Rattle.verdict.proofs.Checking.Laws as S′
-use Rattle.verdict.proofs.check_start as beg
-use Rattle.verdict.proofs.check_start.Symbol as beg-def
-use Rattle.verdict.proofs.check_start.Symbol.{name as #verdict·check-start}
-use Rattle.verdict.proofs.check_start.Met as beg-thm
-use Rattle.verdict.proofs.check_step as stp
-use Rattle.verdict.proofs.check_step.Symbol as step-def
-use Rattle.verdict.proofs.check_step.Symbol.{name as #verdict·check-step}
-use Rattle.verdict.proofs.check_step.Met as step-thm
-use Rattle.verdict.proofs.check_end as fin
-use Rattle.verdict.proofs.check_end.Symbol as fin-def
-use Rattle.verdict.proofs.check_end.Symbol.{name as #verdict·check-end}
-use Rattle.verdict.proofs.check_end.Met as fin-thm
+use Rattle.plan.specs.declared.tiling.Frame.{Frame}
+use Rattle.plan.specs.declared.tiling.Block.{Block}
+use Rattle.plan.specs.declared.tiling.Verdict.{Verdict}
+use Rattle.plan.specs.declared.verdict.Checking.{Checking}
+use Rattle.plan.specs.tiling.Plan.{noBlock, listed}
+use Rattle.plan.specs.tiling.PlanCheck.{planVerdict}
+use Rattle.plan.specs.verdict.Standing.{startOf, stepOf, endOf, Standing, standing-none, standing-more, standing-end}
+use Rattle.plan.proofs.tiling.Frame as F
+use Rattle.plan.proofs.tiling.Frame.Laws as F′
+use Rattle.plan.proofs.tiling.Block as T
+use Rattle.plan.proofs.tiling.Block.Laws as T′
+use Rattle.plan.proofs.tiling.Verdict as Q
+use Rattle.plan.proofs.tiling.Verdict.Laws as Q′
+use Rattle.plan.proofs.verdict.Checking as S
+use Rattle.plan.proofs.verdict.Checking.Laws as S′
+use Rattle.plan.proofs.verdict.check_start as beg
+use Rattle.plan.proofs.verdict.check_start.Symbol as beg-def
+use Rattle.plan.proofs.verdict.check_start.Symbol.{name as #plan·verdict·check-start}
+use Rattle.plan.proofs.verdict.check_start.Met as beg-thm
+use Rattle.plan.proofs.verdict.check_step as stp
+use Rattle.plan.proofs.verdict.check_step.Symbol as step-def
+use Rattle.plan.proofs.verdict.check_step.Symbol.{name as #plan·verdict·check-step}
+use Rattle.plan.proofs.verdict.check_step.Met as step-thm
+use Rattle.plan.proofs.verdict.check_end as fin
+use Rattle.plan.proofs.verdict.check_end.Symbol as fin-def
+use Rattle.plan.proofs.verdict.check_end.Symbol.{name as #plan·verdict·check-end}
+use Rattle.plan.proofs.verdict.check_end.Met as fin-thm
 use Rattle.plan.proofs.check_plan.Key.{name as #plan·check-plan}
 use Rattle.plan.proofs.check_plan as f
 use Rattle.plan.proofs.check_plan.Statement as stated
@@ -202,7 +202,7 @@ module _ {M : Type 1} (𝓤 : URA M) (H : Heap 𝓤) (A : Atoms 𝓤) (W : Given
     abbrev next : (r : Checking) → r ≡ stepOf fr (h .t) elem (h .i) → Is S.the-row r (mS r ∷ []) → Here
     next r e is-r = record { i = h .i + 1; t = r; is = is-r; stands = subst (Standing fr (listed ys) (h .i + 1)) (sym e) (standing-more (h .stands) inside elem refl) }
 
-  module _ (𝓣 : Tables 𝓤 H) (known-step : Triple 𝓤 (𝓣 .C #verdict·check-step) (Step 𝓤 H A mem run)) (known-end : Triple 𝓤 (𝓣 .C #verdict·check-end) (End 𝓤 H A mem run)) (l₀ l₁ l₂ l₃ l₄ l₅ l₆ l₇ l₈ : ℕ) where
+  module _ (𝓣 : Tables 𝓤 H) (known-step : Triple 𝓤 (𝓣 .C #plan·verdict·check-step) (Step 𝓤 H A mem run)) (known-end : Triple 𝓤 (𝓣 .C #plan·verdict·check-end) (End 𝓤 H A mem run)) (l₀ l₁ l₂ l₃ l₄ l₅ l₆ l₇ l₈ : ℕ) where
     abbrev C : Calls 𝓤 H
     C = 𝓣 .C
 
@@ -267,7 +267,7 @@ module _ {M : Type 1} (𝓤 : URA M) (H : Heap 𝓤) (A : Atoms 𝓤) (W : Given
     looped : (h : Here) → Sq W (At h) (runs C Λ En mcode.t-3 (atRet En Post))
     looped h = first ! $ blocks ! $ loops ! 𝓣 Nearer Nearer-wf At turns h
 
-  walk : (𝓣 : Tables 𝓤 H) → Triple 𝓤 (𝓣 .C #verdict·check-start) (Start 𝓤 H A mem run) → Triple 𝓤 (𝓣 .C #verdict·check-step) (Step 𝓤 H A mem run) → Triple 𝓤 (𝓣 .C #verdict·check-end) (End 𝓤 H A mem run)
+  walk : (𝓣 : Tables 𝓤 H) → Triple 𝓤 (𝓣 .C #plan·verdict·check-start) (Start 𝓤 H A mem run) → Triple 𝓤 (𝓣 .C #plan·verdict·check-step) (Step 𝓤 H A mem run) → Triple 𝓤 (𝓣 .C #plan·verdict·check-end) (End 𝓤 H A mem run)
       → ent 𝓤 (onEntry 𝓤 H A f.signature (κ, tt) (q, tt) x at) (WpFn 𝓤 H (𝓣 .C) (𝓣 .Λ) code.function (mF fr ∷ vp ∷ []) Post)
   walk 𝓣 known-start known-step known-end =
       qed W ((‵ (flft κ q) ⊛ ‵ ftrue) ∷ ‵ (owns (F.the-row ∷ ShrSlice (named 0) κ T.the-row ∷ []) x at) ∷ []) ∵ enter ! (𝓣 .C) (𝓣 .Λ) code.function (mF fr ∷ vp ∷ []) _ $
@@ -288,7 +288,7 @@ module _ {M : Type 1} (𝓤 : URA M) (H : Heap 𝓤) (A : Atoms 𝓤) (W : Given
       looped 𝓣 known-step known-end l₀ l₁ l₂ l₃ l₄ l₅ l₆ l₇ l₈ (record { i = 0; t = r; is = is′; stands = subst (Standing fr (listed ys) 0) (sym e) (standing-none fr (listed ys)) })))))))))))))))
 
 module _ {M : Type 1} (𝓤 : URA M) (H : Heap 𝓤) (A : Atoms 𝓤) (W : Given 𝓤 H A) (mem : Memory → SProp 𝓤) (run : Routine → Fun 𝓤) where
-  check-plan-walks : (𝓣 : Tables 𝓤 H) → Triple 𝓤 (𝓣 .C #verdict·check-start) (Start 𝓤 H A mem run) → Triple 𝓤 (𝓣 .C #verdict·check-step) (Step 𝓤 H A mem run) → Triple 𝓤 (𝓣 .C #verdict·check-end) (End 𝓤 H A mem run)
+  check-plan-walks : (𝓣 : Tables 𝓤 H) → Triple 𝓤 (𝓣 .C #plan·verdict·check-start) (Start 𝓤 H A mem run) → Triple 𝓤 (𝓣 .C #plan·verdict·check-step) (Step 𝓤 H A mem run) → Triple 𝓤 (𝓣 .C #plan·verdict·check-end) (End 𝓤 H A mem run)
       → Walks 𝓤 H A f.ended stayed (WpFn 𝓤 H (𝓣 .C) (𝓣 .Λ) code.function) (f.clauses 𝓤 H A mem run)
   check-plan-walks 𝓣 known-start known-step known-end = walked 𝓤 H A f.ended stayed (f.clauses 𝓤 H A mem run) (WpFn 𝓤 H (𝓣 .C) (𝓣 .Λ) code.function)
       (λ κs. (LL.vals F.the-type F′.the-laws, (slice-vals, tt))) (λ κs. (LL.tells F.the-type F′.the-laws, (shr-slice-tells (named 0) (κs .0) T.the-row, tt)))
@@ -296,7 +296,7 @@ module _ {M : Type 1} (𝓤 : URA M) (H : Heap 𝓤) (A : Atoms 𝓤) (W : Given
       (walk 𝓤 H A W mem run (κs .0) (qs .0) (a .0) (a .1 .0 .ptr .0) (a .1 .0 .ptr .1) (a .1 .0 .name) (a .1 .0 .now) (are .0) (are .1 .0 .0 .1) 𝓣 known-start known-step known-end))
 
 check-plan-meets : {M : Type 1} (𝓤 : URA M) (H : Heap 𝓤) (A : Atoms 𝓤) → Given 𝓤 H A → (mem : Memory → SProp 𝓤) (run : Routine → Fun 𝓤) (𝓣 : Tables 𝓤 H)
-    → Triple 𝓤 (𝓣 .C #verdict·check-start) (Start 𝓤 H A mem run) → Triple 𝓤 (𝓣 .C #verdict·check-step) (Step 𝓤 H A mem run) → Triple 𝓤 (𝓣 .C #verdict·check-end) (End 𝓤 H A mem run)
+    → Triple 𝓤 (𝓣 .C #plan·verdict·check-start) (Start 𝓤 H A mem run) → Triple 𝓤 (𝓣 .C #plan·verdict·check-step) (Step 𝓤 H A mem run) → Triple 𝓤 (𝓣 .C #plan·verdict·check-end) (End 𝓤 H A mem run)
     → Meets 𝓤 H A f.signature (WpFn 𝓤 H (𝓣 .C) (𝓣 .Λ) code.function) (f.spec 𝓤 H A mem run)
 check-plan-meets 𝓤 H A W mem run 𝓣 known-start known-step known-end = walk-meets 𝓤 H A f.ended stayed W (goes-none 𝓤 H A W 1 (λ _. F.the-row) yes (λ κs x f. refl), (goes-none-slice 𝓤 H A W 1 (0 ∷ []) tt (plain (λ _. T.the-row)) yes, tt))
     (f.clauses 𝓤 H A mem run) (WpFn 𝓤 H (𝓣 .C) (𝓣 .Λ) code.function) (WpFn-mono 𝓤 H (W .laws) 𝓣 code.function) (check-plan-walks 𝓤 H A W mem run 𝓣 known-start known-step known-end)
@@ -307,6 +307,6 @@ check-plan-spec 𝓤 H 𝓜 𝓖 𝓡 =
     entered 𝓤 H (tripleOf 𝓤 H (𝓖 .A) f.signature (f.spec 𝓤 H (𝓖 .A) (𝓜 .mem) (𝓡 .run)))
     (tables 𝓤 H 𝓜 𝓡 code.env .C) (tables 𝓤 H 𝓜 𝓡 code.env .Λ) #plan·check-plan code.function (code.unfolded 𝓤 H 𝓜 𝓡)
     (check-plan-meets 𝓤 H (𝓖 .A) (givenOf 𝓤 H 𝓜 𝓖) (𝓜 .mem) (𝓡 .run) (tablesOf 𝓤 H 𝓜 (tables 𝓤 H 𝓜 𝓡 code.env))
-    (cited 𝓤 H (Start 𝓤 H (𝓖 .A) (𝓜 .mem) (𝓡 .run)) 𝓜 𝓡 code.env #verdict·check-start beg-def.routine code.calls-verdict·check-start (beg-thm.met 𝓤 H 𝓜 𝓖 𝓡))
-    (cited 𝓤 H (Step 𝓤 H (𝓖 .A) (𝓜 .mem) (𝓡 .run)) 𝓜 𝓡 code.env #verdict·check-step step-def.routine code.calls-verdict·check-step (step-thm.met 𝓤 H 𝓜 𝓖 𝓡))
-    (cited 𝓤 H (End 𝓤 H (𝓖 .A) (𝓜 .mem) (𝓡 .run)) 𝓜 𝓡 code.env #verdict·check-end fin-def.routine code.calls-verdict·check-end (fin-thm.met 𝓤 H 𝓜 𝓖 𝓡)))
+    (cited 𝓤 H (Start 𝓤 H (𝓖 .A) (𝓜 .mem) (𝓡 .run)) 𝓜 𝓡 code.env #plan·verdict·check-start beg-def.routine code.calls-plan·verdict·check-start (beg-thm.met 𝓤 H 𝓜 𝓖 𝓡))
+    (cited 𝓤 H (Step 𝓤 H (𝓖 .A) (𝓜 .mem) (𝓡 .run)) 𝓜 𝓡 code.env #plan·verdict·check-step step-def.routine code.calls-plan·verdict·check-step (step-thm.met 𝓤 H 𝓜 𝓖 𝓡))
+    (cited 𝓤 H (End 𝓤 H (𝓖 .A) (𝓜 .mem) (𝓡 .run)) 𝓜 𝓡 code.env #plan·verdict·check-end fin-def.routine code.calls-plan·verdict·check-end (fin-thm.met 𝓤 H 𝓜 𝓖 𝓡)))

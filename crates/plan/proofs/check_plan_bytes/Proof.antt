@@ -3,9 +3,9 @@ use mathlib.Core.Path.{refl, sym, _∙_}
 use borrow.Author.Tests.{not-true, not-false, eq-eqb, ne-eqb}
 use Rattle.laws.specs.Choose.{if-yes, if-no}
 use Rattle.order.specs.Order.{pictureOk}
-use Rattle.tiling.specs.Tiling.{pictureOf}
-use Rattle.plan.specs.Records.{wholeRecords, bytesVerdict}
-use Rattle.tiling.specs.PlanCheck.{planVerdict}
+use Rattle.plan.specs.tiling.Tiling.{pictureOf}
+use Rattle.plan.specs.RecordPlan.{wholeRecords, bytesVerdict}
+use Rattle.plan.specs.tiling.PlanCheck.{planVerdict}
 use borrow.Author.Needs.{needs}
 use Rattle.plan.proofs.check_plan_bytes.Statement.{statement}
 use Rattle.plan.proofs.check_plan_bytes.Tie as tie

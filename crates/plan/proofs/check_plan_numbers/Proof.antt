@@ -3,8 +3,8 @@ use mathlib.Core.Path.{_∙_, sym, subst}
 use Prim.Native.Nat.{_-_, _≤_}
 use lib.ListN.{length}
 use borrow.Author.Needs.{needs}
-use Rattle.tiling.specs.Plan.{planOf}
-use Rattle.verdict.specs.Standing.{Standing, standing-none, standing-more, standing-end}
+use Rattle.plan.specs.tiling.Plan.{planOf}
+use Rattle.plan.specs.verdict.Standing.{Standing, standing-none, standing-more, standing-end}
 use Rattle.plan.proofs.check_plan_numbers.Statement.{statement}
 use Rattle.plan.proofs.check_plan_numbers.Tie as tie
 

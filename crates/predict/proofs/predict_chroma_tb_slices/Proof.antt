@@ -2,7 +2,7 @@
 use mathlib.Core.Path.{_∙_}
 use lib.ListN.{length}
 use Rattle.h265.specs.Notation.{fromRows}
-use Rattle.numbers.specs.Numbers.{Lent}
+use Rattle.samples.specs.numbers.Numbers.{Lent}
 use Rattle.predict.specs.Contents.{chroma-left}
 use borrow.Author.Needs.{needs}
 use Rattle.predict.proofs.predict_chroma_tb_slices.Statement.{statement}

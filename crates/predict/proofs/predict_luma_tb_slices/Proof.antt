@@ -2,7 +2,7 @@
 use mathlib.Core.Path.{_≡_, ap₂, _∙_}
 use Prim.Native.Nat.{ℕ}
 use lib.ListN.{length}
-use Rattle.numbers.specs.Numbers.{Lent, predictNo}
+use Rattle.samples.specs.numbers.Numbers.{Lent, predictNo}
 use Rattle.predict.specs.Contents.{luma-left}
 use borrow.Author.Needs.{needs}
 use Rattle.predict.proofs.predict_luma_tb_slices.Statement.{statement}

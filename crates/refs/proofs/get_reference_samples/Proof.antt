@@ -3,9 +3,9 @@ use mathlib.Core.Path.{sym, ap, _∙_}
 use lib.Dec.{eqb}
 use lib.ListN.{length}
 use borrow.Author.Needs.{needs}
-use Rattle.substitution.specs.Substitution.{levelRows}
+use Rattle.refs.specs.substitution.Substitution.{levelRows}
 use Rattle.refs.specs.Door.{lumaLength, lumaNo, lumaRows, lumaDoor}
-use Rattle.substitution.specs.Served.{refused, done, gathered}
+use Rattle.refs.specs.substitution.Served.{refused, done, gathered}
 use Rattle.refs.specs.Served.{luma-number}
 use Rattle.refs.proofs.get_reference_samples.Statement.{statement}
 use Rattle.refs.proofs.get_reference_samples.Tie as tie

@@ -5,10 +5,10 @@ use mathlib.Core.List.{[], _∷_}
 use Prim.Native.Nat.{ℕ}
 use lib.Dec.{eqb}
 use lib.ListN.{length}
-use Rattle.rows.specs.declared.Rows.{Rows}
-use Rattle.substitution.specs.Substitution.{levelRows}
+use Rattle.domain.specs.declared.rows.Rows.{Rows}
+use Rattle.refs.specs.substitution.Substitution.{levelRows}
 use Rattle.refs.specs.Door.{chromaLength, chromaNo, chromaRows, chromaDoor}
-use Rattle.substitution.specs.Served.{refused, done}
+use Rattle.refs.specs.substitution.Served.{refused, done}
 use Rattle.refs.specs.Served.{chroma-number, gatheredPair}
 use borrow.Author.Needs.{needs}
 use Rattle.refs.proofs.get_reference_samples_chroma_pair.Statement.{statement}

@@ -4,12 +4,12 @@ use Prim.Native.Nat.{_-_, _*_, _≤_}
 use mathlib.Core.Path.{_≡_, ap, _∙_}
 use native.Mathlib.Omega.{arith}
 use lib.ListN.{length}
-use Rattle.tiling.specs.Plan.{planOf}
-use Rattle.tiling.specs.Tiling.{place}
-use Rattle.rebuilt.specs.Places.{place-none, place-more}
+use Rattle.plan.specs.tiling.Plan.{planOf}
+use Rattle.plan.specs.tiling.Tiling.{place}
+use Rattle.walk.specs.rebuilt.Places.{place-none, place-more}
 use Rattle.report.specs.Told.{lines}
-use Rattle.spans.specs.Laws.{sum-there}
-use Rattle.text.specs.Laws.{Laid, said, line-room, lands-at}
+use Rattle.walk.specs.spans.Laws.{sum-there}
+use Rattle.report.specs.text.Laws.{Laid, said, line-room, lands-at}
 use Rattle.report.specs.Laws.{lines-none, square, among, next-line}
 use Rattle.report.proofs.lay_lines.Statement.{statement}
 use Rattle.report.proofs.lay_lines.Tie as tie

@@ -3,7 +3,7 @@ use mathlib.Core.Path.{sym, _∙_}
 use mathlib.Core.Bool.{true, false}
 use native.Mathlib.Omega.{arith}
 use borrow.Author.Tests.{not-true, not-false}
-use Rattle.text.specs.Laws.{said, refusal-room, lands-at}
+use Rattle.report.specs.text.Laws.{said, refusal-room, lands-at}
 use Rattle.report.specs.Whole.{held-file, printed-is}
 use borrow.Author.Needs.{needs}
 use Rattle.report.proofs.lay_report.Statement.{statement}

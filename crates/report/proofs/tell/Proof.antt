@@ -1,8 +1,8 @@
 -- `report::tell` meets its contract. A refused walk is told as such; a served one is replayed, compared, and told block by block.
 use native.Mathlib.Omega.{arith}
 use mathlib.Core.Path.{_∙_}
-use Rattle.spans.specs.Laws.{alike-long}
-use Rattle.text.specs.Laws.{then, said, refusal-room, ending-room, lands-at}
+use Rattle.walk.specs.spans.Laws.{alike-long}
+use Rattle.report.specs.text.Laws.{then, said, refusal-room, ending-room, lands-at}
 use Rattle.report.specs.Whole.{refused-told, listed-all, source-long, served-told}
 use borrow.Author.Needs.{needs}
 use Rattle.report.proofs.tell.Statement.{statement}

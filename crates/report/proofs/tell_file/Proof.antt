@@ -4,7 +4,7 @@ use native.Mathlib.Omega.{arith}
 use lib.ListN.{replicate}
 use lib.IntN.{pos}
 use Rattle.report.specs.Told.{told}
-use Rattle.text.specs.Laws.{said}
+use Rattle.report.specs.text.Laws.{said}
 use Rattle.report.specs.Whole.{zeros-long, fill-long, blank-part, job-is}
 use borrow.Author.Needs.{needs}
 use Rattle.report.proofs.tell_file.Statement.{statement}

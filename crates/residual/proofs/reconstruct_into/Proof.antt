@@ -4,7 +4,7 @@ use native.Mathlib.Omega.{arith}
 use borrow.Author.Needs.{needs}
 use lib.ListN.{length}
 use Rattle.laws.specs.Choose.{worked, unserved}
-use Rattle.taps.specs.Laws.{largest-is}
+use Rattle.samples.specs.taps.Laws.{largest-is}
 use Rattle.residual.specs.Residual.{reconstructed}
 use Rattle.residual.specs.Laws.{size-fits, runs-fit, sound}
 use Rattle.residual.proofs.reconstruct_into.Statement.{statement}

@@ -7,13 +7,13 @@ use lib.Dec.{leb}
 use lib.ListN.{length}
 use native.Mathlib.Omega.{arith}
 use Rattle.laws.specs.Chain.{units}
-use Rattle.tiling.specs.declared.Block.{Block}
-use Rattle.tiling.specs.Plan.{planOf}
-use Rattle.tiling.specs.Tiling.{place}
-use Rattle.rebuilt.specs.Block.{rebuilt, replayUnit}
-use Rattle.rebuilt.specs.Places.{place-none, place-more}
-use Rattle.calls.specs.Laws.{lies, ready}
-use Rattle.calls.specs.Turns.{turn-none, turn-more, turn-done}
+use Rattle.plan.specs.declared.tiling.Block.{Block}
+use Rattle.plan.specs.tiling.Plan.{planOf}
+use Rattle.plan.specs.tiling.Tiling.{place}
+use Rattle.walk.specs.rebuilt.Block.{rebuilt, replayUnit}
+use Rattle.walk.specs.rebuilt.Places.{place-none, place-more}
+use Rattle.walk.specs.calls.Laws.{lies, ready}
+use Rattle.walk.specs.calls.Turns.{turn-none, turn-more, turn-done}
 use borrow.Author.Needs.{needs}
 use Rattle.walk.proofs.replay_blocks.Statement.{statement}
 use Rattle.walk.proofs.replay_blocks.Tie as tie

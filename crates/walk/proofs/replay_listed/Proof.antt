@@ -49,26 +49,26 @@ use denote.Triple.Table.{entered, cited}
 use denote.Triple.Walked.{says, needs, Stays, stay-none-slice, stay-slice, stay-ref, stay-none, walkOf, goes-none-slice, goes-slice, goes-ref, goes-none, Walks, ends-at, walked, walk-meets}
 use denote.Exit.{yes}
 use Rattle.laws.specs.Chain.{units}
-use Rattle.tiling.specs.declared.Block.{Block}
-use Rattle.tiling.specs.Tiling.{place}
-use Rattle.tiling.specs.Plan.{noBlock, listed}
-use Rattle.tiling.proofs.Block as T
-use Rattle.tiling.proofs.Block.Laws as T′
-use Rattle.scratch.specs.declared.AngularScratch.{AngularScratch}
-use Rattle.scratch.proofs.AngularScratch as G
-use Rattle.scratch.proofs.Tables.{Long, made, Loan, tableAt, Tokens, Lent, Kept, Holds, lend, regain}
-use Rattle.still.specs.declared.Still.{Still}
-use Rattle.rebuilt.specs.Block.{rebuilt, replayUnit}
-use Rattle.block.specs.Ready.{Ready}
-use Rattle.rebuilt.specs.Ready.{Lies}
-use Rattle.rebuilt.specs.Places.{place-none, place-more}
-use Rattle.calls.specs.Ready.{Sound, ReplayReady}
-use Rattle.calls.specs.Laws.{lies, ready}
-use Rattle.calls.specs.Turns.{turn-none, turn-more}
+use Rattle.plan.specs.declared.tiling.Block.{Block}
+use Rattle.plan.specs.tiling.Tiling.{place}
+use Rattle.plan.specs.tiling.Plan.{noBlock, listed}
+use Rattle.plan.proofs.tiling.Block as T
+use Rattle.plan.proofs.tiling.Block.Laws as T′
+use Rattle.predict.specs.declared.scratch.AngularScratch.{AngularScratch}
+use Rattle.predict.proofs.scratch.AngularScratch as G
+use Rattle.predict.proofs.scratch.Tables.{Long, made, Loan, tableAt, Tokens, Lent, Kept, Holds, lend, regain}
+use Rattle.walk.specs.declared.still.Still.{Still}
+use Rattle.walk.specs.rebuilt.Block.{rebuilt, replayUnit}
+use Rattle.walk.specs.block.Ready.{Ready}
+use Rattle.walk.specs.rebuilt.Ready.{Lies}
+use Rattle.walk.specs.rebuilt.Places.{place-none, place-more}
+use Rattle.walk.specs.calls.Ready.{Sound, ReplayReady}
+use Rattle.walk.specs.calls.Laws.{lies, ready}
+use Rattle.walk.specs.calls.Turns.{turn-none, turn-more}
 use Rattle.walk.specs.Listed.{scratchTables}
 use Rattle.walk.proofs.Again.{LentAgain, lends-at, back-at}
-use Rattle.still.proofs.Still as Z
-use Rattle.still.proofs.Still.Laws as Z′
+use Rattle.walk.proofs.still.Still as Z
+use Rattle.walk.proofs.still.Still.Laws as Z′
 use Rattle.walk.proofs.replay_turn as stp
 use Rattle.walk.proofs.replay_turn.Symbol as step-def
 use Rattle.walk.proofs.replay_turn.Symbol.{name as #walk·replay-turn}

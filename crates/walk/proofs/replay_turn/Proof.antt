@@ -4,7 +4,7 @@ use lib.Dec.{leb}
 use lib.ListN.{length}
 use borrow.Author.Tests.{le-leb, lt-leb}
 use Rattle.laws.specs.Choose.{if-yes, if-no, worked}
-use Rattle.rebuilt.specs.Laws.{rebuild-serves}
+use Rattle.walk.specs.rebuilt.Laws.{rebuild-serves}
 use borrow.Author.Needs.{needs}
 use Rattle.walk.proofs.replay_turn.Statement.{statement}
 use Rattle.walk.proofs.replay_turn.Tie as tie

@@ -1,10 +1,10 @@
 -- `walk::walk_call` meets its contract: the checks, then what they come to.
 use mathlib.Core.Path.{sym, ap, _∙_}
 use borrow.Author.Needs.{needs}
-use Rattle.tiling.specs.declared.Verdict.{Verdict}
+use Rattle.plan.specs.declared.tiling.Verdict.{Verdict}
 use Rattle.walk.specs.Listed.{bare, callOf}
-use Rattle.still.specs.Checks.{settle}
-use Rattle.still.specs.Laws.{settle-zero}
+use Rattle.walk.specs.still.Checks.{settle}
+use Rattle.walk.specs.still.Laws.{settle-zero}
 use Rattle.walk.proofs.walk_call.Statement.{statement}
 use Rattle.walk.proofs.walk_call.Tie as tie
 

@@ -4,7 +4,7 @@ use lib.Dec.{leb}
 use lib.ListN.{length}
 use borrow.Author.Tests.{le-leb, lt-leb}
 use Rattle.laws.specs.Choose.{if-yes, if-no, worked}
-use Rattle.coded.specs.Laws.{walk-serves}
+use Rattle.walk.specs.coded.Laws.{walk-serves}
 use borrow.Author.Needs.{needs}
 use Rattle.walk.proofs.walk_turn.Statement.{statement}
 use Rattle.walk.proofs.walk_turn.Tie as tie

@@ -39,37 +39,37 @@ use denote.Triple.Table.{entered, cited}
 use denote.Triple.Walked.{says, Stays, stay-none-slice, gave-slice, gave-ref, stay-none, walkOf, goes-none-slice, goes-gave-slice, goes-gave-ref, goes-none, Walks, ends-at, walked, walk-meets}
 use denote.Exit.{yes}
 use Rattle.laws.specs.Chain.{units}
-use Rattle.tiling.specs.declared.Frame.{Frame}
-use Rattle.tiling.specs.declared.Block.{Block}
-use Rattle.tiling.specs.declared.Verdict.{Verdict}
-use Rattle.tiling.specs.Plan.{listed}
-use Rattle.tiling.specs.PlanCheck.{planVerdict}
-use Rattle.tiling.proofs.Frame as F
-use Rattle.tiling.proofs.Frame.Laws as F′
-use Rattle.tiling.proofs.Block as T
-use Rattle.tiling.proofs.Verdict as Q
-use Rattle.tiling.proofs.Verdict.Laws as Q′
+use Rattle.plan.specs.declared.tiling.Frame.{Frame}
+use Rattle.plan.specs.declared.tiling.Block.{Block}
+use Rattle.plan.specs.declared.tiling.Verdict.{Verdict}
+use Rattle.plan.specs.tiling.Plan.{listed}
+use Rattle.plan.specs.tiling.PlanCheck.{planVerdict}
+use Rattle.plan.proofs.tiling.Frame as F
+use Rattle.plan.proofs.tiling.Frame.Laws as F′
+use Rattle.plan.proofs.tiling.Block as T
+use Rattle.plan.proofs.tiling.Verdict as Q
+use Rattle.plan.proofs.tiling.Verdict.Laws as Q′
 use Rattle.plan.proofs.check_plan as chk
 use Rattle.plan.proofs.check_plan.Symbol as chk-def
 use Rattle.plan.proofs.check_plan.Symbol.{name as #plan·check-plan}
 use Rattle.plan.proofs.check_plan.Met as chk-thm
-use Rattle.scratch.specs.declared.AngularScratch.{AngularScratch}
-use Rattle.scratch.proofs.AngularScratch as G
+use Rattle.predict.specs.declared.scratch.AngularScratch.{AngularScratch}
+use Rattle.predict.proofs.scratch.AngularScratch as G
 use Rattle.walk.specs.declared.Progress.{Progress}
-use Rattle.still.specs.declared.Still.{Still}
+use Rattle.walk.specs.declared.still.Still.{Still}
 use Rattle.walk.specs.declared.Stepped.{Stepped}
 use Rattle.walk.specs.declared.Call.{Call}
-use Rattle.rebuilt.specs.Block.{replayUnit}
-use Rattle.calls.specs.Door.{replayVerdict, replayAfter}
+use Rattle.walk.specs.rebuilt.Block.{replayUnit}
+use Rattle.walk.specs.calls.Door.{replayVerdict, replayAfter}
 use Rattle.walk.specs.Door.{steppedBy}
-use Rattle.still.specs.Checks.{replayNo, settle}
-use Rattle.calls.specs.Ready.{ReplayReady}
-use Rattle.calls.specs.Laws.{found-small}
+use Rattle.walk.specs.still.Checks.{replayNo, settle}
+use Rattle.walk.specs.calls.Ready.{ReplayReady}
+use Rattle.walk.specs.calls.Laws.{found-small}
 use Rattle.walk.specs.Listed.{scratchTables, bare, callOf, replay-asks, replay-ends}
 use Rattle.walk.proofs.Progress as O
 use Rattle.walk.proofs.Progress.Laws as O′
-use Rattle.still.proofs.Still as Z
-use Rattle.still.proofs.Still.Laws as Z′
+use Rattle.walk.proofs.still.Still as Z
+use Rattle.walk.proofs.still.Still.Laws as Z′
 use Rattle.walk.proofs.Stepped as E
 use Rattle.walk.proofs.Stepped.Laws as E′
 use Rattle.walk.proofs.Call as Y

@@ -1,11 +1,11 @@
 -- `walk::Progress::replay_numbers` meets its contract. Every check precedes the first write; then the blocks. Rests on the loop over the blocks and on what a call comes to.
 use mathlib.Core.Path.{sym, ap, _∙_}
 use lib.ListN.{length}
-use Rattle.tiling.specs.declared.Verdict.{Verdict}
-use Rattle.tiling.specs.Plan.{planOf}
-use Rattle.still.specs.Checks.{settle}
-use Rattle.still.specs.Laws.{settle-zero}
-use Rattle.calls.specs.Laws.{found-small}
+use Rattle.plan.specs.declared.tiling.Verdict.{Verdict}
+use Rattle.plan.specs.tiling.Plan.{planOf}
+use Rattle.walk.specs.still.Checks.{settle}
+use Rattle.walk.specs.still.Laws.{settle-zero}
+use Rattle.walk.specs.calls.Laws.{found-small}
 use Rattle.walk.specs.Listed.{bare, callOf, replay-asks, replay-ends}
 use borrow.Author.Needs.{needs}
 use Rattle.walk.proofs.Progress.replay_numbers.Statement.{statement}

@@ -1,0 +1,21 @@
+-- A sample of a list, and that every one of them is small. Assumes nothing.
+use mathlib.Core.Path.{refl}
+use native.Mathlib.Omega.{arith}
+use borrow.Author.Needs.{needs}
+use Rattle.bytes.proofs.pairs.sample_at.Statement.{statement}
+use Rattle.bytes.proofs.pairs.sample_at.Tie as tie
+
+mul-result : tie.Need-mul-result
+mul-result c = search needs
+
+shared-slice-read-result : tie.Need-shared-slice-read-result
+shared-slice-read-result c = search needs
+
+cast-result : tie.Need-cast-result
+cast-result c = omega (arith, c .shared-slice-known .given (c .before .args .k))
+
+returns : tie.Need-returns
+returns c = (refl, (omega (arith, c .shared-slice-known .given (c .before .args .k)), λ i. omega (arith, c .shared-slice-known .given i)))
+
+pub sample-at-spec : {M : Type 1} → statement M
+sample-at-spec = tie.close (tie.spec mul-result shared-slice-read-result cast-result returns)

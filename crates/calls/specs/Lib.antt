@@ -1,7 +1,0 @@
--- Door: what a call refuses and leaves behind.
-pub mod Door
--- Ready: what the loops over its blocks ask. Turns: the turns of such a loop.
-pub mod Ready
-pub mod Turns
--- Laws: what a verdict tells, that a refused call leaves all as it was, and what a call comes to.
-pub mod Laws

@@ -1,0 +1,71 @@
+-- `byte_angular::copies_n` meets its contract. The loop makes the block row by row; with no fraction a row is copied. Assumes nothing.
+use mathlib.Core.Path.{_≡_, _∙_}
+use Prim.Native.Nat.{_*_, _-_, _≤_}
+use native.Mathlib.Omega.{arith}
+use borrow.Author.Needs.{needs}
+use lib.ListN.{length}
+use Rattle.samples.specs.lines.Starts.{lineStart, fractionOf}
+use Rattle.predict.specs.angular.Lines.{lineAt}
+use Rattle.laws.specs.Weigh.{row-room}
+use Rattle.laws.specs.Fill.{rows}
+use Rattle.laws.specs.FillLaws.{rows-none, rows-more, rows-done}
+use Rattle.predict.specs.angular.Reach.{copy-within, copied, no-fraction}
+use Rattle.bytes.specs.Bytes.{samplesOf}
+use Rattle.camera.proofs.byte_angular.copies_n.Statement.{statement}
+use Rattle.camera.proofs.byte_angular.copies_n.Tie as tie
+
+abbrev Inv-loop : tie.InvT-loop
+Inv-loop refs b e n out₀ r₀ out r = (r ≤ n) × ((length out ≡ length out₀) × (samplesOf out ≡ rows (lineAt (samplesOf refs) b e) n r (samplesOf out₀)))
+
+abbrev μ-loop : tie.MeasureT-loop
+μ-loop refs b e n out₀ r₀ out r = n - r
+
+loop-holds : tie.Need-loop-holds Inv-loop μ-loop
+loop-holds c = (search needs, (search needs, rows-none _ _ _))
+
+start-requires : tie.Need-start-requires Inv-loop μ-loop
+start-requires c κs = search needs
+
+mul-through : tie.Need-mul-through Inv-loop μ-loop
+mul-through c = omega (arith, row-room _ _ (c .before .loop-test .taken))
+
+through-requires : tie.Need-through-requires Inv-loop μ-loop
+through-requires c κs =
+    let w = copy-within (c .before .before .before .before .before .before .args .b) (c .before .before .before .before .before .before .args .e) (c .before .before .before .loop .r) (c .before .before .before .before .before .before .args .n) (c .before .before .before .before .before .before .pre .1 .1 .base) (c .before .before .before .before .before .before .pre .1 .1 .size) (c .before .before .loop-test .taken) (c .before .before .before .before .before .before .pre .1 .1 .angle) in
+    let h = row-room _ _ (c .before .before .loop-test .taken) in
+    (search needs, search needs)
+
+add-r : tie.Need-add-r Inv-loop μ-loop
+add-r c = search needs
+
+loop-less : tie.Need-loop-less Inv-loop μ-loop
+loop-less c = search needs
+
+loop-again : tie.Need-loop-again Inv-loop μ-loop
+loop-again c =
+    let a = c .before .before .before .before .before .before .before .before .before .args in
+    let r = c .before .before .before .before .before .before .loop .r in
+    let made = rw (c .before .before .before .before .start .ensures) at (c .before .before .through .ensures) in
+    (search needs, (search needs, made ∙ copied (samplesOf (a .refs .now)) (lineStart (a .b) (a .e) r) (fractionOf (a .e) r) (r * a .n) (a .n) _ (no-fraction (a .e) r (c .before .before .before .before .before .before .before .before .before .pre .1 .0)) ∙ rows-more _ _ _ _ (c .before .before .before .before .before .before .loop .inv .1 .1)))
+
+same-length : tie.Need-same-length Inv-loop μ-loop
+same-length c = search needs
+
+returns : tie.Need-returns Inv-loop μ-loop
+returns c = rows-done _ _ _ (c .before .loop .inv .0) (c .loop-test .left) (c .before .loop .inv .1 .1)
+
+pub copies-n-spec : {M : Type 1} → statement M
+copies-n-spec =
+    tie.close
+    (tie.spec
+    Inv-loop
+    μ-loop
+    loop-holds
+    start-requires
+    mul-through
+    through-requires
+    add-r
+    loop-less
+    loop-again
+    same-length
+    returns)

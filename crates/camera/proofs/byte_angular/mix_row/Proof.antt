@@ -1,0 +1,89 @@
+-- `byte_angular::mix_row` meets its contract. The loop makes a run of samples, one a turn. Assumes nothing.
+use Prim.Native.Nat.{ℕ, _+_, _-_, _≤_}
+use mathlib.Core.Path.{_≡_, _∙_}
+use lib.ListN.{length, getD}
+use borrow.Author.Needs.{needs}
+use Rattle.bytes.specs.Bytes.{samplesOf}
+use Rattle.laws.specs.Fill.{run}
+use Rattle.laws.specs.FillLaws.{run-none, run-more, run-done}
+use Rattle.samples.specs.taps.Taps.{interpOf}
+use Rattle.samples.specs.taps.Laws.{by-fraction}
+use Rattle.camera.proofs.byte_angular.mix_row.Statement.{statement}
+use Rattle.camera.proofs.byte_angular.mix_row.Tie as tie
+
+abbrev Inv-loop : tie.InvT-loop
+Inv-loop refs s f n at t₀ c₀ t c =
+    (c ≤ n) × ((length t ≡ length t₀) × (t ≡ run (λ (k : ℕ). interpOf f (getD (samplesOf refs) (s + k) 0) (getD (samplesOf refs) (s + k + 1) 0)) at c t₀))
+
+abbrev μ-loop : tie.MeasureT-loop
+μ-loop refs s f n at t₀ c₀ t c = n - c
+
+loop-holds : tie.Need-loop-holds Inv-loop μ-loop
+loop-holds c = (search needs, (search needs, run-none _ _ _))
+
+add-sample-in : tie.Need-add-sample-in Inv-loop μ-loop
+add-sample-in c = search needs
+
+sample-in-requires : tie.Need-sample-in-requires Inv-loop μ-loop
+sample-in-requires c κs = search needs
+
+add-sample-in-2 : tie.Need-add-sample-in-2 Inv-loop μ-loop
+add-sample-in-2 c = search needs
+
+add-sample-in-3 : tie.Need-add-sample-in-3 Inv-loop μ-loop
+add-sample-in-3 c = search needs
+
+sample-in-requires-2 : tie.Need-sample-in-requires-2 Inv-loop μ-loop
+sample-in-requires-2 c κs = search needs
+
+interp-requires : tie.Need-interp-requires Inv-loop μ-loop
+interp-requires c κs = search needs
+
+add-t : tie.Need-add-t Inv-loop μ-loop
+add-t c = search needs
+
+mul-t : tie.Need-mul-t Inv-loop μ-loop
+mul-t c = search needs
+
+slice-write-t : tie.Need-slice-write-t Inv-loop μ-loop
+slice-write-t c = search needs
+
+add-c : tie.Need-add-c Inv-loop μ-loop
+add-c c = search needs
+
+loop-less : tie.Need-loop-less Inv-loop μ-loop
+loop-less c = search needs
+
+loop-again : tie.Need-loop-again Inv-loop μ-loop
+loop-again c =
+    let l = c .before .before .before .before in
+    let made = rw (c .before .before .sample-in .ensures, c .before .sample-in2 .ensures) at (c .interp .ensures) in
+    (search needs, (search needs, run-more _ _ _ (l .loop .inv .1 .1) (made ∙ by-fraction _ _ _ (l .before .before .before .pre .0))))
+
+same-length : tie.Need-same-length Inv-loop μ-loop
+same-length c = search needs
+
+returns : tie.Need-returns Inv-loop μ-loop
+returns c = run-done _ _ _ (c .before .loop .inv .0) (c .loop-test .left) (c .before .loop .inv .1 .1)
+
+pub mix-row-spec : {M : Type 1} → statement M
+mix-row-spec =
+    tie.close
+    (tie.spec
+    Inv-loop
+    μ-loop
+    loop-holds
+    add-sample-in
+    sample-in-requires
+    add-sample-in-2
+    add-sample-in-3
+    sample-in-requires-2
+    interp-requires
+    add-t
+    mul-t
+    slice-write-t
+    add-c
+    loop-less
+    loop-again
+    same-length
+    returns)

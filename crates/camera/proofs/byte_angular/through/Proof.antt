@@ -1,0 +1,40 @@
+-- `byte_angular::through` meets its contract. What went by way of the local array is what was read. Assumes nothing.
+use mathlib.Core.Path.{_∙_}
+use Prim.Native.Nat.{ℕ, _+_}
+use lib.ListN.{getD, replicate}
+use Rattle.predict.specs.angular.Reach.{by-way}
+use borrow.Author.Needs.{needs}
+use Rattle.bytes.specs.Bytes.{samplesOf}
+use Rattle.camera.proofs.byte_angular.through.Statement.{statement}
+use Rattle.camera.proofs.byte_angular.through.Tie as tie
+
+slice-aggregate-copy-row : tie.Need-slice-aggregate-copy-row
+slice-aggregate-copy-row c = search needs
+
+copy-row-requires : tie.Need-copy-row-requires
+copy-row-requires c κs = search needs
+
+slice-aggregate-put-row : tie.Need-slice-aggregate-put-row
+slice-aggregate-put-row c = search needs
+
+put-row-requires : tie.Need-put-row-requires
+put-row-requires c κs = search needs
+
+same-length : tie.Need-same-length
+same-length c = search needs
+
+returns : tie.Need-returns
+returns c =
+    let a = c .before .before .before .before .before .before .before .before .before .before .args in
+    c .before .before .put-row .ensures ∙ by-way (λ (k : ℕ). getD (samplesOf (a .refs .now)) (a .s + k) 0) _ (replicate 32 0) (samplesOf (a .out .now)) (a .at) (a .n) (search needs) (c .before .before .before .before .before .before .copy-row .ensures)
+
+pub through-spec : {M : Type 1} → statement M
+through-spec =
+    tie.close
+    (tie.spec
+    slice-aggregate-copy-row
+    copy-row-requires
+    slice-aggregate-put-row
+    put-row-requires
+    same-length
+    returns)

@@ -1,0 +1,129 @@
+-- `byte_angular::vertical` meets its contract. By angle, from the references or from the main row itself. Assumes nothing.
+use mathlib.Core.Path.{_∙_}
+use Prim.Native.Nat.{_≤_, _<_}
+use native.Mathlib.Omega.{arith}
+use lib.ListN.{getD}
+use Rattle.samples.specs.lines.Angles.{turns, bends}
+use Rattle.domain.specs.Facts.{size-small}
+use Rattle.predict.specs.angular.Blocks.{down-refs, down-main}
+use Rattle.predict.specs.angular.Reach.{within, within-low}
+use Rattle.predict.specs.angular.Tables.{turn-low, turn-high, bend-reach}
+use Rattle.bytes.specs.Bytes.{samplesOf}
+use Rattle.bytes.specs.Laws.{length-samples}
+use borrow.Author.Needs.{needs}
+use Rattle.camera.proofs.byte_angular.vertical.Statement.{statement}
+use Rattle.camera.proofs.byte_angular.vertical.Tie as tie
+
+turn-requires : tie.Need-turn-requires
+turn-requires c κs = search needs
+
+bend-requires : tie.Need-bend-requires
+bend-requires c κs = search needs
+
+slice-aggregate-build : tie.Need-slice-aggregate-build
+slice-aggregate-build c = search needs
+
+build-requires : tie.Need-build-requires
+build-requires c κs =
+    let p = c .before .before .before .before .before .before .before .pre .1 in
+    let q = c .before .before .before .turn .ensures in
+    let t = c .before .before .if1 .taken in
+    (search needs, (rw q (turn-low _ t), (rw (q, c .before .bend .ensures) (bend-reach _ _ (p .1 .0) (p .0)), (p .0, (p .1 .1 .0, (p .1 .1 .1 .0, let h = size-small _ (p .0) .1 in search needs))))))
+
+slice-aggregate-copies : tie.Need-slice-aggregate-copies
+slice-aggregate-copies c = search needs
+
+copies-requires : tie.Need-copies-requires
+copies-requires c κs =
+    let p = c .before .before .before .before .before .before .before .before .before .before .before .before .pre .1 in
+    let z = c .before .before .if2 .taken in
+    let l : c .before .before .before .before .before .before .before .before .turn .result < 32 = rw (c .before .before .before .before .before .before .before .before .turn .ensures) (turn-low _ (c .before .before .before .before .before .before .before .if1 .taken)) in
+    (search needs, (p .0, (omega arith, let h = size-small _ (p .0) .1 in record { angle = omega arith; base = omega arith; near = omega arith; size = h; refs = within-low _ _ _ _ l (search needs); room = search needs })))
+
+slice-aggregate-down : tie.Need-slice-aggregate-down
+slice-aggregate-down c = search needs
+
+down-requires : tie.Need-down-requires
+down-requires c κs =
+    let p = c .before .before .before .before .before .before .before .before .before .before .before .before .pre .1 in
+    let l : c .before .before .before .before .before .before .before .before .turn .result < 32 = rw (c .before .before .before .before .before .before .before .before .turn .ensures) (turn-low _ (c .before .before .before .before .before .before .before .if1 .taken)) in
+    (search needs, (p .0, (omega arith, let h = size-small _ (p .0) .1 in record { angle = omega arith; base = omega arith; near = omega arith; size = h; refs = within-low _ _ _ _ l (search needs); room = search needs })))
+
+copies-requires-2 : tie.Need-copies-requires-2
+copies-requires-2 c κs =
+    let p = c .before .before .before .before .before .before .before .pre .1 in
+    let l : (32 ≤ c .before .before .before .turn .result) × (c .before .before .before .turn .result ≤ 64) = rw (c .before .before .before .turn .ensures) (turn-high _ (c .before .before .if1 .left) (p .1 .0)) in
+    let z = c .before .if3 .taken in
+    (search needs, (p .0, (omega arith, let h = size-small _ (p .0) .1 in record { angle = omega arith; base = omega arith; near = omega arith; size = h; refs = within _ _ _ _ (search needs); room = search needs })))
+
+down-requires-2 : tie.Need-down-requires-2
+down-requires-2 c κs =
+    let p = c .before .before .before .before .before .before .before .pre .1 in
+    let l : (32 ≤ c .before .before .before .turn .result) × (c .before .before .before .turn .result ≤ 64) = rw (c .before .before .before .turn .ensures) (turn-high _ (c .before .before .if1 .left) (p .1 .0)) in
+    let z = c .before .if3 .left in
+    (search needs, (p .0, (omega arith, let h = size-small _ (p .0) .1 in record { angle = omega arith; base = omega arith; near = omega arith; size = h; refs = within _ _ _ _ (search needs); room = search needs })))
+
+same-length : tie.Need-same-length
+same-length c = search needs
+
+returns : tie.Need-returns
+returns c =
+    let a = c .before .before .before .before .before .before .before .before .before .before .before .before .before .before .before .args in
+    let p = c .before .before .before .before .before .before .before .before .before .before .before .before .before .before .before .pre .1 in
+    let q = c .before .before .before .before .before .before .before .before .before .before .before .turn .ensures in
+    let h = size-small _ (p .0) .1 in
+    rw q at (c .before .before .copies .ensures) ∙ down-refs (a .corner) (samplesOf (a .main .now)) (samplesOf (a .side .now)) (getD turns (a .d) 0) (getD bends (a .d) 0) (a .n) (p .0) (samplesOf (a .out .now)) _ _ (turn-low _ (c .before .before .before .before .before .before .before .before .before .before .if1 .taken)) (rw length-samples (search needs)) (rw (q, c .before .before .before .before .before .before .before .before .before .bend .ensures) at (c .before .before .before .before .before .before .before .build .ensures))
+
+same-length-2 : tie.Need-same-length-2
+same-length-2 c = search needs
+
+returns-2 : tie.Need-returns-2
+returns-2 c =
+    let a = c .before .before .before .before .before .before .before .before .before .before .before .before .before .before .before .args in
+    let p = c .before .before .before .before .before .before .before .before .before .before .before .before .before .before .before .pre .1 in
+    let q = c .before .before .before .before .before .before .before .before .before .before .before .turn .ensures in
+    let h = size-small _ (p .0) .1 in
+    rw q at (c .before .before .down .ensures) ∙ down-refs (a .corner) (samplesOf (a .main .now)) (samplesOf (a .side .now)) (getD turns (a .d) 0) (getD bends (a .d) 0) (a .n) (p .0) (samplesOf (a .out .now)) _ _ (turn-low _ (c .before .before .before .before .before .before .before .before .before .before .if1 .taken)) (rw length-samples (search needs)) (rw (q, c .before .before .before .before .before .before .before .before .before .bend .ensures) at (c .before .before .before .before .before .before .before .build .ensures))
+
+same-length-3 : tie.Need-same-length-3
+same-length-3 c = search needs
+
+returns-3 : tie.Need-returns-3
+returns-3 c =
+    let a = c .before .before .before .before .before .before .before .before .before .before .args in
+    let p = c .before .before .before .before .before .before .before .before .before .before .pre .1 in
+    let q = c .before .before .before .before .before .before .turn .ensures in
+    rw q at (c .before .before .copies2 .ensures) ∙ down-main (a .corner) (samplesOf (a .main .now)) (samplesOf (a .side .now)) (getD turns (a .d) 0) (getD bends (a .d) 0) (a .n) (p .0) (samplesOf (a .out .now)) (turn-high _ (c .before .before .before .before .before .if1 .left) (p .1 .0) .0)
+
+same-length-4 : tie.Need-same-length-4
+same-length-4 c = search needs
+
+returns-4 : tie.Need-returns-4
+returns-4 c =
+    let a = c .before .before .before .before .before .before .before .before .before .before .args in
+    let p = c .before .before .before .before .before .before .before .before .before .before .pre .1 in
+    let q = c .before .before .before .before .before .before .turn .ensures in
+    rw q at (c .before .before .down2 .ensures) ∙ down-main (a .corner) (samplesOf (a .main .now)) (samplesOf (a .side .now)) (getD turns (a .d) 0) (getD bends (a .d) 0) (a .n) (p .0) (samplesOf (a .out .now)) (turn-high _ (c .before .before .before .before .before .if1 .left) (p .1 .0) .0)
+
+pub vertical-spec : {M : Type 1} → statement M
+vertical-spec =
+    tie.close
+    (tie.spec
+    turn-requires
+    bend-requires
+    slice-aggregate-build
+    build-requires
+    slice-aggregate-copies
+    copies-requires
+    slice-aggregate-down
+    down-requires
+    copies-requires-2
+    down-requires-2
+    same-length
+    returns
+    same-length-2
+    returns-2
+    same-length-3
+    returns-3
+    same-length-4
+    returns-4)

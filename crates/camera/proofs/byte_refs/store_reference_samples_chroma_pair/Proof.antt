@@ -1,0 +1,57 @@
+-- The reach, the number with the buffer's room, then the rows stored. Assumes nothing.
+use mathlib.Core.Path.{ap, _∙_}
+use lib.ListN.{length}
+use Rattle.order.specs.Reach.{chromaReach}
+use Rattle.camera.specs.byte_entry.Checks.{done, refused}
+use Rattle.camera.specs.byte_refs.Spelt.{chroma-spelt-fine}
+use Rattle.camera.specs.byte_refs.Entry.{chromaEntry}
+use Rattle.camera.specs.byte_refs.Room.{chroma-entry-no, chroma-entry-fine}
+use borrow.Author.Needs.{needs}
+use Rattle.camera.proofs.byte_refs.store_reference_samples_chroma_pair.Statement.{statement}
+use Rattle.camera.proofs.byte_refs.store_reference_samples_chroma_pair.Tie as tie
+
+chroma-block-requires : tie.Need-chroma-block-requires
+chroma-block-requires c κs = search needs
+
+chroma-reach-requires : tie.Need-chroma-reach-requires
+chroma-reach-requires c κs = search needs
+
+chroma-no-requires : tie.Need-chroma-no-requires
+chroma-no-requires c κs = c .chroma-reach .ensures ∙ ap chromaReach (c .before .chroma-block .ensures)
+
+room-no-requires : tie.Need-room-no-requires
+room-no-requires c κs = search needs
+
+store-chroma-rows-requires : tie.Need-store-chroma-rows-requires
+store-chroma-rows-requires c κs =
+    let a = c .before .before .before .before .before .before .before .before .before .args in
+    let f = chroma-entry-fine (length (a .plane-cb .now)) (length (a .plane-cr .now)) (length (a .out .now)) (a .geo) (c .before .before .before .chroma-no .ensures) (c .before .before .room-no .ensures) (c .before .if1 .taken) in
+    (c .before .before .before .before .chroma-reach .ensures ∙ ap chromaReach (c .before .before .before .before .before .chroma-block .ensures), chroma-spelt-fine (a .plane-cb .now) (a .plane-cr .now) (a .geo) (f .1) .2, f .0)
+
+same-length : tie.Need-same-length
+same-length c = search needs
+
+returns : tie.Need-returns
+unfolding chromaEntry
+returns c =
+    let a = c .before .before .before .before .before .before .before .before .before .before .before .before .args in
+    done _ _ _ (chroma-entry-no (length (a .plane-cb .now)) (length (a .plane-cr .now)) (length (a .out .now)) (a .geo) (c .before .before .before .before .before .before .chroma-no .ensures) (c .before .before .before .before .before .room-no .ensures)) (c .before .before .before .before .if1 .taken) (c .before .before .store-chroma-rows .ensures)
+
+returns-2 : tie.Need-returns-2
+unfolding chromaEntry
+returns-2 c =
+    let a = c .before .before .before .before .before .before .before .before .args in
+    refused _ _ _ (chroma-entry-no (length (a .plane-cb .now)) (length (a .plane-cr .now)) (length (a .out .now)) (a .geo) (c .before .before .chroma-no .ensures) (c .before .room-no .ensures)) (c .if1 .left)
+
+pub store-reference-samples-chroma-pair-spec : {M : Type 1} → statement M
+store-reference-samples-chroma-pair-spec =
+    tie.close
+    (tie.spec
+    chroma-block-requires
+    chroma-reach-requires
+    chroma-no-requires
+    room-no-requires
+    store-chroma-rows-requires
+    same-length
+    returns
+    returns-2)

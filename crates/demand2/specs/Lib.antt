@@ -1,2 +1,0 @@
--- Demand2: luma gathering, smoothing and prediction are those of H.265.
-pub mod Demand2

@@ -1,2 +1,0 @@
--- Figures: document 01's figures P1 to P10, one table under one theorem.
-pub mod Figures

@@ -1,2 +1,0 @@
-// Document 01's figures P1 to P10, one table under one theorem; crate figures prints the same table. Laws alone; a library has at least one function.
-fn nothing() {}

@@ -1,0 +1,2 @@
+-- figures: a folder for each module.
+pub mod figure_table

@@ -1,4 +1,0 @@
--- Flat, Angular: what the samples of a predictor depend on and lie between. Modes: the clause that a mode takes, and the same for every mode.
-pub mod Flat
-pub mod Angular
-pub mod Modes

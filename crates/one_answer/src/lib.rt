@@ -1,2 +1,0 @@
-// At most one answer meets the contract of each public function. Laws alone; a library has at least one function.
-fn nothing() {}

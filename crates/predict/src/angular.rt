@@ -1,0 +1,484 @@
+// Angular prediction, modes 2 to 34, as H.265 8.4.4.2.6 has it. Rests on the standard's definitions, on the doors' numbers, on where lines start
+// and on the arithmetic of one sample (taps).
+// An angle stands as the angle plus 32 (`e`), and ref[i] at entry 64 + i of the scratch, so that no number is below 0.
+ghost use mathlib.Core.Path.{_≡_};
+ghost use Prim.Native.Nat.{ℕ, _+_, _-_, _*_, _/_, _%_, _≤_, _<_};
+ghost use mathlib.Core.List.{List};
+ghost use lib.ListN.{length, getD};
+ghost use Rattle.laws.specs.Fill.{fill, run, block};
+ghost use Rattle.laws.specs.Choose.{served};
+ghost use Rattle.h265.specs.Notation.{fromRows};
+ghost use Rattle.h265.specs.Angular.{angular};
+ghost use Rattle.domain.specs.Facts.{Depth, Size};
+ghost use Rattle.samples.specs.taps.Taps.{interpOf, edgeOf};
+ghost use Rattle.samples.specs.numbers.Numbers.{angularNo};
+ghost use Rattle.predict.specs.angular.Unsigned.{sideOf, refAt, sampleAt, angularAt};
+ghost use Rattle.samples.specs.lines.Starts.{lineStart, fractionOf, firstOf};
+ghost use Rattle.samples.specs.lines.Angles.{turns, bends};
+ghost use Rattle.predict.specs.angular.Lines.{lineAt, Reads};
+ghost use Rattle.predict.specs.angular.Grid.{column};
+use samples::lines;
+use samples::numbers;
+use samples::taps;
+
+// Where row r of an angle starts in a row of references whose entry b is ref[1], and its fraction.
+fn start(b: usize, e: usize, r: usize) -> usize
+    requires { ⌜ (e ≤ 64) × ((32 ≤ b + e) × ((b ≤ 128) × (r < 32))) ⌝ }
+    ensures { λ s. ⌜ s ≡ lineStart b e r ⌝ }
+{
+    lines::start(b as u32, e as u32, r as u32)
+}
+
+fn fraction(e: usize, r: usize) -> u32
+    requires { ⌜ (e ≤ 64) × (r < 32) ⌝ }
+    ensures { λ f. ⌜ (f ≡ fractionOf e r) × (f < 32) ⌝ }
+{
+    lines::fraction(e as u32, r as u32)
+}
+
+// n references from s on, into a row.
+fn copy_row(refs: &[u16], s: usize, n: usize, at: usize, pred: &mut [u16])
+    requires { ⌜ (s + n ≤ length (now refs)) × (at + n ≤ length (now pred)) ⌝ }
+    ensures { λ _. ⌜ now (pred .exit) ≡ run (λ (c : ℕ). getD (now (refs .entry)) (s + c) 0) at n (now (pred .entry)) ⌝ }
+{
+    for c in 0..n {
+        pred[at + c] = refs[s + c];
+    }
+}
+
+// The same between two references each.
+fn mix_row(refs: &[u16], s: usize, f: u32, n: usize, at: usize, pred: &mut [u16])
+    requires { ⌜ (f < 32) × ((s + n + 1 ≤ length (now refs)) × (at + n ≤ length (now pred))) ⌝ }
+    ensures { λ _. ⌜ now (pred .exit) ≡ run (λ (c : ℕ). interpOf f (getD (now (refs .entry)) (s + c) 0) (getD (now (refs .entry)) (s + c + 1) 0)) at n (now (pred .entry)) ⌝ }
+{
+    for c in 0..n {
+        pred[at + c] = taps::interp(f, refs[s + c], refs[s + c + 1]);
+    }
+}
+
+// Both by way of a local array: all reads come before the first store, which lets the compiler use wide loads and stores.
+fn through(refs: &[u16], s: usize, n: usize, at: usize, pred: &mut [u16])
+    requires { ⌜ (n ≤ 32) × ((s + n ≤ length (now refs)) × (at + n ≤ length (now pred))) ⌝ }
+    ensures { λ _. ⌜ now (pred .exit) ≡ run (λ (c : ℕ). getD (now (refs .entry)) (s + c) 0) at n (now (pred .entry)) ⌝ }
+{
+    let mut t = [0u16; 32];
+    copy_row(refs, s, n, 0, &mut t);
+    copy_row(&t, 0, n, at, &mut *pred);
+}
+
+fn row(refs: &[u16], s: usize, f: u32, n: usize, at: usize, pred: &mut [u16])
+    requires { ⌜ (f < 32) × ((n ≤ 32) × ((s + n + 1 ≤ length (now refs)) × (at + n ≤ length (now pred)))) ⌝ }
+    ensures { λ _. ⌜ now (pred .exit) ≡ run (λ (c : ℕ). interpOf f (getD (now (refs .entry)) (s + c) 0) (getD (now (refs .entry)) (s + c + 1) 0)) at n (now (pred .entry)) ⌝ }
+{
+    let mut t = [0u16; 32];
+    mix_row(refs, s, f, n, 0, &mut t);
+    copy_row(&t, 0, n, at, &mut *pred);
+}
+
+// The rows of a vertical mode.
+fn down_n(refs: &[u16], b: usize, e: usize, n: usize, pred: &mut [u16])
+    requires { ⌜ (e < 64) × Reads b e n (length (now refs)) (length (now pred)) ⌝ }
+    ensures { λ _. ⌜ now (pred .exit) ≡ block (lineAt (now (refs .entry)) b e) n (now (pred .entry)) ⌝ }
+{
+    for r in 0..n {
+        row(refs, start(b, e, r), fraction(e, r), n, r * n, &mut *pred);
+    }
+}
+
+// A row of four is too short for wide stores, a block of four by four is not.
+fn mix_rows(refs: &[u16], b: usize, e: usize, n: usize, pred: &mut [u16])
+    requires { ⌜ (e < 64) × Reads b e n (length (now refs)) (length (now pred)) ⌝ }
+    ensures { λ _. ⌜ now (pred .exit) ≡ block (lineAt (now (refs .entry)) b e) n (now (pred .entry)) ⌝ }
+{
+    for r in 0..n {
+        mix_row(refs, start(b, e, r), fraction(e, r), n, r * n, &mut *pred);
+    }
+}
+
+fn down_4(refs: &[u16], b: usize, e: usize, pred: &mut [u16])
+    requires { ⌜ (e < 64) × Reads b e 4 (length (now refs)) (length (now pred)) ⌝ }
+    ensures { λ _. ⌜ now (pred .exit) ≡ block (lineAt (now (refs .entry)) b e) 4 (now (pred .entry)) ⌝ }
+{
+    let mut t = [0u16; 16];
+    mix_rows(refs, b, e, 4, &mut t);
+    copy_row(&t, 0, 16, 0, &mut *pred);
+}
+
+// A loop for each size, so that the compiler knows how long a row is.
+fn down(refs: &[u16], b: usize, e: usize, n: usize, pred: &mut [u16])
+    requires { ⌜ Size n × ((e < 64) × Reads b e n (length (now refs)) (length (now pred))) ⌝ }
+    ensures { λ _. ⌜ now (pred .exit) ≡ block (lineAt (now (refs .entry)) b e) n (now (pred .entry)) ⌝ }
+{
+    match n {
+        4 => down_4(refs, b, e, &mut *pred),
+        8 => down_n(refs, b, e, 8, &mut *pred),
+        16 => down_n(refs, b, e, 16, &mut *pred),
+        _ => down_n(refs, b, e, 32, &mut *pred),
+    }
+}
+
+// Angles of whole references: each row is copied.
+fn copies_n(refs: &[u16], b: usize, e: usize, n: usize, pred: &mut [u16])
+    requires { ⌜ (e % 32 ≡ 0) × Reads b e n (length (now refs)) (length (now pred)) ⌝ }
+    ensures { λ _. ⌜ now (pred .exit) ≡ block (lineAt (now (refs .entry)) b e) n (now (pred .entry)) ⌝ }
+{
+    for r in 0..n {
+        through(refs, start(b, e, r), n, r * n, &mut *pred);
+    }
+}
+
+fn copies(refs: &[u16], b: usize, e: usize, n: usize, pred: &mut [u16])
+    requires { ⌜ Size n × ((e % 32 ≡ 0) × Reads b e n (length (now refs)) (length (now pred))) ⌝ }
+    ensures { λ _. ⌜ now (pred .exit) ≡ block (lineAt (now (refs .entry)) b e) n (now (pred .entry)) ⌝ }
+{
+    match n {
+        4 => copies_n(refs, b, e, 4, &mut *pred),
+        8 => copies_n(refs, b, e, 8, &mut *pred),
+        16 => copies_n(refs, b, e, 16, &mut *pred),
+        _ => copies_n(refs, b, e, 32, &mut *pred),
+    }
+}
+
+// The columns of a horizontal mode, by way of a local array too.
+fn put_col(t: &[u16], n: usize, c: usize, pred: &mut [u16])
+    requires { ⌜ (c < n) × ((n ≤ 32) × ((n ≤ length (now t)) × (n * n ≤ length (now pred)))) ⌝ }
+    ensures { λ _. ⌜ now (pred .exit) ≡ column (λ (r : ℕ). getD (now (t .entry)) r 0) c n n (now (pred .entry)) ⌝ }
+{
+    for r in 0..n {
+        pred[r * n + c] = t[r];
+    }
+}
+
+fn col(refs: &[u16], s: usize, f: u32, n: usize, c: usize, pred: &mut [u16])
+    requires { ⌜ (f < 32) × ((c < n) × ((n ≤ 32) × ((s + n + 1 ≤ length (now refs)) × (n * n ≤ length (now pred))))) ⌝ }
+    ensures { λ _. ⌜ now (pred .exit) ≡ column (λ (r : ℕ). interpOf f (getD (now (refs .entry)) (s + r) 0) (getD (now (refs .entry)) (s + r + 1) 0)) c n n (now (pred .entry)) ⌝ }
+{
+    let mut t = [0u16; 32];
+    mix_row(refs, s, f, n, 0, &mut t);
+    put_col(&t, n, c, &mut *pred);
+}
+
+fn across_n(refs: &[u16], b: usize, e: usize, n: usize, pred: &mut [u16])
+    requires { ⌜ (0 < n) × ((e < 64) × Reads b e n (length (now refs)) (length (now pred))) ⌝ }
+    ensures { λ _. ⌜ now (pred .exit) ≡ block (λ (r c : ℕ). lineAt (now (refs .entry)) b e c r) n (now (pred .entry)) ⌝ }
+{
+    for c in 0..n {
+        col(refs, start(b, e, c), fraction(e, c), n, c, &mut *pred);
+    }
+}
+
+fn across(refs: &[u16], b: usize, e: usize, n: usize, pred: &mut [u16])
+    requires { ⌜ Size n × ((e < 64) × Reads b e n (length (now refs)) (length (now pred))) ⌝ }
+    ensures { λ _. ⌜ now (pred .exit) ≡ block (λ (r c : ℕ). lineAt (now (refs .entry)) b e c r) n (now (pred .entry)) ⌝ }
+{
+    match n {
+        4 => across_n(refs, b, e, 4, &mut *pred),
+        8 => across_n(refs, b, e, 8, &mut *pred),
+        16 => across_n(refs, b, e, 16, &mut *pred),
+        _ => across_n(refs, b, e, 32, &mut *pred),
+    }
+}
+
+// Pure horizontal: each row is one sample.
+fn flat_row(v: u16, n: usize, at: usize, pred: &mut [u16])
+    requires { ⌜ at + n ≤ length (now pred) ⌝ }
+    ensures { λ _. ⌜ now (pred .exit) ≡ run (λ (c : ℕ). v) at n (now (pred .entry)) ⌝ }
+{
+    for c in 0..n {
+        pred[at + c] = v;
+    }
+}
+
+fn flats_n(left: &[u16], n: usize, pred: &mut [u16])
+    requires { ⌜ (n ≤ 32) × ((2 * n ≤ length (now left)) × (n * n ≤ length (now pred))) ⌝ }
+    ensures { λ _. ⌜ now (pred .exit) ≡ block (λ (r c : ℕ). getD (now (left .entry)) r 0) n (now (pred .entry)) ⌝ }
+{
+    for r in 0..n {
+        flat_row(left[r], n, r * n, &mut *pred);
+    }
+}
+
+fn flats(left: &[u16], n: usize, pred: &mut [u16])
+    requires { ⌜ Size n × ((2 * n ≤ length (now left)) × (n * n ≤ length (now pred))) ⌝ }
+    ensures { λ _. ⌜ now (pred .exit) ≡ block (λ (r c : ℕ). getD (now (left .entry)) r 0) n (now (pred .entry)) ⌝ }
+{
+    match n {
+        4 => flats_n(left, 4, &mut *pred),
+        8 => flats_n(left, 8, &mut *pred),
+        16 => flats_n(left, 16, &mut *pred),
+        _ => flats_n(left, 32, &mut *pred),
+    }
+}
+
+// The edge samples of the pure modes.
+fn edges(a: u16, side: &[u16], corner: u16, max: u16, n: usize, t: &mut [u16])
+    requires { ⌜ (n ≤ length (now side)) × (n ≤ length (now t)) ⌝ }
+    ensures { λ _. ⌜ now (t .exit) ≡ fill (λ (i : ℕ). edgeOf max a (getD (now (side .entry)) i 0) corner) n (now (t .entry)) ⌝ }
+{
+    for i in 0..n {
+        t[i] = taps::edge(a, side[i], corner, max);
+    }
+}
+
+// The first column.
+fn edge_col(a: u16, left: &[u16], corner: u16, max: u16, n: usize, pred: &mut [u16])
+    requires { ⌜ (0 < n) × ((n ≤ 32) × ((n ≤ length (now left)) × (n * n ≤ length (now pred)))) ⌝ }
+    ensures { λ _. ⌜ now (pred .exit) ≡ column (λ (r : ℕ). edgeOf max a (getD (now (left .entry)) r 0) corner) 0 n n (now (pred .entry)) ⌝ }
+{
+    let mut t = [0u16; 32];
+    edges(a, left, corner, max, n, &mut t);
+    put_col(&t, n, 0, &mut *pred);
+}
+
+fn edge_down(a: u16, left: &[u16], corner: u16, max: u16, n: usize, pred: &mut [u16])
+    requires { ⌜ Size n × ((n < 32) × ((n ≤ length (now left)) × (n * n ≤ length (now pred)))) ⌝ }
+    ensures { λ _. ⌜ now (pred .exit) ≡ column (λ (r : ℕ). edgeOf max a (getD (now (left .entry)) r 0) corner) 0 n n (now (pred .entry)) ⌝ }
+{
+    match n {
+        4 => edge_col(a, left, corner, max, 4, &mut *pred),
+        8 => edge_col(a, left, corner, max, 8, &mut *pred),
+        _ => edge_col(a, left, corner, max, 16, &mut *pred),
+    }
+}
+
+// The first row.
+fn edge_row(a: u16, above: &[u16], corner: u16, max: u16, n: usize, pred: &mut [u16])
+    requires { ⌜ (n ≤ 32) × ((n ≤ length (now above)) × (n ≤ length (now pred))) ⌝ }
+    ensures { λ _. ⌜ now (pred .exit) ≡ fill (λ (c : ℕ). edgeOf max a (getD (now (above .entry)) c 0) corner) n (now (pred .entry)) ⌝ }
+{
+    let mut t = [0u16; 32];
+    edges(a, above, corner, max, n, &mut t);
+    copy_row(&t, 0, n, 0, &mut *pred);
+}
+
+fn edge_across(a: u16, above: &[u16], corner: u16, max: u16, n: usize, pred: &mut [u16])
+    requires { ⌜ Size n × ((n < 32) × ((n ≤ length (now above)) × (n ≤ length (now pred)))) ⌝ }
+    ensures { λ _. ⌜ now (pred .exit) ≡ fill (λ (c : ℕ). edgeOf max a (getD (now (above .entry)) c 0) corner) n (now (pred .entry)) ⌝ }
+{
+    match n {
+        4 => edge_row(a, above, corner, max, 4, &mut *pred),
+        8 => edge_row(a, above, corner, max, 8, &mut *pred),
+        _ => edge_row(a, above, corner, max, 16, &mut *pred),
+    }
+}
+
+// A reference before the main row: the corner, or one projected from the side row.
+fn lower(corner: u16, side: &[u16], inv: usize, j: usize) -> u16
+    requires { ⌜ (j ≤ 64) × ((sideOf inv j ≤ 64) × (sideOf inv j ≤ length (now side))) ⌝ }
+    ensures { λ r. ⌜ ((main : List ℕ) → r ≡ refAt (fromRows corner main (now (side .entry))) inv j) ⌝ }
+{
+    let s = ((64 - j) * inv + 128) / 256;
+    if s == 0 {
+        return corner;
+    }
+    side[s - 1]
+}
+
+fn lowers(corner: u16, side: &[u16], inv: usize, lo: usize, count: usize, refs: &mut [u16])
+    requires { ⌜ (lo + count ≤ 65) × ((sideOf inv lo ≤ 64) × ((sideOf inv lo ≤ length (now side)) × (65 ≤ length (now refs)))) ⌝ }
+    ensures { λ _. ⌜ ((main : List ℕ) → now (refs .exit) ≡ run (λ (i : ℕ). refAt (fromRows corner main (now (side .entry))) inv (lo + i)) lo count (now (refs .entry))) ⌝ }
+{
+    for i in 0..count {
+        refs[lo + i] = lower(corner, side, inv, lo + i);
+    }
+}
+
+fn main_refs(main: &[u16], n: usize, refs: &mut [u16])
+    requires { ⌜ Size n × ((2 * n ≤ length (now main)) × (65 + n ≤ length (now refs))) ⌝ }
+    ensures { λ _. ⌜ now (refs .exit) ≡ run (λ (c : ℕ). getD (now (main .entry)) (0 + c) 0) 65 n (now (refs .entry)) ⌝ }
+{
+    match n {
+        4 => through(main, 0, 4, 65, &mut *refs),
+        8 => through(main, 0, 8, 65, &mut *refs),
+        16 => through(main, 0, 16, 65, &mut *refs),
+        _ => through(main, 0, 32, 65, &mut *refs),
+    }
+}
+
+// The references of a negative angle, as far as they are read.
+fn build(corner: u16, main: &[u16], side: &[u16], e: usize, inv: usize, n: usize, refs: &mut [u16])
+    requires { ⌜ (e < 32) × ((sideOf inv (firstOf e n) ≤ 2 * n) × (Size n × ((2 * n ≤ length (now main)) × ((2 * n ≤ length (now side)) × (65 + n ≤ length (now refs)))))) ⌝ }
+    ensures { λ _. ⌜ now (refs .exit) ≡ run (λ (i : ℕ). refAt (fromRows corner (now (main .entry)) (now (side .entry))) inv (firstOf e n + i)) (firstOf e n) (65 + n - firstOf e n) (now (refs .entry)) ⌝ }
+{
+    let lo = lines::first(e as u32, n as u32);
+    lowers(corner, side, inv, lo, 65 - lo, &mut *refs);
+    main_refs(main, n, &mut *refs);
+}
+
+// Angles are below 0 where d is below 8; a test of e itself would turn the table into branches.
+// A vertical mode that is not 26: main is the row above, side the one to the left.
+fn vertical(
+    corner: u16,
+    main: &[u16],
+    side: &[u16],
+    n: usize,
+    d: usize,
+    pred: &mut [u16],
+    refs: &mut [u16],
+)
+    requires { ⌜ Size n × ((d < 17) × ((2 * n ≤ length (now main)) × ((2 * n ≤ length (now side)) × ((n * n ≤ length (now pred)) × (65 + n ≤ length (now refs)))))) ⌝ }
+    ensures { λ _. ⌜ now (pred .exit) ≡ block (sampleAt (fromRows corner (now (main .entry)) (now (side .entry))) (getD turns d 0) (getD bends d 0)) n (now (pred .entry)) ⌝ }
+{
+    let e = lines::turn(d);
+    if d < 8 {
+        build(corner, main, side, e, lines::bend(d), n, &mut *refs);
+        if e == 0 {
+            copies(&*refs, 65, e, n, &mut *pred);
+        } else {
+            down(&*refs, 65, e, n, &mut *pred);
+        }
+    } else {
+        if e == 64 {
+            copies(main, 0, e, n, &mut *pred);
+        } else {
+            down(main, 0, e, n, &mut *pred);
+        }
+    }
+}
+
+// A horizontal mode that is not 10: main is the row to the left, side the one above, and rows are columns.
+fn horizontal(
+    corner: u16,
+    main: &[u16],
+    side: &[u16],
+    n: usize,
+    d: usize,
+    pred: &mut [u16],
+    refs: &mut [u16],
+)
+    requires { ⌜ Size n × ((d < 17) × ((2 * n ≤ length (now main)) × ((2 * n ≤ length (now side)) × ((n * n ≤ length (now pred)) × (65 + n ≤ length (now refs)))))) ⌝ }
+    ensures { λ _. ⌜ now (pred .exit) ≡ block (λ (r c : ℕ). sampleAt (fromRows corner (now (main .entry)) (now (side .entry))) (getD turns d 0) (getD bends d 0) c r) n (now (pred .entry)) ⌝ }
+{
+    let e = lines::turn(d);
+    if d < 8 {
+        build(corner, main, side, e, lines::bend(d), n, &mut *refs);
+        across(&*refs, 65, e, n, &mut *pred);
+    } else {
+        if e == 64 {
+            copies(main, 0, e, n, &mut *pred);
+        } else {
+            across(main, 0, e, n, &mut *pred);
+        }
+    }
+}
+
+// Modes 26 and 10.
+fn pure_vertical(
+    corner: u16,
+    above: &[u16],
+    left: &[u16],
+    n: usize,
+    edge: bool,
+    bits: u32,
+    pred: &mut [u16],
+)
+    requires { ⌜ Depth bits × (Size n × ((2 * n ≤ length (now above)) × ((2 * n ≤ length (now left)) × (n * n ≤ length (now pred))))) ⌝ }
+    ensures { λ _. ⌜ now (pred .exit) ≡ block (λ (y x : ℕ). angularAt bits edge n 26 (fromRows corner (now (above .entry)) (now (left .entry))) x y) n (now (pred .entry)) ⌝ }
+{
+    copies(above, 0, 32, n, &mut *pred);
+    if taps::filtered(edge, n) {
+        edge_down(
+            above[0],
+            left,
+            corner,
+            taps::largest_of(bits),
+            n,
+            &mut *pred,
+        );
+    }
+}
+
+fn pure_horizontal(
+    corner: u16,
+    above: &[u16],
+    left: &[u16],
+    n: usize,
+    edge: bool,
+    bits: u32,
+    pred: &mut [u16],
+)
+    requires { ⌜ Depth bits × (Size n × ((2 * n ≤ length (now above)) × ((2 * n ≤ length (now left)) × (n * n ≤ length (now pred))))) ⌝ }
+    ensures { λ _. ⌜ now (pred .exit) ≡ block (λ (y x : ℕ). angularAt bits edge n 10 (fromRows corner (now (above .entry)) (now (left .entry))) x y) n (now (pred .entry)) ⌝ }
+{
+    flats(left, n, &mut *pred);
+    if taps::filtered(edge, n) {
+        edge_across(
+            left[0],
+            above,
+            corner,
+            taps::largest_of(bits),
+            n,
+            &mut *pred,
+        );
+    }
+}
+
+fn work(
+    corner: u16,
+    above: &[u16],
+    left: &[u16],
+    n: usize,
+    mode: usize,
+    edge: bool,
+    bits: u32,
+    pred: &mut [u16],
+    refs: &mut [u16],
+)
+    requires { ⌜ Depth bits × (Size n × ((2 ≤ mode) × ((mode < 35) × ((2 * n ≤ length (now above)) × ((2 * n ≤ length (now left)) × ((n * n ≤ length (now pred)) × (65 + n ≤ length (now refs)))))))) ⌝ }
+    ensures { λ _. ⌜ now (pred .exit) ≡ block (λ (y x : ℕ). angular bits edge n mode (fromRows corner (now (above .entry)) (now (left .entry))) x y) n (now (pred .entry)) ⌝ }
+{
+    match mode {
+        10 => pure_horizontal(corner, above, left, n, edge, bits, &mut *pred),
+        26 => pure_vertical(corner, above, left, n, edge, bits, &mut *pred),
+        _ => {
+            if mode < 18 {
+                horizontal(corner, left, above, n, 18 - mode, &mut *pred, &mut *refs);
+            } else {
+                vertical(corner, above, left, n, mode - 18, &mut *pred, &mut *refs);
+            }
+        }
+    }
+}
+
+// The slices are the three tables of the Rust's scratch. The indices and fractions are asked for and go unused: a column's are constants of its loop.
+pub fn predict_angular_slices(
+    corner: u16,
+    above: &[u16],
+    left: &[u16],
+    n: usize,
+    mode: u8,
+    filter_boundary: bool,
+    bits: u32,
+    pred: &mut [u16],
+    refs: &mut [u16],
+    indices: &mut [u32],
+    fractions: &mut [u32],
+) -> u32
+    ensures { λ r. ⌜ (r ≡ angularNo bits n mode (record { above = length (now (above .entry)); left = length (now (left .entry)); pred = length (now (pred .entry)); refs = length (now (refs .entry)); indices = length (now (indices .entry)); fractions = length (now (fractions .entry)) })) × ((now (pred .exit) ≡ served r (block (λ (y x : ℕ). angular bits «filter_boundary» n mode (fromRows corner (now (above .entry)) (now (left .entry))) x y) n (now (pred .entry))) (now (pred .entry))) × ((r ≡ 0 → ⊥) → (now (refs .exit) ≡ now (refs .entry)) × ((now (indices .exit) ≡ now (indices .entry)) × (now (fractions .exit) ≡ now (fractions .entry))))) ⌝ }
+{
+    let no = numbers::angular_no(
+        bits,
+        n,
+        mode,
+        above.len(),
+        left.len(),
+        pred.len(),
+        refs.len(),
+        indices.len(),
+        fractions.len(),
+    );
+    if no == 0 {
+        work(
+            corner,
+            above,
+            left,
+            n,
+            mode as usize,
+            filter_boundary,
+            bits,
+            &mut *pred,
+            &mut *refs,
+        );
+    }
+    no
+}

@@ -1,0 +1,17 @@
+// The rows that a luma block is predicted from, H.265 8.4.4.2.1: smoothed where the rule says so, and as they are where it does not.
+// Rests on the doors of rule and smoothing.
+ghost use mathlib.Core.Path.{_≡_};
+ghost use Rattle.predict.specs.luma_rows.LumaRows.{usedRows};
+use domain::rows;
+
+// Its rows for every input: where the doors refuse, what they give.
+pub fn luma_rows(mode: u8, rows: rows::Rows, n: usize, bits: u32) -> rows::Rows
+    ensures { λ r. ⌜ r ≡ usedRows bits n mode rows ⌝ }
+{
+    if smooth::should_filter_refs(mode, n).yes {
+        let above = rows.above;
+        let left = rows.left;
+        return smooth::filter_luma_refs(rows.corner, &above, &left, n, bits).rows;
+    }
+    rows
+}

@@ -1,0 +1,226 @@
+// Entries at native types for the runs of prediction, residual and reconstruction against the Rust: each calls a door. Rests on the doors' contracts.
+ghost use mathlib.Core.Path.{_≡_};
+ghost use mathlib.Core.Bool.{true};
+ghost use Prim.Native.Nat.{ℕ};
+ghost use lib.ListN.{length};
+ghost use Rattle.laws.specs.Choose.{served};
+ghost use Rattle.laws.specs.Fill.{block};
+ghost use Rattle.h265.specs.Notation.{fromRows};
+ghost use Rattle.h265.specs.Planar.{planar};
+ghost use Rattle.h265.specs.Dc.{dc};
+ghost use Rattle.h265.specs.Angular.{angular};
+ghost use Rattle.samples.specs.numbers.Numbers.{flatNo, angularNo, predictNo};
+ghost use Rattle.residual.specs.Residual.{residualNo, residualsAfter, reconstructNo, reconstructed};
+ghost use Rattle.h265.specs.Setting.{lumaAt, first};
+ghost use Rattle.h265.specs.Prediction.{predSamples};
+ghost use Rattle.domain.specs.rows.Neighbours.{neighboursOf};
+ghost use Rattle.predict.specs.Contents.{chromaAt};
+ghost use Rattle.predict.specs.scratch.Lent.{withScratch};
+use domain::rows::Rows;
+use predict::angular;
+use predict::flat;
+use predict::scratch_angular;
+use predict::scratch_predict;
+
+#[no_mangle]
+pub extern "C" fn salvrunde_probe_predict_planar_into(
+    above: &[u16],
+    left: &[u16],
+    n: usize,
+    pred: &mut [u16],
+) -> u32
+    ensures { λ r. ⌜ (r ≡ flatNo n (length (now (above .entry))) (length (now (left .entry))) (length (now (pred .entry)))) × (now (pred .exit) ≡ served r (block (λ (y x : ℕ). planar n (fromRows 0 (now (above .entry)) (now (left .entry))) x y) n (now (pred .entry))) (now (pred .entry))) ⌝ }
+{
+    flat::predict_planar_into(above, left, n, &mut *pred)
+}
+
+#[no_mangle]
+pub extern "C" fn salvrunde_probe_predict_dc_into(
+    above: &[u16],
+    left: &[u16],
+    n: usize,
+    filter_boundary: bool,
+    pred: &mut [u16],
+) -> u32
+    ensures { λ r. ⌜ (r ≡ flatNo n (length (now (above .entry))) (length (now (left .entry))) (length (now (pred .entry)))) × (now (pred .exit) ≡ served r (block (λ (y x : ℕ). dc «filter_boundary» n (fromRows 0 (now (above .entry)) (now (left .entry))) x y) n (now (pred .entry))) (now (pred .entry))) ⌝ }
+{
+    flat::predict_dc_into(above, left, n, filter_boundary, &mut *pred)
+}
+
+#[no_mangle]
+pub extern "C" fn salvrunde_probe_predict_angular_slices(
+    corner: u16,
+    above: &[u16],
+    left: &[u16],
+    n: usize,
+    mode: u8,
+    filter_boundary: bool,
+    bits: u32,
+    pred: &mut [u16],
+    refs: &mut [u16],
+    indices: &mut [u32],
+    fractions: &mut [u32],
+) -> u32
+    ensures { λ r. ⌜ (r ≡ angularNo bits n mode (record { above = length (now (above .entry)); left = length (now (left .entry)); pred = length (now (pred .entry)); refs = length (now (refs .entry)); indices = length (now (indices .entry)); fractions = length (now (fractions .entry)) })) × ((now (pred .exit) ≡ served r (block (λ (y x : ℕ). angular bits «filter_boundary» n mode (fromRows corner (now (above .entry)) (now (left .entry))) x y) n (now (pred .entry))) (now (pred .entry))) × ((r ≡ 0 → ⊥) → (now (refs .exit) ≡ now (refs .entry)) × ((now (indices .exit) ≡ now (indices .entry)) × (now (fractions .exit) ≡ now (fractions .entry))))) ⌝ }
+{
+    angular::predict_angular_slices(
+        corner,
+        above,
+        left,
+        n,
+        mode,
+        filter_boundary,
+        bits,
+        &mut *pred,
+        &mut *refs,
+        &mut *indices,
+        &mut *fractions,
+    )
+}
+
+#[no_mangle]
+pub extern "C" fn salvrunde_probe_compute_residual_i32_into(
+    orig: &[u16],
+    pred: &[u16],
+    n: usize,
+    residual: &mut [i32],
+) -> u32
+    ensures { λ r. ⌜ (r ≡ residualNo n (length (now (orig .entry))) (length (now (pred .entry))) (length (now (residual .entry)))) × (now (residual .exit) ≡ residualsAfter n (now (orig .entry)) (now (pred .entry)) (now (residual .entry))) ⌝ }
+{
+    residual::compute_residual_i32_into(orig, pred, n, &mut *residual)
+}
+
+#[no_mangle]
+pub extern "C" fn salvrunde_probe_reconstruct_into(
+    pred: &[u16],
+    residual: &[i32],
+    n: usize,
+    bits: u32,
+    out: &mut [u16],
+) -> u32
+    ensures { λ r. ⌜ (r ≡ reconstructNo bits n (length (now (pred .entry))) (now (residual .entry)) (length (now (out .entry)))) × (now (out .exit) ≡ reconstructed bits n (now (pred .entry)) (now (residual .entry)) (now (out .entry))) ⌝ }
+{
+    residual::reconstruct_into(pred, residual, n, bits, &mut *out)
+}
+
+#[no_mangle]
+pub extern "C" fn salvrunde_probe_predict_chroma_tb_slices(
+    mode: u8,
+    corner: u16,
+    above: &[u16],
+    left: &[u16],
+    n: usize,
+    bits: u32,
+    pred: &mut [u16],
+    refs: &mut [u16],
+    indices: &mut [u32],
+    fractions: &mut [u32],
+) -> u32
+    ensures { λ r. ⌜ (r ≡ predictNo bits n mode (record { above = length (now (above .entry)); left = length (now (left .entry)); pred = length (now (pred .entry)); refs = length (now (refs .entry)); indices = length (now (indices .entry)); fractions = length (now (fractions .entry)) })) × ((now (pred .exit) ≡ served r (block (λ (y x : ℕ). predSamples (chromaAt bits) (first true) n mode (fromRows corner (now (above .entry)) (now (left .entry))) x y) n (now (pred .entry))) (now (pred .entry))) × ((r ≡ 0 → ⊥) → (now (refs .exit) ≡ now (refs .entry)) × ((now (indices .exit) ≡ now (indices .entry)) × (now (fractions .exit) ≡ now (fractions .entry))))) ⌝ }
+{
+    predict::predict_chroma_tb_slices(
+        mode,
+        corner,
+        above,
+        left,
+        n,
+        bits,
+        &mut *pred,
+        &mut *refs,
+        &mut *indices,
+        &mut *fractions,
+    )
+}
+
+#[no_mangle]
+pub extern "C" fn salvrunde_probe_predict_luma_tb_slices(
+    mode: u8,
+    corner: u16,
+    above: &[u16; 65],
+    left: &[u16; 65],
+    n: usize,
+    bits: u32,
+    pred: &mut [u16],
+    refs: &mut [u16],
+    indices: &mut [u32],
+    fractions: &mut [u32],
+) -> u32
+    ensures { λ r. ⌜ (r ≡ predictNo bits n mode (record { above = 65; left = 65; pred = length (now (pred .entry)); refs = length (now (refs .entry)); indices = length (now (indices .entry)); fractions = length (now (fractions .entry)) })) × ((now (pred .exit) ≡ served r (block (λ (y x : ℕ). predSamples (lumaAt bits) (first true) n mode (neighboursOf (record { corner = corner; above = now (above .entry); left = now (left .entry) })) x y) n (now (pred .entry))) (now (pred .entry))) × ((r ≡ 0 → ⊥) → (now (refs .exit) ≡ now (refs .entry)) × ((now (indices .exit) ≡ now (indices .entry)) × (now (fractions .exit) ≡ now (fractions .entry))))) ⌝ }
+{
+    let rows = Rows {
+        corner,
+        above: *above,
+        left: *left,
+    };
+    predict::predict_luma_tb_slices(
+        mode,
+        rows,
+        n,
+        bits,
+        &mut *pred,
+        &mut *refs,
+        &mut *indices,
+        &mut *fractions,
+    )
+}
+
+// The same three through the struct of the scratch's tables, which each makes for itself.
+#[no_mangle]
+pub extern "C" fn salvrunde_probe_predict_angular_scratch(
+    corner: u16,
+    above: &[u16],
+    left: &[u16],
+    n: usize,
+    mode: u8,
+    filter_boundary: bool,
+    bits: u32,
+    pred: &mut [u16],
+) -> u32
+    ensures { λ r. ⌜ (r ≡ angularNo bits n mode (withScratch (length (now (above .entry))) (length (now (left .entry))) (length (now (pred .entry))))) × (now (pred .exit) ≡ served r (block (λ (y x : ℕ). angular bits «filter_boundary» n mode (fromRows corner (now (above .entry)) (now (left .entry))) x y) n (now (pred .entry))) (now (pred .entry))) ⌝ }
+{
+    scratch_angular::predict_angular_fresh(
+        corner,
+        above,
+        left,
+        n,
+        mode,
+        filter_boundary,
+        bits,
+        &mut *pred,
+    )
+}
+
+#[no_mangle]
+pub extern "C" fn salvrunde_probe_predict_chroma_tb_scratch(
+    mode: u8,
+    corner: u16,
+    above: &[u16],
+    left: &[u16],
+    n: usize,
+    bits: u32,
+    pred: &mut [u16],
+) -> u32
+    ensures { λ r. ⌜ (r ≡ predictNo bits n mode (withScratch (length (now (above .entry))) (length (now (left .entry))) (length (now (pred .entry))))) × (now (pred .exit) ≡ served r (block (λ (y x : ℕ). predSamples (chromaAt bits) (first true) n mode (fromRows corner (now (above .entry)) (now (left .entry))) x y) n (now (pred .entry))) (now (pred .entry))) ⌝ }
+{
+    scratch_predict::predict_chroma_tb_fresh(mode, corner, above, left, n, bits, &mut *pred)
+}
+
+#[no_mangle]
+pub extern "C" fn salvrunde_probe_predict_luma_tb_scratch(
+    mode: u8,
+    corner: u16,
+    above: &[u16; 65],
+    left: &[u16; 65],
+    n: usize,
+    bits: u32,
+    pred: &mut [u16],
+) -> u32
+    ensures { λ r. ⌜ (r ≡ predictNo bits n mode (withScratch 65 65 (length (now (pred .entry))))) × (now (pred .exit) ≡ served r (block (λ (y x : ℕ). predSamples (lumaAt bits) (first true) n mode (neighboursOf (record { corner = corner; above = now (above .entry); left = now (left .entry) })) x y) n (now (pred .entry))) (now (pred .entry))) ⌝ }
+{
+    let rows = Rows {
+        corner,
+        above: *above,
+        left: *left,
+    };
+    scratch_predict::predict_luma_tb_fresh(mode, rows, n, bits, &mut *pred)
+}

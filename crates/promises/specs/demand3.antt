@@ -1,0 +1,13 @@
+-- Document 01's demand 3, on one page with its proof, over numbers: it rests on the definitions of walk and replay, and not on their forms on bytes. No code.
+-- Demand3: document 01's demand 3, for a reader, over Calls: a call of walk or replay, and a chain of calls. Proof3 proves it; Example is a walk
+-- that is served.
+pub mod Calls
+pub mod Demand3
+pub mod Proof3
+pub mod Example
+-- Chains: a chain of calls is one call. Accept: what it means that a call is not refused.
+pub mod Chains
+pub mod Accept
+-- Range: a prediction is in range. Spots: samples and residuals by their block.
+pub mod Range
+pub mod Spots

@@ -1,0 +1,178 @@
+-- A call of walk or of replay is served exactly when its facts hold, and what it leaves is served again: the lengths stay. Rests on the plan's verdict.
+use mathlib.Core.Path.{_≡_, refl, ap, _∙_}
+use mathlib.Core.Bool.{Bool, true, false, cond, _&&_}
+use mathlib.Core.List.{List}
+use Prim.Native.Nat.{ℕ, _+_, _-_, _*_, _≤_, min}
+use native.Mathlib.Omega.{arith}
+use lib.Dec.{leb, eqb}
+use lib.IntN.{ℤ}
+use lib.ListN.{length}
+use borrow.Author.Tests.{le-leb, eqb-true, eq-eqb}
+use Rattle.laws.specs.Choose.{passed, both-true}
+use Rattle.domain.specs.Domain.{depthOk}
+use Rattle.domain.specs.Facts.{Depth, depth-of, at-depth}
+use Rattle.order.specs.Order.{pictureOk}
+use Rattle.plan.specs.declared.tiling.Verdict.{Verdict}
+use Rattle.plan.specs.tiling.Tiling.{pictureOf, place}
+use Rattle.plan.specs.tiling.Plan.{Plan}
+use Rattle.plan.specs.tiling.PlanCheck.{blocksVerdict, planVerdict}
+use Rattle.plan.specs.tiling.Tests.{good-picture}
+use Rattle.plan.specs.tiling.Verdict.{Accepted, good-verdict}
+use Rattle.walk.specs.declared.still.Still.{Still}
+use Rattle.walk.specs.declared.Stepped.{Stepped}
+use Rattle.walk.specs.still.Checks.{largestOf, every, whole, roomy, residualOk, settle}
+use Rattle.walk.specs.rebuilt.Block.{replayUnit}
+use Rattle.walk.specs.walked.Block.{World, walked, walkUnit}
+use Rattle.walk.specs.calls.Door.{verdictOf, replayVerdict, replayAfter, walkVerdict, walkAfter}
+use Rattle.walk.specs.calls.Laws.{blocks-accepted, verdict-zero}
+use Rattle.walk.specs.rebuilt.Laws.{rebuilt-length}
+use Rattle.walk.specs.walked.Laws.{stored-length}
+use Rattle.walk.specs.lossless.Picture.{Whole}
+use Rattle.walk.specs.lossless.Replay.{units-kept}
+use Rattle.promises.specs.demand3.Calls.{Job, Held, blocks, count, walkNo, walkCall, replayNo, replayCall}
+use Rattle.promises.specs.demand3.Chains.{next, Steps}
+
+-- the verdict, where the checks before the blocks, the plan's and the record's all hold
+module _ (s : Still) (plan : Plan) where
+  verdict-fine : (done early : ℕ) → early ≡ 0 → blocksVerdict (s .frame) plan .no ≡ 0 → done ≤ plan .count → verdictOf s plan done early .no ≡ 0
+  unfolding verdictOf settle
+  verdict-fine done early x y z = simp (eq-eqb early 0 x, eq-eqb (blocksVerdict (s .frame) plan .no) 0 y, le-leb done (plan .count) z)
+
+  blocks-fine : Accepted (s .frame) (plan .block) (plan .count) → blocksVerdict (s .frame) plan .no ≡ 0
+  unfolding planVerdict
+  blocks-fine a = ap (λ (v : Verdict). v .no) (rw (good-picture (s .frame) (a .picture)) at (good-verdict (s .frame) plan a))
+
+-- what every call asks for: the depth, the picture with its plan, the scratch, and a record of no more blocks than there are
+pub record Asked (j : Job) (done : ℕ) : Type 0 where
+  pub depth : Depth (j .still .bits)
+  pub plan-ok : Accepted (j .still .frame) (blocks j) (count j)
+  pub room : roomy (j .tables) ≡ true
+  pub few : done ≤ count j
+
+pub record Walking (j : Job) (source : List ℕ) (x : Held World) : Type 0 where
+  pub asked : Asked j (x .progress .done)
+  pub source-whole : Whole (j .still) source
+  pub work-whole : Whole (j .still) (x .world .work)
+  pub residuals-whole : Whole (j .still) (x .world .residuals)
+  pub samples : every (λ v. leb v (largestOf (j .still))) source ≡ true
+
+pub record Replaying (j : Job) (residuals : List ℤ) (x : Held (List ℕ)) : Type 0 where
+  pub asked : Asked j (x .progress .done)
+  pub plane-whole : Whole (j .still) (x .world)
+  pub residuals-whole : Whole (j .still) residuals
+  pub in-range : every residualOk residuals ≡ true
+
+module _ (j : Job) where
+  abbrev s : Still
+  s = j .still
+
+  abbrev size : ℕ
+  size = s .frame .height * s .frame .width
+
+  depth-fine : Depth (s .bits) → depthOk (s .bits) ≡ true
+  depth-fine = at-depth (λ (k : ℕ). depthOk k ≡ true) refl refl refl (s .bits)
+
+  pub walk-told : (source : List ℕ) (x : Held World) → walkNo j source x .no ≡ 0 → Walking j source x
+  unfolding walkVerdict
+  walk-told source x e =
+      let v = verdict-zero s (j .plan) (x .progress .done) _ e in
+      let depth = passed (depthOk (s .bits)) _ 1 (omega arith) (v .0) in
+      let picture = passed (pictureOk (pictureOf (s .frame))) _ 4 (omega arith) (depth .1) in
+      let long = passed (whole s (length source) && whole s (length (x .world .work)) && whole s (length (x .world .residuals)) && roomy (j .tables)) _ 5 (omega arith) (picture .1) in
+      let most = passed (every (λ v. leb v (largestOf s)) source) 0 7 (omega arith) (long .1) in
+      let c = both-true (whole s (length source) && whole s (length (x .world .work)) && whole s (length (x .world .residuals))) (roomy (j .tables)) (long .0) in
+      let b = both-true (whole s (length source) && whole s (length (x .world .work))) (whole s (length (x .world .residuals))) (c .0) in
+      let a = both-true (whole s (length source)) (whole s (length (x .world .work))) (b .0) in
+      record {
+        asked = record { depth = depth-of (s .bits) (depth .0); plan-ok = blocks-accepted s (j .plan) (picture .0) (v .1 .0); room = c .1; few = v .1 .1 };
+        source-whole = eqb-true (length source) size (a .0);
+        work-whole = eqb-true (length (x .world .work)) size (a .1);
+        residuals-whole = eqb-true (length (x .world .residuals)) size (b .1);
+        samples = most .0;
+      }
+
+  pub walk-fine : (source : List ℕ) (x : Held World) → Walking j source x → walkNo j source x .no ≡ 0
+  unfolding walkVerdict
+  walk-fine source x w =
+      verdict-fine s (j .plan) (x .progress .done) _
+      (simp (
+        depth-fine (w .asked .depth),
+        good-picture (s .frame) (w .asked .plan-ok .picture),
+        eq-eqb (length source) size (w .source-whole),
+        eq-eqb (length (x .world .work)) size (w .work-whole),
+        eq-eqb (length (x .world .residuals)) size (w .residuals-whole),
+        w .asked .room,
+        w .samples,
+      ))
+      (blocks-fine s (j .plan) (w .asked .plan-ok)) (w .asked .few)
+
+  pub replay-told : (residuals : List ℤ) (x : Held (List ℕ)) → replayNo j residuals x .no ≡ 0 → Replaying j residuals x
+  unfolding replayVerdict
+  replay-told residuals x e =
+      let v = verdict-zero s (j .plan) (x .progress .done) _ e in
+      let depth = passed (depthOk (s .bits)) _ 1 (omega arith) (v .0) in
+      let picture = passed (pictureOk (pictureOf (s .frame))) _ 4 (omega arith) (depth .1) in
+      let long = passed (whole s (length (x .world)) && whole s (length residuals) && roomy (j .tables)) _ 5 (omega arith) (picture .1) in
+      let most = passed (every residualOk residuals) 0 8 (omega arith) (long .1) in
+      let b = both-true (whole s (length (x .world)) && whole s (length residuals)) (roomy (j .tables)) (long .0) in
+      let a = both-true (whole s (length (x .world))) (whole s (length residuals)) (b .0) in
+      record {
+        asked = record { depth = depth-of (s .bits) (depth .0); plan-ok = blocks-accepted s (j .plan) (picture .0) (v .1 .0); room = b .1; few = v .1 .1 };
+        plane-whole = eqb-true (length (x .world)) size (a .0);
+        residuals-whole = eqb-true (length residuals) size (a .1);
+        in-range = most .0;
+      }
+
+  pub replay-fine : (residuals : List ℤ) (x : Held (List ℕ)) → Replaying j residuals x → replayNo j residuals x .no ≡ 0
+  unfolding replayVerdict
+  replay-fine residuals x w =
+      verdict-fine s (j .plan) (x .progress .done) _
+      (simp (
+        depth-fine (w .asked .depth),
+        good-picture (s .frame) (w .asked .plan-ok .picture),
+        eq-eqb (length (x .world)) size (w .plane-whole),
+        eq-eqb (length residuals) size (w .residuals-whole),
+        w .asked .room,
+        w .in-range,
+      ))
+      (blocks-fine s (j .plan) (w .asked .plan-ok)) (w .asked .few)
+
+  -- one call does blocks, keeps every length, and its successor is served
+  joined : {W : Type 0} (b : Bool) (y z : Stepped) (w v : W)
+      → _≡_ {A = Held W} (record { progress = cond b y z .next; world = cond b w v }) (cond b (record { progress = y .next; world = w }) (record { progress = z .next; world = v }))
+  joined true y z w v = refl
+  joined false y z w v = refl
+
+  further : {done : ℕ} → Asked j done → (grant : ℕ) → Asked j (done + min grant (count j - done))
+  further a grant = record { depth = a .depth; plan-ok = a .plan-ok; room = a .room; few = omega arith }
+
+  pub walk-steps : (source : List ℕ) → Steps (λ (x : Held World). walkNo j source x .no) (walkUnit s (blocks j) source) (count j) (walkCall j source)
+  unfolding walkAfter walked
+  walk-steps source = record {
+    call-is = λ x grant. joined (eqb (walkNo j source x .no) 0) _ _ _ _;
+    again = λ x grant e.
+        let w = walk-told source x e in
+        walk-fine source (next (walkUnit s (blocks j) source) (count j) x grant)
+        (record {
+          asked = further (w .asked) grant;
+          source-whole = w .source-whole;
+          work-whole = units-kept (walkUnit s (blocks j) source) (λ (u : World). length (u .work)) _ _ (x .world) (λ k u l m. rebuilt-length s (blocks j k) (place (blocks j) k) _ (u .work)) ∙ w .work-whole;
+          residuals-whole = units-kept (walkUnit s (blocks j) source) (λ (u : World). length (u .residuals)) _ _ (x .world) (λ k u l m. stored-length s source (blocks j k) (place (blocks j) k) (u .work) (u .residuals)) ∙ w .residuals-whole;
+          samples = w .samples;
+        });
+  }
+
+  pub replay-steps : (residuals : List ℤ) → Steps (λ (x : Held (List ℕ)). replayNo j residuals x .no) (replayUnit s (blocks j) residuals) (count j) (replayCall j residuals)
+  unfolding replayAfter
+  replay-steps residuals = record {
+    call-is = λ x grant. joined (eqb (replayNo j residuals x .no) 0) _ _ _ _;
+    again = λ x grant e.
+        let w = replay-told residuals x e in
+        replay-fine residuals (next (replayUnit s (blocks j) residuals) (count j) x grant)
+        (record {
+          asked = further (w .asked) grant;
+          plane-whole = units-kept (replayUnit s (blocks j) residuals) length _ _ (x .world) (λ k u l m. rebuilt-length s (blocks j k) (place (blocks j) k) residuals u) ∙ w .plane-whole;
+          residuals-whole = w .residuals-whole;
+          in-range = w .in-range;
+        });
+  }

@@ -1,0 +1,230 @@
+-- Demand 3 holds. Rests on the walk and replay of a plan (walk's Picture and Replay), on chains of calls, and on the residuals' range.
+use mathlib.Core.Path.{_≡_, refl, sym, ap, _∙_, subst}
+use mathlib.Core.Bool.{true}
+use mathlib.Core.List.{List}
+use Prim.Native.Nat.{ℕ, _+_, _-_, _*_, _^_, _≤_, _<_, min}
+use native.Mathlib.Nat.{le-trans}
+use native.Mathlib.Omega.{arith}
+use lib.IntN.{ℤ, pos, natAbs}
+use lib.ListN.{length, getD}
+use borrow.Author.Tests.{le-leb}
+use Rattle.laws.specs.Choose.{worked}
+use Rattle.laws.specs.Chain.{sum, units}
+use Rattle.domain.specs.Facts.{Depth, at-depth, size-small}
+use Rattle.plan.specs.declared.tiling.Verdict.{Verdict}
+use Rattle.plan.specs.tiling.Tiling.{In, Covered, place}
+use Rattle.plan.specs.tiling.Cover.{area}
+use Rattle.plan.specs.tiling.Verdict.{Accepted}
+use Rattle.walk.specs.declared.still.Still.{Still}
+use Rattle.walk.specs.declared.Progress.{Progress}
+use Rattle.walk.specs.declared.Stepped.{Stepped}
+use Rattle.walk.specs.still.Checks.{largestOf, every, residualOk}
+use Rattle.walk.specs.block.Block.{sampleAt, predictedAt}
+use Rattle.walk.specs.rebuilt.Block.{replayUnit}
+use Rattle.walk.specs.walked.Block.{World, stored, walked, walkUnit}
+use Rattle.walk.specs.Door.{steppedBy}
+use Rattle.walk.specs.rebuilt.Laws.{rebuilt-length}
+use Rattle.walk.specs.lossless.Picture.{Sample, OfS, Whole, look, predict, residual, less, local, rebuild-out, store-out, replays, sourced, walks-plan}
+use Rattle.walk.specs.lossless.Replay.{units-kept, replay-same, replay-source, walks}
+use Rattle.promises.specs.demand3.Calls.{Job, Held, Served, blocks, count, residualAt, fresh, calls, walkNo, walkCall, replayNo, replayCall}
+use Rattle.promises.specs.demand3.Chains.{next, after, all-done, split, from-fresh}
+use Rattle.promises.specs.demand3.Accept.{Walking, walk-told, replay-told, replay-fine, walk-steps, replay-steps}
+use Rattle.promises.specs.demand3.Range.{predicted-most}
+use Rattle.promises.specs.demand3.Spots.{by-samples, every-of, most-at, less-small, in-block, part-of, spot, covered-in, spot-of, spot-residual, spot-predict}
+use Rattle.promises.specs.demand3.Demand3.{Walked, Replayed, WalkKeeps, ReplayKeeps, Demand3}
+
+abbrev at : {s : Still} (r c : ℕ) → In (s .frame) r c → Sample s
+at r c h = record { row = r; col = c; row-in = h .0; col-in = h .1 }
+
+-- a walk of the whole picture
+module _ (j : Job) (source : List ℕ) (w : World) (served : Served (walkNo j source (fresh w))) where
+  abbrev s : Still
+  s = j .still
+
+  facts : Walking j source (fresh w)
+  facts = walk-told j source (fresh w) served
+
+  ok : Accepted (s .frame) (blocks j) (count j)
+  ok = facts .asked .plan-ok
+
+  depth : Depth (s .bits)
+  depth = facts .asked .depth
+
+  samples : (i : ℕ) → getD source i 0 ≤ largestOf s
+  samples = most-at (largestOf s) source (facts .samples)
+
+  abbrev all : World
+  all = units (walkUnit s (blocks j) source) 0 (count j) w
+
+  -- the residuals keep their length, the work plane holds the source, and the residuals are the source less its prediction
+  told : Whole s (all .residuals)
+      × ((i : ℕ) (t : Sample s) → i < count j → OfS s (blocks j) i t → look s (all .work) t ≡ look s source t)
+      × ((i : ℕ) (t : Sample s) → i < count j → OfS s (blocks j) i t → residual s (blocks j) (all .residuals) i t ≡ less (look s source t) (predict s (blocks j) i source t))
+  told =
+      let d = walks (replays s (blocks j) (count j) ok depth) (sourced s (blocks j) (count j) ok depth source (facts .source-whole) (λ t. samples _)) (walks-plan s (blocks j) (count j) ok depth source)
+      (count j) w (omega arith) (facts .work-whole) (facts .residuals-whole) in
+      (d .resid-ok, d .holds, d .lossless)
+
+  residual-is : (i r c : ℕ) → i < count j → r < blocks j i .side → c < blocks j i .side
+      → residualAt j (all .residuals) i r c ≡ less (sampleAt s source (blocks j i .row + r) (blocks j i .col + c)) (predictedAt s (blocks j i) source r c)
+  residual-is i r c l hr hc =
+      sym (spot-residual s (blocks j) (count j) ok i r c l hr hc (all .residuals))
+      ∙ told .2 i (spot s (blocks j) (count j) ok i r c l hr hc) l (spot-of s (blocks j) (count j) ok i r c l hr hc)
+      ∙ ap (less (sampleAt s source (blocks j i .row + r) (blocks j i .col + c))) (spot-predict s (blocks j) (count j) ok i r c l hr hc source)
+
+  -- grants that reach the count walk it all
+  calls-are : (grants : List ℕ) → count j ≤ sum grants → calls (walkCall j source) (fresh w) grants ≡ after (walkUnit s (blocks j) source) (count j) w
+  calls-are grants h =
+      let e : min (sum grants) (count j) ≡ count j = omega arith in
+      from-fresh (walk-steps j source) w grants served ∙ ap (λ (k : ℕ). after (walkUnit s (blocks j) source) k w) e
+
+  walk-all : (grants : List ℕ) → count j ≤ sum grants → Walked j source (calls (walkCall j source) (fresh w) grants)
+  walk-all grants h =
+      subst (Walked j source) (sym (calls-are grants h))
+      (record {
+        all-done = refl;
+        residuals = residual-is;
+        reconstructed = λ r c i. let v = ok .plan-good .all r c i in told .1 (v .0) (at r c i) (v .1) (v .2);
+      })
+
+  alone : (other : List ℕ) → Whole s other → (k : ℕ) → k < count j → ((r c : ℕ) → Covered (blocks j) k r c → sampleAt s source r c ≡ sampleAt s other r c)
+      → (r c : ℕ) → r < blocks j k .side → c < blocks j k .side → predictedAt s (blocks j k) source r c ≡ predictedAt s (blocks j k) other r c
+  alone other o k l same r c hr hc =
+      sym (spot-predict s (blocks j) (count j) ok k r c l hr hc source)
+      ∙ local s (blocks j) (count j) ok depth k source other l (facts .source-whole) o (λ i t m q. same (t .row) (t .col) (i, m, q))
+      (spot s (blocks j) (count j) ok k r c l hr hc) (spot-of s (blocks j) (count j) ok k r c l hr hc)
+      ∙ spot-predict s (blocks j) (count j) ok k r c l hr hc other
+
+  -- every residual belongs to a block, so it is a difference of two samples of the depth
+  in-range : every residualOk (all .residuals) ≡ true
+  in-range = every-of residualOk (all .residuals) (pos 0) go
+    where
+      small : largestOf s ≤ 65535
+      small = at-depth (λ (k : ℕ). 2 ^ k - 1 ≤ 65535) (omega arith) (omega arith) (omega arith) (s .bits) depth
+
+      one : (i r c n : ℕ) → i < count j → r < blocks j i .side → c < blocks j i .side → n ≡ place (blocks j) i + r * blocks j i .side + c → residualOk (getD (all .residuals) n (pos 0)) ≡ true
+      one i r c n l hr hc e =
+          let o = sampleAt s source (blocks j i .row + r) (blocks j i .col + c) in
+          let p = predictedAt s (blocks j i) source r c in
+          let a = predicted-most s (blocks j i) source depth (ok .plan-good .placed i l .size) (ok .modes i l) samples r c hr hc in
+          subst (λ (z : ℤ). residualOk z ≡ true) (sym (ap (λ (k : ℕ). getD (all .residuals) k (pos 0)) e ∙ residual-is i r c l hr hc))
+          (le-leb (natAbs (less o p)) 65535 (le-trans (less-small (largestOf s) o p (samples _) a) small))
+
+      go : (n : ℕ) → n < length (all .residuals) → residualOk (getD (all .residuals) n (pos 0)) ≡ true
+      go n l =
+          let p = part-of s (blocks j) (count j) n (omega (arith, told .0, area (ok .picture) (blocks j) (count j) (ok .plan-good))) in
+          let some = size-small (blocks j (p .0) .side) (ok .plan-good .placed (p .0) (p .1) .size) in
+          let q = in-block (blocks j (p .0) .side) (place (blocks j) (p .0)) n (omega arith) (p .2) (p .3) in
+          one (p .0) (q .0) (q .1) n (p .1) (q .2) (q .3) (q .4)
+
+  module _ (plane : List ℕ) (long : Whole s plane) where
+    replay-served : Served (replayNo j (all .residuals) (fresh plane))
+    replay-served =
+        replay-fine j (all .residuals) (fresh plane) (record { asked = facts .asked; plane-whole = long; residuals-whole = told .0; in-range = in-range })
+
+    replay-back : (again : List ℕ) → Replayed j source plane (min (sum again) (count j)) (calls (replayCall j (all .residuals)) (fresh plane) again)
+    replay-back again =
+        let k = min (sum again) (count j) in
+        let most : k ≤ count j = omega arith in
+        subst (Replayed j source plane k) (sym (from-fresh (replay-steps j (all .residuals)) plane again replay-served))
+        (record {
+          done = refl;
+          source-back = λ r c v.
+              replay-source (replays s (blocks j) (count j) ok depth) (sourced s (blocks j) (count j) ok depth source (facts .source-whole) (λ t. samples _))
+              (all .residuals) k plane most long (λ i t m. told .2 i t (omega arith)) (v .0) (at r c (covered-in s (blocks j) (count j) ok k r c most v)) (v .1) (v .2);
+          others-kept = λ r c h n.
+              units-kept (replayUnit s (blocks j) (all .residuals)) (λ (u : List ℕ). sampleAt s u r c) 0 k plane
+              (λ i u a b. rebuild-out s (blocks j) (count j) ok depth i (all .residuals) u (omega arith) (at r c h) (λ o. n (i, omega arith, o)));
+        })
+
+    replay-same-all : (again : List ℕ) → count j ≤ sum again → calls (replayCall j (all .residuals)) (fresh plane) again .world ≡ source
+    replay-same-all again h =
+        let k = min (sum again) (count j) in
+        let e : count j ≡ k = omega arith in
+        let some = ok .picture .wide .low in
+        let out = from-fresh (replay-steps j (all .residuals)) plane again replay-served in
+        let kept = units-kept (replayUnit s (blocks j) (all .residuals)) length 0 k plane (λ i u a b. rebuilt-length s (blocks j i) (place (blocks j) i) (all .residuals) u) in
+        by-samples s _ source (omega arith) (ap (λ (x : Held (List ℕ)). length (x .world)) out ∙ kept ∙ long) (facts .source-whole)
+        (λ r c i. replay-back again .source-back r c (subst (λ (n : ℕ). Covered (blocks j) n r c) e (ok .plan-good .all r c i)))
+
+    replay-all : (grants : List ℕ) → count j ≤ sum grants → (again : List ℕ)
+        → let residuals = calls (walkCall j source) (fresh w) grants .world .residuals in
+        Served (replayNo j residuals (fresh plane)) × Replayed j source plane (min (sum again) (count j)) (calls (replayCall j residuals) (fresh plane) again)
+    replay-all grants h again =
+        subst (λ (x : Held World). Served (replayNo j (x .world .residuals) (fresh plane)) × Replayed j source plane (min (sum again) (count j)) (calls (replayCall j (x .world .residuals)) (fresh plane) again))
+        (sym (calls-are grants h)) (replay-served, replay-back again)
+
+-- residuals that are not the walk's
+replay-altered : (j : Job) (residuals : List ℤ) (a b : List ℕ) (grants others : List ℕ) → Served (replayNo j residuals (fresh a)) → Whole (j .still) b
+    → min (sum grants) (count j) ≡ min (sum others) (count j) → (r c : ℕ) → Covered (blocks j) (min (sum grants) (count j)) r c
+    → sampleAt (j .still) (calls (replayCall j residuals) (fresh a) grants .world) r c ≡ sampleAt (j .still) (calls (replayCall j residuals) (fresh b) others .world) r c
+replay-altered j v a b grants others served long e r c cov =
+    let s = j .still in
+    let f = replay-told j v (fresh a) served in
+    let ok = f .asked .plan-ok in
+    let k = min (sum grants) (count j) in
+    let most : k ≤ count j = omega arith in
+    let too = replay-fine j v (fresh b) (record { asked = f .asked; plane-whole = long; residuals-whole = f .residuals-whole; in-range = f .in-range }) in
+    ap (λ (x : Held (List ℕ)). sampleAt s (x .world) r c) (from-fresh (replay-steps j v) a grants served)
+    ∙ replay-same (replays s (blocks j) (count j) ok (f .asked .depth)) v k a b most (f .plane-whole) long (cov .0) (at r c (covered-in s (blocks j) (count j) ok k r c most cov)) (cov .1) (cov .2)
+    ∙ ap (λ (n : ℕ). sampleAt s (units (replayUnit s (blocks j) v) 0 n b) r c) e
+    ∙ sym (ap (λ (x : Held (List ℕ)). sampleAt s (x .world) r c) (from-fresh (replay-steps j v) b others too))
+
+-- calls that are served, from any record
+calls-count : (j : Job) (v : Verdict) (p : Progress) (grant : ℕ) → Served v
+    → let y = steppedBy v (j .plan) p grant in
+    (y .did ≡ min grant (count j - p .done)) × (y .next .done ≡ p .done + y .did)
+calls-count j v p grant e = subst (λ (y : Stepped). (y .did ≡ min grant (count j - p .done)) × (y .next .done ≡ p .done + y .did)) (worked (v .no) _ _ e) (refl, refl)
+
+walk-kept : (j : Job) (source : List ℕ) (x : Held World) (grant : ℕ) → Served (walkNo j source x) → WalkKeeps j x grant (next (walkUnit (j .still) (blocks j) source) (count j) x grant)
+unfolding walked
+walk-kept j source x grant served =
+    let s = j .still in
+    let f = walk-told j source x served in
+    let ok = f .asked .plan-ok in
+    let depth = f .asked .depth in
+    let few = f .asked .few in
+    let unit = walkUnit s (blocks j) source in
+    record {
+      done = omega arith;
+      samples = λ r c h n.
+          units-kept unit (λ (u : World). sampleAt s (u .work) r c) _ _ (x .world)
+          (λ i u a b. rebuild-out s (blocks j) (count j) ok depth i _ (u .work) (omega arith) (at r c h) (λ o. n i (a, b) o));
+      residuals = λ i r c l hr hc n.
+          units-kept unit (λ (u : World). residualAt j (u .residuals) i r c) _ _ (x .world)
+          (λ m u a b.
+          sym (spot-residual s (blocks j) (count j) ok i r c l hr hc (stored s source (blocks j m) (place (blocks j) m) (u .work) (u .residuals)))
+          ∙ store-out s (blocks j) (count j) ok depth source m (u .work) (u .residuals) i (spot s (blocks j) (count j) ok i r c l hr hc) (λ e. n (omega (arith, e), omega (arith, e))) (spot-of s (blocks j) (count j) ok i r c l hr hc)
+          ∙ spot-residual s (blocks j) (count j) ok i r c l hr hc (u .residuals));
+    }
+
+replay-kept : (j : Job) (residuals : List ℤ) (x : Held (List ℕ)) (grant : ℕ) → Served (replayNo j residuals x) → ReplayKeeps j x grant (next (replayUnit (j .still) (blocks j) residuals) (count j) x grant)
+replay-kept j residuals x grant served =
+    let s = j .still in
+    let f = replay-told j residuals x served in
+    let few = f .asked .few in
+    record {
+      done = omega arith;
+      samples = λ r c h n.
+          units-kept (replayUnit s (blocks j) residuals) (λ (u : List ℕ). sampleAt s u r c) _ _ (x .world)
+          (λ i u a b. rebuild-out s (blocks j) (count j) (f .asked .plan-ok) (f .asked .depth) i residuals u (omega arith) (at r c h) (λ o. n i (a, b) o));
+    }
+
+pub demand-3 : Demand3
+demand-3 = record {
+  walk = λ j source w grants e h. walk-all j source w e grants h;
+  earlier-alone = λ j source other w e. alone j source w e other;
+  replay = λ j source w grants e h plane long again. replay-all j source w e plane long grants h again;
+  same = λ j source w grants e h plane long again k.
+      ap (λ (x : Held World). calls (replayCall j (x .world .residuals)) (fresh plane) again .world) (calls-are j source w e grants h) ∙ replay-same-all j source w e plane long again k;
+  altered = replay-altered;
+  walk-split = λ j source x grants. split (walk-steps j source) x grants;
+  replay-split = λ j residuals x grants. split (replay-steps j residuals) x grants;
+  counted = calls-count;
+  walk-keeps = λ j source x grants e.
+      subst (λ (y : Held World). WalkKeeps j x (sum grants) y × Served (walkNo j source y)) (sym (all-done (walk-steps j source) x grants e))
+      (walk-kept j source x (sum grants) e, walk-steps j source .again x (sum grants) e);
+  replay-keeps = λ j residuals x grants e.
+      subst (λ (y : Held (List ℕ)). ReplayKeeps j x (sum grants) y × Served (replayNo j residuals y)) (sym (all-done (replay-steps j residuals) x grants e))
+      (replay-kept j residuals x (sum grants) e, replay-steps j residuals .again x (sum grants) e);
+}

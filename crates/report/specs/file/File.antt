@@ -1,0 +1,50 @@
+-- Document 01, 'The program': the input's trailer, its two regions and number 12, and the source and the plan in it. Assumes nothing.
+use Prim.Native.Nat.{ℕ, _+_, _-_, _*_}
+use mathlib.Core.Bool.{Bool, _&&_}
+use mathlib.Core.List.{List, [], _∷_}
+use lib.Dec.{leb}
+use lib.ListN.{length, getD, replicate}
+use Rattle.laws.specs.Fill.{fill}
+use Rattle.laws.specs.Bytes.{leAt}
+use Rattle.report.specs.declared.file.Trailer.{Trailer}
+
+-- the last 16 bytes, little-endian
+abbrev pub trailerOf : List ℕ → Trailer
+trailerOf b =
+    let t = length b - 16 in
+    record {
+      samples = leAt 4 b t;
+      plan = leAt 4 b (t + 4);
+      blocks = leAt 2 b (t + 8);
+      width = leAt 2 b (t + 10);
+      height = leAt 2 b (t + 12);
+      bits = getD b (t + 14) 0;
+      ctu = getD b (t + 15) 0;
+    }
+
+-- how many samples the picture has
+abbrev pub area : Trailer → ℕ
+area t = t .height * t .width
+
+-- counts within their limits, and two regions that do not pass the trailer's start
+abbrev pub regionsOk : Trailer → ℕ → Bool
+regionsOk t start = leb (area t) 8192 && leb (t .blocks) 512 && leb (t .samples + 2 * area t) start && leb (t .plan + 6 * t .blocks) start
+
+-- number 12 is given for every other input
+unfoldable pub fileOk : List ℕ → Bool
+fileOk b = leb 16 (length b) && leb (length b) 65536 && regionsOk (trailerOf b) (length b - 16)
+
+-- the list f 0, f 1, .., f (k - 1), whose entries are like z
+abbrev pub listed : {A : Type 0} → (ℕ → A) → ℕ → A → List A
+listed f k z = fill f k (replicate k z)
+
+-- samples of two bytes
+abbrev pub sourceOf : List ℕ → Trailer → List ℕ
+sourceOf b t = listed (λ i. leAt 2 b (t .samples + 2 * i)) (area t) 0
+
+-- block records of six bytes: row and column of two, side and mode of one
+abbrev pub recordAt : List ℕ → ℕ → List ℕ
+recordAt b at = leAt 2 b at ∷ leAt 2 b (at + 2) ∷ getD b (at + 4) 0 ∷ getD b (at + 5) 0 ∷ []
+
+abbrev pub recordsOf : List ℕ → Trailer → List (List ℕ)
+recordsOf b t = listed (λ k. recordAt b (t .plan + 6 * k)) (t .blocks) (replicate 4 0)

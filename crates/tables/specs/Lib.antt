@@ -1,6 +1,0 @@
--- Exact: rows of document 01's table, and what it means that a number is given exactly when its row says.
-pub mod Exact
--- Table: document 01's table of numbers at each door.
-pub mod Table
--- Refused: what a refused call gives back, and that it leaves what is lent untouched.
-pub mod Refused

@@ -1,3 +1,0 @@
--- Block: one block of the walk. Laws: its residuals.
-pub mod Block
-pub mod Laws
