@@ -1,5 +1,6 @@
-// Samples between bytes and lists, two bytes each, the lower first. They go in pairs, by way of numbers of 32 bits: of these the compiler sees
-// that four bytes make one, and each way becomes one copy. Where a list is too short nothing is written. Rests on crate bytes.
+// Samples between bytes and lists, two bytes each, the lower first. They go in pairs, by way of numbers of 32 bits: of these the
+// compiler sees that four bytes make one, and each way becomes one copy. Where a list is too short nothing is written. Rests on
+// crate bytes.
 ghost use mathlib.Core.Path.{_≡_};
 ghost use Prim.Native.Nat.{ℕ, _+_, _*_, _%_, _≤_, _<_};
 ghost use lib.ListN.{length, getD, set};
@@ -50,7 +51,8 @@ fn apart(words: &[u32], count: usize, out: &mut [u16])
 
 fn read_all(row: &[u8], count: usize, out: &mut [u16])
     requires { ⌜ (count ≤ 32) × ((4 * count ≤ length (now row)) × (2 * count ≤ length (now out))) ⌝ }
-    ensures { λ _. ⌜ now (out .exit) ≡ fill (λ (i : ℕ). getD (samplesOf (now (row .entry))) i 0) (2 * count) (now (out .entry)) ⌝ }
+    ensures { λ _. ⌜ now (out .exit) ≡ fill (λ (i : ℕ). getD (samplesOf (now (row .entry))) i 0) (2 * count) (now (out
+        .entry)) ⌝ }
 {
     let mut words = [0u32; 32];
     pairs_in(row, count, &mut words);
@@ -94,7 +96,8 @@ fn pairs_of(samples: &[u16], count: usize, words: &mut [u32])
 
 fn put_word(out: &mut [u8], i: usize, v: u32)
     requires { ⌜ 4 * i + 3 < length (now out) ⌝ }
-    ensures { λ _. ⌜ now (out .exit) ≡ set (set (set (set (now (out .entry)) (4 * i) (v % 256)) (4 * i + 1) (byte1 v)) (4 * i + 2) (byte2 v)) (4 * i + 3) (byte3 v) ⌝ }
+    ensures { λ _. ⌜ now (out .exit) ≡ set (set (set (set (now (out .entry)) (4 * i) (v % 256)) (4 * i + 1) (byte1 v))
+        (4 * i + 2) (byte2 v)) (4 * i + 3) (byte3 v) ⌝ }
 {
     let k = 4 * i;
     out[k] = crate::byte_0(v);
@@ -105,7 +108,8 @@ fn put_word(out: &mut [u8], i: usize, v: u32)
 
 fn spread(words: &[u32], count: usize, out: &mut [u8])
     requires { ⌜ (count ≤ length (now words)) × (4 * count ≤ length (now out)) ⌝ }
-    ensures { λ _. ⌜ now (out .exit) ≡ fill (byteOf 4 (λ (i : ℕ). getD (now (words .entry)) i 0)) (4 * count) (now (out .entry)) ⌝ }
+    ensures { λ _. ⌜ now (out .exit) ≡ fill (byteOf 4 (λ (i : ℕ). getD (now (words .entry)) i 0)) (4 * count) (now
+        (out .entry)) ⌝ }
 {
     for i in 0..count {
         put_word(&mut *out, i, words[i]);
@@ -114,7 +118,8 @@ fn spread(words: &[u32], count: usize, out: &mut [u8])
 
 fn store_all(samples: &[u16], count: usize, out: &mut [u8])
     requires { ⌜ (count ≤ 512) × ((2 * count ≤ length (now samples)) × (4 * count ≤ length (now out))) ⌝ }
-    ensures { λ _. ⌜ now (out .exit) ≡ fill (byteOf 2 (λ (i : ℕ). getD (now (samples .entry)) i 0)) (4 * count) (now (out .entry)) ⌝ }
+    ensures { λ _. ⌜ now (out .exit) ≡ fill (byteOf 2 (λ (i : ℕ). getD (now (samples .entry)) i 0)) (4 * count) (now
+        (out .entry)) ⌝ }
 {
     let mut words = [0u32; 512];
     pairs_of(samples, count, &mut words);

@@ -1,10 +1,5 @@
--- camera: a folder for each module.
-pub mod byte_rows
-pub mod byte_entry
-pub mod byte_flat
-pub mod byte_angular
-pub mod byte_refs
-pub mod byte_predict
-pub mod byte_rebuild
-pub mod byte_answer
-pub mod byte_replay
+-- Written: a number and the bytes that go with it. Then a folder for each module.
+pub mod Written
+pub mod gather
+pub mod prediction
+pub mod replay

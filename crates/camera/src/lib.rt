@@ -1,22 +1,15 @@
 // What the camera's C firmware calls: gathering, prediction and replay on numbers and byte slices, samples of two bytes, the lower first.
 // Each entry gives back its number, and writes nothing where it refuses. Rests on the doors' contracts and on how rows are stored.
-pub mod byte_angular;
-pub mod byte_answer;
-pub mod byte_entry;
-pub mod byte_flat;
-pub mod byte_predict;
-pub mod byte_rebuild;
-pub mod byte_refs;
-pub mod byte_replay;
-pub mod byte_rows;
+mod gather;
+mod prediction;
+mod replay;
 
 ghost use mathlib.Core.Path.{_≡_};
-ghost use Rattle.camera.specs.byte_replay.Door.{replayed};
-ghost use Rattle.camera.specs.byte_entry.Entries.{wrote};
-ghost use Rattle.camera.specs.byte_flat.Entries.{planarEntry, dcEntry};
-ghost use Rattle.camera.specs.byte_angular.Entries.{angularEntry};
-ghost use Rattle.camera.specs.byte_predict.Entries.{chromaBlockEntry};
-ghost use Rattle.camera.specs.byte_refs.Entry.{lumaEntry, chromaEntry};
+ghost use Rattle.refs.specs.Door.{lumaGeometry, chromaGeometry};
+ghost use Rattle.camera.specs.replay.Door.{replayed};
+ghost use Rattle.camera.specs.Written.{wrote};
+ghost use Rattle.camera.specs.prediction.Entries.{planarEntry, dcEntry, angularEntry, chromaBlockEntry};
+ghost use Rattle.camera.specs.gather.Entry.{lumaEntry, chromaEntry};
 use fmt::ChromaCol;
 use fmt::ChromaRow;
 use fmt::LumaCol;
@@ -25,7 +18,7 @@ use order::Picture;
 use plan::tiling::Frame;
 use refs::ChromaRefGeometry;
 use refs::LumaRefGeometry;
-use walk::still::Still;
+use walk::checks::Still;
 
 // The reference rows of a luma block, out of a plane of exactly 2 · width · height bytes: the corner, 65 samples above, 65 samples left,
 // in the first 262 bytes of `out`. Numbers 1, 2, 4, 5, 6.
@@ -42,7 +35,8 @@ pub extern "C" fn salvrunde_luma_refs(
     plane: &[u8],
     out: &mut [u8],
 ) -> u32
-    ensures { λ r. ⌜ wrote r (now (out .exit)) ≡ lumaEntry (now (plane .entry)) (record { bits = bits; picture = record { width = width; height = height; ctu = ctu; unit = unit }; «block_row» = record { 0 = row }; «block_col» = record { 0 = col }; n = n }) (now (out .entry)) ⌝ }
+    ensures { λ r. ⌜ wrote r (now (out .exit)) ≡ lumaEntry (now (plane .entry)) (lumaGeometry bits width height ctu
+        unit row col n) (now (out .entry)) ⌝ }
 {
     let picture = Picture {
         width,
@@ -57,7 +51,7 @@ pub extern "C" fn salvrunde_luma_refs(
         block_col: LumaCol(col),
         n: n as usize,
     };
-    byte_refs::store_reference_samples(plane, geo, out)
+    gather::store_reference_samples(plane, geo, out)
 }
 
 // The reference rows of a chroma block, out of the planes of Cb and of Cr: Cb's corner, above and left in the first 262 bytes of `out`,
@@ -78,7 +72,8 @@ pub extern "C" fn salvrunde_chroma_refs(
     cr: &[u8],
     out: &mut [u8],
 ) -> u32
-    ensures { λ r. ⌜ wrote r (now (out .exit)) ≡ chromaEntry (now (cb .entry)) (now (cr .entry)) (record { bits = bits; format = format; «luma_w» = «luma_width»; «luma_h» = «luma_height»; «min_luma_pu» = unit; «block_row» = record { 0 = row }; «block_col» = record { 0 = col }; n = n; «cur_luma_row» = record { 0 = «cur_luma_row» }; «cur_luma_col» = record { 0 = «cur_luma_col» } }) (now (out .entry)) ⌝ }
+    ensures { λ r. ⌜ wrote r (now (out .exit)) ≡ chromaEntry (now (cb .entry)) (now (cr .entry)) (chromaGeometry bits
+        format «luma_width» «luma_height» unit row col n «cur_luma_row» «cur_luma_col») (now (out .entry)) ⌝ }
 {
     let geo = ChromaRefGeometry {
         bits,
@@ -92,23 +87,25 @@ pub extern "C" fn salvrunde_chroma_refs(
         cur_luma_row: LumaRow(cur_luma_row),
         cur_luma_col: LumaCol(cur_luma_col),
     };
-    byte_refs::store_reference_samples_chroma_pair(cb, cr, geo, out)
+    gather::store_reference_samples_chroma_pair(cb, cr, geo, out)
 }
 
 // The planar block of side n, in rows, in the first 2 · n · n bytes of `out`; each row has at least 130 bytes. Numbers 2, 5.
 #[no_mangle]
 pub extern "C" fn salvrunde_planar(n: u32, above: &[u8], left: &[u8], out: &mut [u8]) -> u32
-    ensures { λ r. ⌜ wrote r (now (out .exit)) ≡ planarEntry n (now (above .entry)) (now (left .entry)) (now (out .entry)) ⌝ }
+    ensures { λ r. ⌜ wrote r (now (out .exit)) ≡ planarEntry n (now (above .entry)) (now (left .entry)) (now (out
+        .entry)) ⌝ }
 {
-    byte_flat::planar(n, above, left, out)
+    prediction::planar(n, above, left, out)
 }
 
 // The DC block; an edge flag that is not 0 asks for filtered edges. Numbers 2, 5.
 #[no_mangle]
 pub extern "C" fn salvrunde_dc(n: u32, edge: u32, above: &[u8], left: &[u8], out: &mut [u8]) -> u32
-    ensures { λ r. ⌜ wrote r (now (out .exit)) ≡ dcEntry n edge (now (above .entry)) (now (left .entry)) (now (out .entry)) ⌝ }
+    ensures { λ r. ⌜ wrote r (now (out .exit)) ≡ dcEntry n edge (now (above .entry)) (now (left .entry)) (now (out
+        .entry)) ⌝ }
 {
-    byte_flat::dc(n, edge, above, left, out)
+    prediction::dc(n, edge, above, left, out)
 }
 
 // The block of an angular mode, 2 to 34. Numbers 1, 2, 3, 5.
@@ -123,9 +120,10 @@ pub extern "C" fn salvrunde_angular(
     left: &[u8],
     out: &mut [u8],
 ) -> u32
-    ensures { λ r. ⌜ wrote r (now (out .exit)) ≡ angularEntry bits n mode edge corner (now (above .entry)) (now (left .entry)) (now (out .entry)) ⌝ }
+    ensures { λ r. ⌜ wrote r (now (out .exit)) ≡ angularEntry bits n mode edge corner (now (above .entry)) (now (left
+        .entry)) (now (out .entry)) ⌝ }
 {
-    byte_angular::angular(bits, n, mode, edge, corner, above, left, out)
+    prediction::angular(bits, n, mode, edge, corner, above, left, out)
 }
 
 // A chroma block in any mode, 0 to 34: nothing is smoothed, and no edge is filtered. Numbers 1, 2, 3, 5.
@@ -139,14 +137,16 @@ pub extern "C" fn salvrunde_chroma_block(
     left: &[u8],
     out: &mut [u8],
 ) -> u32
-    ensures { λ r. ⌜ wrote r (now (out .exit)) ≡ chromaBlockEntry bits n mode corner (now (above .entry)) (now (left .entry)) (now (out .entry)) ⌝ }
+    ensures { λ r. ⌜ wrote r (now (out .exit)) ≡ chromaBlockEntry bits n mode corner (now (above .entry)) (now (left
+        .entry)) (now (out .entry)) ⌝ }
 {
-    byte_predict::chroma(bits, n, mode, corner, above, left, out)
+    prediction::chroma(bits, n, mode, corner, above, left, out)
 }
 
-// Decodes the next blocks of a still, as many as are granted, in the plane's own bytes: exactly 2 · width · height of the plane, 4 · width · height of
-// the residuals, 6 a block of the plan. `done` is the progress record. The first 8 bytes of `result` get the block that a refusal is about and the next
-// record, or the record as given where the call is refused; a shorter buffer is left alone. Numbers 1, 4, 5, 8, then 2, 3, 6, 9 of each block, 10, 11.
+// Decodes the next blocks of a still, as many as are granted, in the plane's own bytes: exactly 2 · width · height of the plane, 4
+// · width · height of the residuals, 6 a block of the plan. `done` is the progress record. The first 8 bytes of `result` get the
+// block that a refusal is about and the next record, or the record as given where the call is refused; a shorter buffer is left
+// alone. Numbers 1, 4, 5, 8, then 2, 3, 6, 9 of each block, 10, 11.
 #[no_mangle]
 pub extern "C" fn salvrunde_replay(
     done: u32,
@@ -160,9 +160,11 @@ pub extern "C" fn salvrunde_replay(
     plane: &mut [u8],
     result: &mut [u8],
 ) -> u32
-    ensures { λ r. ⌜ record { number = r; plane = now (plane .exit); result = now (result .exit) } ≡ replayed (record { bits = bits; frame = record { width = width; height = height; ctu = ctu } }) done (now (plan .entry)) (now (residuals .entry)) grant (now (plane .entry)) (now (result .entry)) ⌝ }
+    ensures { λ r. ⌜ record { number = r; plane = now (plane .exit); result = now (result .exit) } ≡ replayed (record
+        { bits = bits; frame = record { width = width; height = height; ctu = ctu } }) done (now (plan .entry)) (now
+        (residuals .entry)) grant (now (plane .entry)) (now (result .entry)) ⌝ }
 {
     let frame = Frame { width, height, ctu };
     let still = Still { bits, frame };
-    byte_replay::replay(done, still, plan, residuals, plane, result, grant)
+    replay::replay(done, still, plan, residuals, plane, result, grant)
 }

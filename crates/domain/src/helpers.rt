@@ -13,6 +13,13 @@ pub fn min(a: u32, b: u32) -> u32
     if a < b { a } else { b }
 }
 
+// The same of two lengths.
+pub fn min_len(a: usize, b: usize) -> usize
+    ensures { λ r. ⌜ r ≡ least a b ⌝ }
+{
+    if a < b { a } else { b }
+}
+
 // How far apart two numbers are.
 pub fn abs_diff(a: u32, b: u32) -> u32
     ensures { λ r. ⌜ r ≡ natAbs (pos a -ℤ pos b) ⌝ }

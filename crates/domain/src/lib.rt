@@ -3,6 +3,7 @@
 pub mod helpers;
 pub mod rows;
 
+ghost use mathlib.Core.Bool.{_&&_};
 ghost use mathlib.Core.Path.{_≡_};
 ghost use Rattle.domain.specs.Domain.{depthOk, sizeOk, modeOk, sideOk, ctuOk, unitOk};
 
@@ -21,23 +22,30 @@ pub fn size_ok(n: usize) -> bool
 }
 
 // Number 3: a mode of 0 to 34.
-pub fn mode_ok(mode: u8) -> bool
+pub fn mode_ok(mode: u32) -> bool
     ensures { λ r. ⌜ r ≡ modeOk mode ⌝ }
 {
     mode <= 34
 }
 
 // Number 4: a picture's side, a multiple of 8 from 8 to 4096, and a CTU of 16, 32 or 64.
-pub fn side_ok(side: u32) -> bool
+fn side_ok(side: u32) -> bool
     ensures { λ r. ⌜ r ≡ sideOk side ⌝ }
 {
     (side >= 8) & (side <= 4096) & (side % 8 == 0)
 }
 
-pub fn ctu_ok(ctu: u32) -> bool
+fn ctu_ok(ctu: u32) -> bool
     ensures { λ r. ⌜ r ≡ ctuOk ctu ⌝ }
 {
     (ctu == 16) | (ctu == 32) | (ctu == 64)
+}
+
+// Number 4 of a whole picture: its luma sides and its CTU.
+pub fn picture_ok(width: u32, height: u32, ctu: u32) -> bool
+    ensures { λ r. ⌜ r ≡ (sideOk width && sideOk height && ctuOk ctu) ⌝ }
+{
+    side_ok(width) & side_ok(height) & ctu_ok(ctu)
 }
 
 // Number 6: a least unit of 4 or 8.

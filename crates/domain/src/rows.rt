@@ -1,7 +1,7 @@
 // The references of a block as samples: the corner, and two rows of 65 entries that the calls pass by value.
 // Rests on the standard's neighbours.
 ghost use mathlib.Core.Path.{_≡_};
-ghost use Rattle.domain.specs.rows.Neighbours.{zeroRows};
+ghost use Rattle.domain.specs.rows.Neighbours.{levelRows};
 
 pub struct Rows {
     pub corner: u16,
@@ -9,14 +9,14 @@ pub struct Rows {
     pub left: [u16; 65],
 }
 
-// What a refused call gives for its rows.
-pub fn zero_rows() -> Rows
-    ensures { λ r. ⌜ r ≡ zeroRows ⌝ }
+// Rows whose samples are all one: neutral where no neighbour is there, and 0 where a call is refused.
+pub fn level_rows(v: u16) -> Rows
+    ensures { λ r. ⌜ r ≡ levelRows v ⌝ }
 {
     Rows {
-        corner: 0,
-        above: [0u16; 65],
-        left: [0u16; 65],
+        corner: v,
+        above: [v; 65],
+        left: [v; 65],
     }
 }
 

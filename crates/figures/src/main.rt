@@ -1,19 +1,20 @@
-// Prints document 01's figures P1 to P10 as the doors give them; the file stdout has 01's numbers. Each function that makes a call has for its contract what
-// the table of specs/Figures has for it. Rests on the doors' contracts.
+// Prints document 01's figures P1 to P10 as the doors give them; the file stdout has 01's numbers. Each function that makes a call
+// has for its contract what the table of specs/Figures has for it. Rests on the doors' contracts.
 ghost use mathlib.Core.Path.{_≡_};
-ghost use Rattle.figures.specs.figure_table.Figures.{counting, opening, planarBlock, dcBlock, angularBlock, orderAt, smoothsAt, bent, entry31, ordinary31, strongAt, restoredTo, smoothedTwo};
+ghost use Rattle.figures.specs.figure_table.Figures.{counting, opening, planarBlock, dcBlock, angularBlock, orderAt, smoothsAt};
+ghost use Rattle.figures.specs.figure_table.Figures.{bent, entry31, ordinary31, strongAt, restoredTo, smoothedTwo};
 use fmt::LumaCol;
 use fmt::LumaRow;
 use order::Picture;
 use predict::angular;
-use predict::flat;
+use predict::planar_dc;
 
 // The blocks of 4 by 4 that the predictors leave.
 fn planar_block(above: [u16; 65], left: [u16; 65]) -> [u16; 16]
     ensures { λ r. ⌜ r ≡ planarBlock above left ⌝ }
 {
     let mut pred = [9u16; 16];
-    flat::predict_planar_into(&above, &left, 4, &mut pred);
+    planar_dc::predict_planar_into(&above, &left, 4, &mut pred);
     pred
 }
 
@@ -21,7 +22,7 @@ fn dc_block(edge: bool, above: [u16; 65], left: [u16; 65]) -> [u16; 16]
     ensures { λ r. ⌜ r ≡ dcBlock edge above left ⌝ }
 {
     let mut pred = [9u16; 16];
-    flat::predict_dc_into(&above, &left, 4, edge, &mut pred);
+    planar_dc::predict_dc_into(&above, &left, 4, edge, &mut pred);
     pred
 }
 

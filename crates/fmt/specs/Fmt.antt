@@ -1,6 +1,8 @@
 -- Document 01, module 1: format. Assumes nothing.
 use Prim.Native.Nat.{ℕ, _<_, _≤_}
+use mathlib.Core.Path.{_≡_, refl}
 use mathlib.Core.Bool.{cond}
+use mathlib.Core.Logic.{_⊎_, inl, inr}
 use native.Mathlib.Omega.{arith}
 use lib.Dec.{eqb}
 use Rattle.fmt.specs.declared.ChromaFormat.{ChromaFormat}
@@ -45,3 +47,19 @@ sub-height Monochrome = omega arith
 sub-height Yuv420 = omega arith
 sub-height Yuv422 = omega arith
 sub-height Yuv444 = omega arith
+
+-- luma samples from a sample of a plane to the next one, along a row or down a column
+abbrev pub Step : ℕ → Type 0
+Step s = (s ≡ 1) ⊎ (s ≡ 2)
+
+pub step-width : (f : ChromaFormat) → Step (subWidth f)
+step-width Monochrome = inl refl
+step-width Yuv420 = inr refl
+step-width Yuv422 = inr refl
+step-width Yuv444 = inl refl
+
+pub step-height : (f : ChromaFormat) → Step (subHeight f)
+step-height Monochrome = inl refl
+step-height Yuv420 = inr refl
+step-height Yuv422 = inl refl
+step-height Yuv444 = inl refl

@@ -1,7 +1,7 @@
-// Bit depth: the rules of fmt.rs about it that the port takes, and the door from a number of bits.
-// Assumes nothing.
+// Bit depth: the rules of fmt.rs about it that the port takes, the door from a number of bits, and the figures of such a number.
+// Rests on nothing. Every figure of a depth stands here and nowhere else.
 ghost use mathlib.Core.Path.{_≡_};
-ghost use Rattle.fmt.specs.depth.Depth.{bitsOf, largest, neutralOf, depthFrom};
+ghost use Rattle.fmt.specs.depth.Depth.{bitsOf, maxVal, neutral, depthFrom, largestOf, neutralOf};
 
 pub enum BitDepth {
     Eight,
@@ -40,7 +40,7 @@ impl BitDepth {
 
     // The largest sample.
     pub fn max_val(self) -> u16
-        ensures { λ r. ⌜ r ≡ largest self ⌝ }
+        ensures { λ r. ⌜ r ≡ maxVal self ⌝ }
     {
         match self {
             BitDepth::Eight => 255,
@@ -51,12 +51,32 @@ impl BitDepth {
 
     // The sample that stands in where no neighbour is available.
     pub fn neutral(self) -> u16
-        ensures { λ r. ⌜ r ≡ neutralOf self ⌝ }
+        ensures { λ r. ⌜ r ≡ neutral self ⌝ }
     {
         match self {
             BitDepth::Eight => 128,
             BitDepth::Ten => 512,
             BitDepth::Twelve => 2048,
         }
+    }
+}
+
+// The largest sample of so many bits, 0 where they name no depth.
+pub fn largest_of(bits: u32) -> u16
+    ensures { λ r. ⌜ r ≡ largestOf bits ⌝ }
+{
+    match BitDepth::from_bits(bits) {
+        DepthFrom::Depth(d) => d.max_val(),
+        DepthFrom::Refused => 0,
+    }
+}
+
+// The sample that stands in at so many bits where no neighbour is available, 0 where they name no depth.
+pub fn neutral_of(bits: u32) -> u16
+    ensures { λ r. ⌜ r ≡ neutralOf bits ⌝ }
+{
+    match BitDepth::from_bits(bits) {
+        DepthFrom::Depth(d) => d.neutral(),
+        DepthFrom::Refused => 0,
     }
 }

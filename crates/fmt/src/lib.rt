@@ -1,10 +1,10 @@
-// Chroma format: the rules of fmt.rs about it that the port takes, the door from a number, and the kinds of places. Depth is in crate depth.
-// Assumes nothing.
+// Chroma format: the rules of fmt.rs about it that the port takes, the door from a number, and the kinds of places. Depth is in
+// module depth. Assumes nothing.
 pub mod depth;
 
 ghost use mathlib.Core.Path.{_≡_};
-ghost use Prim.Native.Nat.{_*_, _/_, _<_, _≤_};
-ghost use Rattle.fmt.specs.Fmt.{subWidth, subHeight, formatFrom};
+ghost use Prim.Native.Nat.{_*_, _/_, _≤_};
+ghost use Rattle.fmt.specs.Fmt.{subWidth, subHeight, formatFrom, Step};
 ghost use Rattle.fmt.specs.Places.{held, lumaRow, lumaCol, chromaRow, chromaCol};
 
 pub enum ChromaFormat {
@@ -60,7 +60,8 @@ impl ChromaFormat {
 }
 
 // Rows and columns of luma samples and of chroma samples are kinds of their own: one passed for the other does not compile,
-// and the way from one to the other is a format's subsampling.
+// and the only way from one to the other is a format's subsampling, by the four functions below. The sides of a chroma plane
+// go by them too: they are the first row and the first column past it.
 pub struct LumaRow(pub u32);
 
 pub struct LumaCol(pub u32);
@@ -81,12 +82,12 @@ fn times(x: u32, sub: usize) -> u32
     wide as u32
 }
 
-// A number over the subsampling, rounded down.
+// A number over the subsampling, rounded down. By the two cases: a division by a variable takes longer than all the rest of a conversion.
 fn over(x: u32, sub: usize) -> u32
-    requires { ⌜ 0 < sub ⌝ }
+    requires { ⌜ Step sub ⌝ }
     ensures { λ r. ⌜ r ≡ x / sub ⌝ }
 {
-    ((x as usize) / sub) as u32
+    if sub == 2 { x / 2 } else { x }
 }
 
 impl ChromaFormat {

@@ -1,10 +1,11 @@
 // Reads the numbers of a fixed list: words of eight hex digits, with one byte after each. And what every program that replays such a
 // list does with them: draws samples from a seed, looks for a line's entries in what was written, counts. Rests on nothing else.
 ghost use mathlib.Core.Path.{_≡_};
-ghost use Prim.Native.Nat.{_+_, _*_, _≤_, _<_, min};
+ghost use Prim.Native.Nat.{_+_, _*_, _≤_, _<_};
 ghost use lib.ListN.{getD};
 ghost use Rattle.listing.specs.Hex.{hexDigit, digitAt, octetAt, halfAt, wordAt};
 ghost use Rattle.listing.specs.Drawn.{next as nextOf, otherSeed, sampleOf, drawn, drawnRow, sameFrom, more, counted};
+use domain::helpers;
 
 fn digit(b: u8) -> u32
     ensures { λ r. ⌜ (r ≡ hexDigit b) × (r ≤ 15) ⌝ }
@@ -62,12 +63,6 @@ pub fn other(seed: u32) -> u32
     ((seed % 65537) * 171 + 11213) % 65537
 }
 
-fn lesser(a: u32, b: u32) -> u32
-    ensures { λ r. ⌜ r ≡ min a b ⌝ }
-{
-    if a < b { a } else { b }
-}
-
 // A number brought to at most the largest; a largest of 1 stands for samples of either end.
 pub fn sample(x: u32, top: u32) -> u16
     ensures { λ r. ⌜ r ≡ sampleOf x top ⌝ }
@@ -75,7 +70,7 @@ pub fn sample(x: u32, top: u32) -> u16
     if top == 1 {
         return ((x % 2) * 65535) as u16;
     }
-    (x % (lesser(top, 65535) + 1)) as u16
+    (x % (helpers::min(top, 65535) + 1)) as u16
 }
 
 // Writes the samples of the numbers that follow a seed.

@@ -1,39 +1,29 @@
--- The edges of a block in a plane over the luma grid: the rule that the code goes by, and that samples of one group share a cell. Assumes nothing.
+-- The edges of a block over the luma grid: the rule that the code goes by, and that samples of one group share a cell. Assumes nothing.
 use mathlib.Core.Path.{_≡_, refl, sym, ap, ap₂, _∙_}
-use mathlib.Core.Bool.{Bool, true, false, _&&_}
-use mathlib.Core.Logic.{_⊎_, ⊎-elim}
-use Prim.Native.Nat.{ℕ, _+_, _-_, _*_, _/_, _%_, _^_, _≤_, _<_, min}
+use mathlib.Core.Bool.{Bool, true, _&&_}
+use mathlib.Core.Logic.{⊎-elim}
+use Prim.Native.Nat.{ℕ, _+_, _*_, _/_, _%_, _^_, _≤_, _<_, min}
 use native.Mathlib.Nat.{div-div-eq-div-mul, mul-div-mul-left, mul-add-div, mul-div-cancel, div-add-mod', mul-comm, mul-assoc, add-mul}
 use native.Mathlib.Omega.{arith}
 use lib.Dec.{leb, ltb, eqb}
-use lib.IntN.{ℤ, pos, negsuc, _-ℤ_}
 use borrow.Author.Tests.{leb-true, ltb-true, eqb-true}
 use Rattle.laws.specs.Choose.{both-true}
-use Rattle.laws.specs.Diff.{sub-pos}
 use Rattle.h265.specs.Order.{zScan}
 use Rattle.domain.specs.Facts.{Size, Unit, at-size}
+use Rattle.fmt.specs.Fmt.{Step}
 use Rattle.order.specs.declared.Shifts.{Shifts}
-use Rattle.order.specs.declared.Plane.{Plane}
+use Rattle.order.specs.declared.Site.{Site}
 use Rattle.order.specs.declared.Reach.{Reach}
 use Rattle.order.specs.Good.{Small}
-use Rattle.order.specs.Reach.{leading, cornerHas, aboveHas, leftHas}
+use Rattle.order.specs.Reach.{leading}
 
 -- the number of the cell that holds the luma sample at (row, col), by the shifts
 abbrev pub numberBy : Shifts → ℕ → ℕ → ℕ
 numberBy s row col = zScan (s .levels) (s .ctus) (col / 2 ^ s .unit) (row / 2 ^ s .unit)
 
--- a sample of the plane whose luma cell has a number below a limit
-unfoldable pub below : Shifts → Plane → ℕ → ℤ → ℤ → Bool
-below s l limit (pos r) (pos c) = ltb r (l .height) && ltb c (l .width) && ltb (numberBy s (r * l .down) (c * l .across)) limit
-below s l limit (pos r) (negsuc c) = false
-below s l limit (negsuc r) c = false
-
--- a row or column before a place
-pub up : (v : ℕ) → 0 < v → pos v -ℤ pos 1 ≡ pos (v - 1)
-up v h = sub-pos v 1 h
-
-abbrev pub Step : ℕ → Type 0
-Step s = (s ≡ 1) ⊎ (s ≡ 2)
+-- entry i of a line from a luma place on, a step further each: whether its cell has a number below a limit
+abbrev pub onLine : Shifts → ℕ → ℕ → ℕ → ℕ → ℕ → ℕ → Bool
+onLine s limit row col down across i = ltb (numberBy s (row + i * down) (col + i * across)) limit
 
 -- samples of a block of side n at a multiple of n, each spanning step luma samples, share cells of unit luma samples in groups
 abbrev pub groupOf : ℕ → ℕ → ℕ → ℕ
@@ -115,27 +105,43 @@ pub record Edge (s : Shifts) (row col down across unit n room : ℕ) : Type 0 wh
   pub step : Step (down + across)
   pub line : Line s row col down across (groupOf unit (down + across) n) (min (2 * n + 1) room)
 
--- a block of side n in its plane, over a good grid
-pub record Placed (s : Shifts) (l : Plane) (unit n row col : ℕ) : Type 0 where
+-- a luma place on which a sample of the plane lies whose number in its row or column is a multiple of n
+pub record Lies (n step place : ℕ) : Type 0 where
+  pub sample : ℕ
+  pub whole : sample % n ≡ 0
+  pub on : place ≡ sample * step
+
+-- a block of side n over a good grid
+pub record Sited (s : Shifts) (e : Site) (unit n : ℕ) : Type 0 where
   pub small : Small s
   pub shift : 2 ^ s .unit ≡ unit
   pub units : Unit unit
   pub size : Size n
-  pub downs : Step (l .down)
-  pub acrosses : Step (l .across)
-  pub tall : l .height * l .down ≤ 4096
-  pub wide : l .width * l .across ≤ 4096
-  pub row-in : row + n ≤ l .height
-  pub col-in : col + n ≤ l .width
-  pub row-at : row % n ≡ 0
-  pub col-at : col % n ≡ 0
+  pub downs : Step (e .down)
+  pub acrosses : Step (e .across)
+  pub row-at : Lies n (e .down) (e .row .0)
+  pub col-at : Lies n (e .across) (e .col .0)
+  pub tall : e .row .0 + e .rows * e .down ≤ 4096
+  pub wide : e .col .0 + e .cols * e .across ≤ 4096
+  pub above-in : e .above .0 < 4096
+  pub left-in : e .left .0 < 4096
 
--- the reach by the code's rule, with a limit for the corner and the row above, and one for the left column
-abbrev pub edgesOf : Shifts → Plane → ℕ → ℕ → ℕ → ℕ → ℕ → Reach
-edgesOf s l n row col high low =
+-- The neighbours that are there by the code's rule: in the plane, in a luma cell that has a number below a limit.
+abbrev pub aboveBy : Shifts → Site → ℕ → ℕ → Bool
+aboveBy s e limit i = ltb 0 (e .row .0) && ltb i (e .cols) && ltb (numberBy s (e .above .0) (e .col .0 + i * e .across)) limit
+
+abbrev pub leftBy : Shifts → Site → ℕ → ℕ → Bool
+leftBy s e limit i = ltb 0 (e .col .0) && ltb i (e .rows) && ltb (numberBy s (e .row .0 + i * e .down) (e .left .0)) limit
+
+abbrev pub cornerBy : Shifts → Site → ℕ → Bool
+cornerBy s e limit = ltb 0 (e .row .0) && ltb 0 (e .col .0) && ltb (numberBy s (e .above .0) (e .left .0)) limit
+
+-- the reach by it, with a limit for the corner and the row above, and one for the left column
+abbrev pub edgesOf : Shifts → Site → ℕ → ℕ → ℕ → Reach
+edgesOf s e n high low =
     record {
       no = 0;
-      corner = cornerHas (below s l high) row col;
-      above = leading (aboveHas (below s l high) row col) (2 * n + 1);
-      left = leading (leftHas (below s l low) row col) (2 * n + 1);
+      corner = cornerBy s e high;
+      above = leading (aboveBy s e high) (2 * n + 1);
+      left = leading (leftBy s e low) (2 * n + 1);
     }

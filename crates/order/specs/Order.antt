@@ -36,8 +36,8 @@ unfoldable pub orderNo : Picture → LumaRow → LumaCol → ℕ
 orderNo p row col = firstFail ((4 unless pictureOk p) ∷ (6 unless placeOk p (row .0) (col .0)) ∷ [])
 
 -- what the order door gives
-unfoldable pub orderDoor : Picture → LumaRow → LumaCol → Numbered
-orderDoor p row col =
+unfoldable pub decodeOrder : Picture → LumaRow → LumaCol → Numbered
+decodeOrder p row col =
     let no = orderNo p row col in
     record { no = no; value = served no (numberAt p (row .0) (col .0)) 0 }
 
@@ -52,7 +52,7 @@ abbrev pub availableTo : Picture → LumaRow → LumaCol → ℤ → ℤ → Boo
 availableTo p row col nr nc = before p (numberAt p (row .0) (col .0)) nr nc
 
 -- what the availability door gives; a neighbour outside the picture is only unavailable
-unfoldable pub availDoor : Picture → LumaNeighbour → LumaRow → LumaCol → Flagged
-availDoor p nb row col =
+unfoldable pub isAvailable : Picture → LumaNeighbour → LumaRow → LumaCol → Flagged
+isAvailable p nb row col =
     let no = orderNo p row col in
     record { no = no; yes = served no (availableTo p row col (nb .row) (nb .col)) false }

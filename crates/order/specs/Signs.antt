@@ -14,7 +14,7 @@ use Rattle.fmt.specs.declared.LumaRow.{LumaRow}
 use Rattle.fmt.specs.declared.LumaCol.{LumaCol}
 use Rattle.order.specs.declared.LumaNeighbour.{LumaNeighbour}
 use Rattle.order.specs.declared.Flagged.{Flagged}
-use Rattle.order.specs.Order.{before, numberAt, orderNo, availDoor}
+use Rattle.order.specs.Order.{before, numberAt, orderNo, isAvailable}
 
 pub low-row : (p : Picture) (limit : ℕ) (z y col : ℤ) → y ≡ z → ltZ y (pos 0) ≡ true → false ≡ before p limit z col
 unfolding before
@@ -39,8 +39,8 @@ casts (negsuc k) y e h f = absurd (false≢true (sym h ∙ ap (λ (x : ℤ). ltZ
 -- the availability door, from what its callees give
 pub avail-is : (p : Picture) (nb : LumaNeighbour) (row : LumaRow) (col : LumaCol) (cur : ℕ) (flag : Bool) (y x : ℤ)
     → orderNo p row col ≡ 0 → cur ≡ numberAt p (row .0) (col .0) → y ≡ nb .row → x ≡ nb .col → flag ≡ before p cur y x
-    → _≡_ {A = Flagged} (record { no = 0; yes = flag }) (availDoor p nb row col)
-unfolding availDoor
+    → _≡_ {A = Flagged} (record { no = 0; yes = flag }) (isAvailable p nb row col)
+unfolding isAvailable
 avail-is p nb row col cur flag y x n c ey ex e =
     let told : flag ≡ before p (numberAt p (row .0) (col .0)) (nb .row) (nb .col) = e ∙ ap (λ (k : ℕ). before p k y x) c ∙ ap₂ (before p (numberAt p (row .0) (col .0))) ey ex in
     simp (n, told)

@@ -2,20 +2,20 @@
 use mathlib.Core.Path.{_≡_, refl, sym, ap, ap₂, _∙_}
 use mathlib.Core.Bool.{Bool, true, false, _&&_}
 use mathlib.Core.Logic.{inl, inr, ⊎-elim}
-use Prim.Native.Nat.{ℕ, suc, _+_, _-_, _*_, _/_, _%_, _^_, _≤_, _<_, min}
+use Prim.Native.Nat.{ℕ, suc, _+_, _*_, _/_, _^_, _≤_, _<_, min}
 use native.Mathlib.Nat.{div-eq-of-lt-le, mul-le-mul-right, add-mul, zero-mul}
 use native.Mathlib.Decide.{decLt}
 use native.Mathlib.Omega.{arith}
 use lib.Dec.{ltb}
-use lib.IntN.{ℤ, pos, _-ℤ_}
 use borrow.Author.Tests.{lt-ltb, le-ltb}
 use Rattle.h265.specs.Order.{zScan}
 use Rattle.domain.specs.Facts.{size-small}
+use Rattle.fmt.specs.Fmt.{Step}
 use Rattle.order.specs.declared.Shifts.{Shifts}
-use Rattle.order.specs.declared.Plane.{Plane}
-use Rattle.order.specs.Reach.{leading, cornerHas, aboveHas, leftHas}
+use Rattle.order.specs.declared.Site.{Site}
+use Rattle.order.specs.Reach.{leading}
 use Rattle.order.specs.Leading.{leading-is, leading-none, leading-cut}
-use Rattle.order.specs.Edges.{numberBy, below, up, Step, groupOf, group, same-group, Line, Edge, Placed}
+use Rattle.order.specs.Edges.{numberBy, onLine, groupOf, group, same-group, Line, Edge, Lies, Sited, aboveBy, leftBy, cornerBy}
 
 -- after some groups: all samples before i hold
 pub record Walked (f : ℕ → Bool) (group most i : ℕ) : Type 0 where
@@ -60,35 +60,13 @@ module _ (s : Shifts) (limit row col down across group most : ℕ) (l : Line s r
   pub walk-ends : (i : ℕ) → Walked found group most i → most ≤ i → most ≡ leading found most
   walk-ends i w h = sym (leading-is found most most (omega arith) (λ j p. w .hold j (omega arith) p) (inl refl))
 
--- a sample of the plane, and one past its side
-pub below-in : (s : Shifts) (l : Plane) (limit r c : ℕ) → r < l .height → c < l .width → below s l limit (pos r) (pos c) ≡ ltb (numberBy s (r * l .down) (c * l .across)) limit
-unfolding below
-below-in s l limit r c hr hc = simp (lt-ltb r (l .height) hr, lt-ltb c (l .width) hc)
-
-below-right : (s : Shifts) (l : Plane) (limit r c : ℕ) → l .width ≤ c → below s l limit (pos r) (pos c) ≡ false
-unfolding below
-below-right s l limit r c h = simp (le-ltb c (l .width) h) (no-more (ltb r (l .height)))
-  where
-    no-more : (b : Bool) → (b && false && ltb (numberBy s (r * l .down) (c * l .across)) limit) ≡ false
-    no-more true = refl
-    no-more false = refl
-
-below-under : (s : Shifts) (l : Plane) (limit r c : ℕ) → l .height ≤ r → below s l limit (pos r) (pos c) ≡ false
-unfolding below
-below-under s l limit r c h = simp (le-ltb r (l .height) h)
-
--- a coordinate in luma samples
-span : (v i side step : ℕ) → v + i < side → side * step ≤ 4096 → Step step → (i * step ≤ 4096) × (v * step + i * step < 4096)
-span v i side step h b t =
+-- a place in luma samples, some steps on
+pub span : (x i room step : ℕ) → i < room → x + room * step ≤ 4096 → Step step → (i * step ≤ 4096) × (x + i * step < 4096)
+span x i room step h b t =
     let pos : 0 < step = ⊎-elim (λ e. omega arith) (λ e. omega arith) t in
-    let m : suc (v + i) * step ≤ side * step = mul-le-mul-right step h in
-    let a : suc (v + i) * step ≡ v * step + i * step + step = ap (λ (k : ℕ). k * step) (let e : suc (v + i) ≡ v + i + 1 = omega arith in e) ∙ add-mul (v + i) 1 step ∙ ap (λ (k : ℕ). k + 1 * step) (add-mul v i step) ∙ (let e : v * step + i * step + 1 * step ≡ v * step + i * step + step = omega arith in e) in
+    let m : suc i * step ≤ room * step = mul-le-mul-right step h in
+    let a : suc i * step ≡ i * step + step = ap (λ (k : ℕ). k * step) (let e : suc i ≡ i + 1 = omega arith in e) ∙ add-mul i 1 step ∙ (let e : i * step + 1 * step ≡ i * step + step = omega arith in e) in
     (omega arith, omega arith)
-
-fixed : (v side step : ℕ) → v < side → side * step ≤ 4096 → Step step → v * step < 4096
-fixed v side step h b t =
-    let r = span v 0 side step (omega arith) b t in
-    omega arith
 
 -- entries of a line that stays at one coordinate, and those along the other
 still : (r i g : ℕ) → r + i * 0 ≡ r + i / g * g * 0
@@ -99,106 +77,87 @@ edge-count : (f g : ℕ → Bool) (most room : ℕ) → ((i : ℕ) → i < room 
 edge-count f g most room same end =
     sym (leading-cut f g most (min most room) (omega arith) (λ i q. same i (omega arith)) (λ q. ap f (let e : min most room ≡ room = omega arith in e) ∙ end))
 
-module _ (s : Shifts) (l : Plane) (unit n row col : ℕ) (p : Placed s l unit n row col) where
-  same-cells : (v step g i : ℕ) → Step step → v % n ≡ 0 → g ≡ groupOf unit step n → (v * step + i * step) / 2 ^ s .unit ≡ (v * step + i / g * g * step) / 2 ^ s .unit
-  same-cells v step g i t e eg =
-      ap (λ (u : ℕ). (v * step + i * step) / u) (p .shift)
-      ∙ same-group unit step n v i (p .units) t (p .size) e
-      ∙ ap₂ (λ (x u : ℕ). (v * step + i / x * x * step) / u) (sym eg) (sym (p .shift))
-
-  -- places in luma samples
-  pub row-span : (v : ℕ) → v < l .height → v * l .down < 4096
-  row-span v h = fixed v (l .height) (l .down) h (p .tall) (p .downs)
-
-  pub col-span : (v : ℕ) → v < l .width → v * l .across < 4096
-  col-span v h = fixed v (l .width) (l .across) h (p .wide) (p .acrosses)
+module _ (s : Shifts) (e : Site) (unit n : ℕ) (p : Sited s e unit n) where
+  same-cells : (x step g i : ℕ) → Step step → Lies n step x → g ≡ groupOf unit step n → (x + i * step) / 2 ^ s .unit ≡ (x + i / g * g * step) / 2 ^ s .unit
+  same-cells x step g i t l eg =
+      ap₂ (λ (v u : ℕ). (v + i * step) / u) (l .on) (p .shift)
+      ∙ same-group unit step n (l .sample) i (p .units) t (p .size) (l .whole)
+      ∙ ap₂ (λ (h u : ℕ). (l .sample * step + i / h * h * step) / u) (sym eg) (sym (p .shift))
+      ∙ ap (λ (v : ℕ). (v + i / g * g * step) / 2 ^ s .unit) (sym (l .on))
 
   -- an edge, by the step that is not 0, the places that it passes, and that those of a group share a cell
   edge : (r c down across step room : ℕ) → down + across ≡ step → Step step
       → ((i : ℕ) → i < room → (i * down ≤ 4096) × (i * across ≤ 4096) × (r + i * down < 4096) × (c + i * across < 4096))
       → ((g i : ℕ) → g ≡ groupOf unit step n → numberBy s (r + i * down) (c + i * across) ≡ numberBy s (r + i / g * g * down) (c + i / g * g * across))
       → Edge s r c down across unit n room
-  edge r c down across step room e t inside same =
-      let g = group unit (down + across) n (p .units) (⊎-elim (λ q. inl (e ∙ q)) (λ q. inr (e ∙ q)) t) (p .size) in
+  edge r c down across step room q t inside same =
+      let g = group unit (down + across) n (p .units) (⊎-elim (λ w. inl (q ∙ w)) (λ w. inr (q ∙ w)) t) (p .size) in
       record {
         size = p .size;
-        step = ⊎-elim (λ q. inl (e ∙ q)) (λ q. inr (e ∙ q)) t;
+        step = ⊎-elim (λ w. inl (q ∙ w)) (λ w. inr (q ∙ w)) t;
         line = record {
           small = p .small;
           some = g .some;
           few = g .few;
           short = omega (arith, size-small n (p .size));
-          inside = λ i q. inside i (omega arith);
-          same = λ i. same (groupOf unit (down + across) n) i (ap (λ (x : ℕ). groupOf unit x n) e);
+          inside = λ i w. inside i (omega arith);
+          same = λ i. same (groupOf unit (down + across) n) i (ap (λ (x : ℕ). groupOf unit x n) q);
         };
       }
 
   -- the row above
-  pub above-edge : 0 < row → Edge s ((row - 1) * l .down) (col * l .across) 0 (l .across) unit n (l .width - col)
-  above-edge h =
-      edge _ _ 0 (l .across) (l .across) _ (omega arith) (p .acrosses)
+  pub above-edge : Edge s (e .above .0) (e .col .0) 0 (e .across) unit n (e .cols)
+  above-edge =
+      edge _ _ 0 (e .across) (e .across) _ (omega arith) (p .acrosses)
       (λ i q.
-      let a = span col i (l .width) (l .across) (omega arith) (p .wide) (p .acrosses) in
-      let b = row-span (row - 1) (omega (arith, p .row-in)) in
+      let a = span (e .col .0) i (e .cols) (e .across) q (p .wide) (p .acrosses) in
+      let b = p .above-in in
       (omega arith, a .0, omega arith, a .1))
-      (λ g i eg. ap₂ (λ (y x : ℕ). zScan (s .levels) (s .ctus) x (y / 2 ^ s .unit)) (still ((row - 1) * l .down) i g) (same-cells col (l .across) g i (p .acrosses) (p .col-at) eg))
+      (λ g i eg. ap₂ (λ (y x : ℕ). zScan (s .levels) (s .ctus) x (y / 2 ^ s .unit)) (still (e .above .0) i g) (same-cells (e .col .0) (e .across) g i (p .acrosses) (p .col-at) eg))
 
-  pub above-none : (limit : ℕ) → row ≡ 0 → 0 ≡ leading (aboveHas (below s l limit) row col) (2 * n + 1)
-  unfolding below
-  above-none limit e = sym (leading-none (aboveHas (below s l limit) row col) (2 * n + 1) (ap (λ (r : ℕ). below s l limit (pos r -ℤ pos 1) (pos (col + 0))) e))
+  pub above-none : (limit : ℕ) → e .row .0 ≡ 0 → 0 ≡ leading (aboveBy s e limit) (2 * n + 1)
+  above-none limit z = sym (leading-none (aboveBy s e limit) (2 * n + 1) (ap (λ (r : ℕ). ltb 0 r && ltb 0 (e .cols) && ltb (numberBy s (e .above .0) (e .col .0 + 0 * e .across)) limit) z))
 
-  pub above-count : (limit : ℕ) → 0 < row
-      → leading (λ (i : ℕ). ltb (numberBy s ((row - 1) * l .down + i * 0) (col * l .across + i * l .across)) limit) (min (2 * n + 1) (l .width - col))
-      ≡ leading (aboveHas (below s l limit) row col) (2 * n + 1)
-  above-count limit h = edge-count (aboveHas (below s l limit) row col) _ (2 * n + 1) (l .width - col) there past
+  pub above-count : (limit : ℕ) → 0 < e .row .0
+      → leading (onLine s limit (e .above .0) (e .col .0) 0 (e .across)) (min (2 * n + 1) (e .cols)) ≡ leading (aboveBy s e limit) (2 * n + 1)
+  above-count limit h = edge-count (aboveBy s e limit) _ (2 * n + 1) (e .cols) there past
     where
-      there : (i : ℕ) → i < l .width - col → aboveHas (below s l limit) row col i ≡ ltb (numberBy s ((row - 1) * l .down + i * 0) (col * l .across + i * l .across)) limit
+      there : (i : ℕ) → i < e .cols → aboveBy s e limit i ≡ onLine s limit (e .above .0) (e .col .0) 0 (e .across) i
       there i q =
-          ap (λ (z : ℤ). below s l limit z (pos (col + i))) (up row h)
-          ∙ below-in s l limit (row - 1) (col + i) (omega (arith, p .row-in)) (omega arith)
-          ∙ ap₂ (λ (y x : ℕ). ltb (numberBy s y x) limit) (let e : (row - 1) * l .down ≡ (row - 1) * l .down + i * 0 = omega arith in e) (add-mul col i (l .across))
+          simp (lt-ltb 0 (e .row .0) h, lt-ltb i (e .cols) q)
+          (ap (λ (y : ℕ). ltb (numberBy s y (e .col .0 + i * e .across)) limit) (let w : e .above .0 ≡ e .above .0 + i * 0 = omega arith in w))
 
-      past : aboveHas (below s l limit) row col (l .width - col) ≡ false
-      past = ap (λ (z : ℤ). below s l limit z (pos (col + (l .width - col)))) (up row h) ∙ below-right s l limit (row - 1) (col + (l .width - col)) (omega arith)
+      past : aboveBy s e limit (e .cols) ≡ false
+      past = simp (lt-ltb 0 (e .row .0) h, le-ltb (e .cols) (e .cols) (omega arith))
 
   -- the left column
-  pub left-edge : 0 < col → Edge s (row * l .down) ((col - 1) * l .across) (l .down) 0 unit n (l .height - row)
-  left-edge h =
-      edge _ _ (l .down) 0 (l .down) _ (omega arith) (p .downs)
+  pub left-edge : Edge s (e .row .0) (e .left .0) (e .down) 0 unit n (e .rows)
+  left-edge =
+      edge _ _ (e .down) 0 (e .down) _ (omega arith) (p .downs)
       (λ i q.
-      let a = span row i (l .height) (l .down) (omega arith) (p .tall) (p .downs) in
-      let b = col-span (col - 1) (omega (arith, p .col-in)) in
+      let a = span (e .row .0) i (e .rows) (e .down) q (p .tall) (p .downs) in
+      let b = p .left-in in
       (a .0, omega arith, a .1, omega arith))
-      (λ g i eg. ap₂ (λ (y x : ℕ). zScan (s .levels) (s .ctus) (x / 2 ^ s .unit) y) (same-cells row (l .down) g i (p .downs) (p .row-at) eg) (still ((col - 1) * l .across) i g))
+      (λ g i eg. ap₂ (λ (y x : ℕ). zScan (s .levels) (s .ctus) (x / 2 ^ s .unit) y) (same-cells (e .row .0) (e .down) g i (p .downs) (p .row-at) eg) (still (e .left .0) i g))
 
-  pub left-none : (limit : ℕ) → col ≡ 0 → 0 ≡ leading (leftHas (below s l limit) row col) (2 * n + 1)
-  unfolding below
-  left-none limit e = sym (leading-none (leftHas (below s l limit) row col) (2 * n + 1) (ap (λ (c : ℕ). below s l limit (pos (row + 0)) (pos c -ℤ pos 1)) e))
+  pub left-none : (limit : ℕ) → e .col .0 ≡ 0 → 0 ≡ leading (leftBy s e limit) (2 * n + 1)
+  left-none limit z = sym (leading-none (leftBy s e limit) (2 * n + 1) (ap (λ (c : ℕ). ltb 0 c && ltb 0 (e .rows) && ltb (numberBy s (e .row .0 + 0 * e .down) (e .left .0)) limit) z))
 
-  pub left-count : (limit : ℕ) → 0 < col
-      → leading (λ (i : ℕ). ltb (numberBy s (row * l .down + i * l .down) ((col - 1) * l .across + i * 0)) limit) (min (2 * n + 1) (l .height - row))
-      ≡ leading (leftHas (below s l limit) row col) (2 * n + 1)
-  left-count limit h = edge-count (leftHas (below s l limit) row col) _ (2 * n + 1) (l .height - row) there past
+  pub left-count : (limit : ℕ) → 0 < e .col .0
+      → leading (onLine s limit (e .row .0) (e .left .0) (e .down) 0) (min (2 * n + 1) (e .rows)) ≡ leading (leftBy s e limit) (2 * n + 1)
+  left-count limit h = edge-count (leftBy s e limit) _ (2 * n + 1) (e .rows) there past
     where
-      there : (i : ℕ) → i < l .height - row → leftHas (below s l limit) row col i ≡ ltb (numberBy s (row * l .down + i * l .down) ((col - 1) * l .across + i * 0)) limit
+      there : (i : ℕ) → i < e .rows → leftBy s e limit i ≡ onLine s limit (e .row .0) (e .left .0) (e .down) 0 i
       there i q =
-          ap (λ (z : ℤ). below s l limit (pos (row + i)) z) (up col h)
-          ∙ below-in s l limit (row + i) (col - 1) (omega arith) (omega (arith, p .col-in))
-          ∙ ap₂ (λ (y x : ℕ). ltb (numberBy s y x) limit) (add-mul row i (l .down)) (let e : (col - 1) * l .across ≡ (col - 1) * l .across + i * 0 = omega arith in e)
+          simp (lt-ltb 0 (e .col .0) h, lt-ltb i (e .rows) q)
+          (ap (λ (x : ℕ). ltb (numberBy s (e .row .0 + i * e .down) x) limit) (let w : e .left .0 ≡ e .left .0 + i * 0 = omega arith in w))
 
-      past : leftHas (below s l limit) row col (l .height - row) ≡ false
-      past = ap (λ (z : ℤ). below s l limit (pos (row + (l .height - row))) z) (up col h) ∙ below-under s l limit (row + (l .height - row)) (col - 1) (omega arith)
+      past : leftBy s e limit (e .rows) ≡ false
+      past = simp (lt-ltb 0 (e .col .0) h, le-ltb (e .rows) (e .rows) (omega arith))
 
   -- the corner
-  pub corner-top : (limit : ℕ) → row ≡ 0 → false ≡ cornerHas (below s l limit) row col
-  unfolding below
-  corner-top limit e = sym (ap (λ (r : ℕ). below s l limit (pos r -ℤ pos 1) (pos col -ℤ pos 1)) e)
+  pub corner-side : (limit : ℕ) → 0 < e .row .0 → e .col .0 ≡ 0 → false ≡ cornerBy s e limit
+  corner-side limit h z = sym (simp (lt-ltb 0 (e .row .0) h, le-ltb 0 (e .col .0) (omega arith)))
 
-  pub corner-side : (limit : ℕ) → 0 < row → col ≡ 0 → false ≡ cornerHas (below s l limit) row col
-  unfolding below
-  corner-side limit h e = sym (ap₂ (λ (r : ℤ) (c : ℕ). below s l limit r (pos c -ℤ pos 1)) (up row h) e)
-
-  pub corner-is : (limit v : ℕ) → 0 < row → 0 < col → v ≡ numberBy s ((row - 1) * l .down) ((col - 1) * l .across) → ltb v limit ≡ cornerHas (below s l limit) row col
-  corner-is limit v hr hc e =
-      ap (λ (x : ℕ). ltb x limit) e
-      ∙ sym (ap₂ (below s l limit) (up row hr) (up col hc) ∙ below-in s l limit (row - 1) (col - 1) (omega (arith, p .row-in)) (omega (arith, p .col-in)))
+  pub corner-is : (limit v : ℕ) → 0 < e .row .0 → 0 < e .col .0 → v ≡ numberBy s (e .above .0) (e .left .0) → ltb v limit ≡ cornerBy s e limit
+  corner-is limit v hr hc q = ap (λ (x : ℕ). ltb x limit) q ∙ sym (ap₂ (λ (a b : Bool). a && b && ltb (numberBy s (e .above .0) (e .left .0)) limit) (lt-ltb 0 (e .row .0) hr) (lt-ltb 0 (e .col .0) hc))

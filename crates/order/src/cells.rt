@@ -1,5 +1,5 @@
 // What the number of a cell is made of (H.265 6.5.2): interleaved bits and the CTUs in a row; and whether a place is in its picture.
-// Rests on the standard's definitions alone. Each is a door of its own, so that a wrong number in one is found in seconds.
+// Rests on the standard's definitions alone.
 ghost use mathlib.Core.Path.{_≡_};
 ghost use mathlib.Core.Bool.{_&&_};
 ghost use Prim.Native.Nat.{_<_};
@@ -16,14 +16,14 @@ fn spread_of(v: usize) -> usize
 }
 
 // The last four bits of a row and of a column, interleaved.
-pub fn interleave(y: usize, x: usize) -> usize
+pub(crate) fn interleave(y: usize, x: usize) -> usize
     ensures { λ r. ⌜ r ≡ interleaved 4 x y ⌝ }
 {
     2 * spread_of(y) + spread_of(x)
 }
 
 // The CTUs in a row: the width over the CTU's side, rounded up. What is no CTU's side counts as 64.
-pub fn ctus_of(width: u32, ctu: u32) -> usize
+pub(crate) fn ctus_of(width: u32, ctu: u32) -> usize
     ensures { λ r. ⌜ r ≡ ctusOf width ctu ⌝ }
 {
     let w = width as usize;
@@ -35,7 +35,7 @@ pub fn ctus_of(width: u32, ctu: u32) -> usize
 }
 
 // Whether a place is in a picture.
-pub fn inside(height: u32, width: u32, row: usize, col: usize) -> bool
+pub(crate) fn inside(height: u32, width: u32, row: usize, col: usize) -> bool
     ensures { λ r. ⌜ r ≡ (ltb row height && ltb col width) ⌝ }
 {
     (row < (height as usize)) & (col < (width as usize))

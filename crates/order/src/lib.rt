@@ -3,16 +3,20 @@
 pub mod cells;
 
 ghost use mathlib.Core.Path.{_≡_};
-ghost use Prim.Native.Nat.{ℕ, _+_, _-_, _*_, _/_, _%_, _^_, _≤_, _<_, min};
-ghost use lib.Dec.{ltb, eqb};
+ghost use Prim.Native.Nat.{_+_, _-_, _*_, _/_, _%_, _^_, _≤_, _<_, min};
+ghost use lib.Dec.{eqb};
 ghost use lib.IntN.{pos};
 ghost use Rattle.h265.specs.Notation.{log2};
 ghost use Rattle.h265.specs.Order.{zScan};
-ghost use Rattle.order.specs.Order.{pictureOk, placeOk, orderNo, orderDoor, before, availDoor};
+ghost use Rattle.order.specs.Order.{placeOk, orderNo, decodeOrder, before, isAvailable};
 ghost use Rattle.order.specs.Good.{Good, Power, Small, shiftsOf};
-ghost use Rattle.order.specs.Reach.{leading, cornerHas, aboveHas, leftHas, inPlane, reachBy, lumaHas, lumaReachNo, lumaReach, colour, chromaBlockOk, chromaHas, chromaReachNo, chromaReach};
-ghost use Rattle.order.specs.Edges.{numberBy, below, Step, groupOf, Line, Edge, Placed, edgesOf};
+ghost use Rattle.order.specs.Reach.{leading, inPlane, reachBy, lumaHas, lumaReachNo, lumaReach};
+ghost use Rattle.order.specs.Reach.{colour, chromaBlockOk, chromaHas, chromaReachNo, chromaReach};
+ghost use Rattle.order.specs.Edges.{onLine, groupOf, Line, Edge, aboveBy, leftBy, cornerBy, edgesOf, Sited};
+ghost use Rattle.order.specs.Blocks.{lumaSite, chromaSite};
+ghost use Rattle.fmt.specs.Fmt.{Step};
 ghost use Rattle.domain.specs.Facts.{Size};
+use domain::helpers;
 use fmt::ChromaCol;
 use fmt::ChromaFormat;
 use fmt::ChromaRow;
@@ -112,7 +116,7 @@ fn number(s: Shifts, row: usize, col: usize) -> usize
 fn order_no(p: Picture, row: LumaRow, col: LumaCol) -> u32
     ensures { λ r. ⌜ r ≡ orderNo p row col ⌝ }
 {
-    if !(domain::side_ok(p.width) & domain::side_ok(p.height) & domain::ctu_ok(p.ctu)) {
+    if !domain::picture_ok(p.width, p.height, p.ctu) {
         return 4;
     }
     if !(domain::unit_ok(p.unit) & (row.0 < p.height) & (col.0 < p.width)) {
@@ -122,7 +126,7 @@ fn order_no(p: Picture, row: LumaRow, col: LumaCol) -> u32
 }
 
 pub fn decode_order(r: LumaRow, c: LumaCol, picture: Picture) -> Numbered
-    ensures { λ a. ⌜ a ≡ orderDoor picture r c ⌝ }
+    ensures { λ a. ⌜ a ≡ decodeOrder picture r c ⌝ }
 {
     let no = order_no(picture, r, c);
     if no != 0 {
@@ -167,7 +171,7 @@ pub fn is_available(
     block_col: LumaCol,
     picture: Picture,
 ) -> Flagged
-    ensures { λ a. ⌜ a ≡ availDoor picture neighbour «block_row» «block_col» ⌝ }
+    ensures { λ a. ⌜ a ≡ isAvailable picture neighbour «block_row» «block_col» ⌝ }
 {
     let no = order_no(picture, block_row, block_col);
     if no != 0 {
@@ -212,12 +216,18 @@ pub struct Reach {
     pub left: usize,
 }
 
-// A plane over the luma grid: its sides in samples of its own, and the luma rows and columns that one of them spans.
-struct Plane {
-    height: usize,
-    width: usize,
+// Where a block stands over the luma grid: the luma places on which its first row and column lie, and the row above and the column
+// left of it; the steps to the next sample, down a column and across a row, in luma samples; and the plane's rows and columns from
+// the block's first on.
+struct Site {
+    row: LumaRow,
+    col: LumaCol,
+    above: LumaRow,
+    left: LumaCol,
     down: usize,
     across: usize,
+    rows: usize,
+    cols: usize,
 }
 
 // How many of `most` samples have a number below `limit`, from the luma place (row, col) on, each `down` luma rows and `across`
@@ -233,7 +243,7 @@ fn leads(
     most: usize,
 ) -> usize
     requires { ⌜ Line s row col down across group most ⌝ }
-    ensures { λ r. ⌜ r ≡ leading (λ (i : ℕ). ltb (numberBy s (row + i * down) (col + i * across)) limit) most ⌝ }
+    ensures { λ r. ⌜ r ≡ leading (onLine s limit row col down across) most ⌝ }
 {
     let mut i = 0;
     while i < most {
@@ -245,22 +255,15 @@ fn leads(
     most
 }
 
-// The lesser of two numbers.
-fn lesser(a: usize, b: usize) -> usize
-    ensures { λ r. ⌜ r ≡ min a b ⌝ }
-{
-    if a < b { a } else { b }
-}
-
 // How many samples of a block's edge share a cell: those of the unit, but no more than the block's side.
 fn group_of(unit: usize, step: usize, n: usize) -> usize
     requires { ⌜ Step step ⌝ }
     ensures { λ r. ⌜ r ≡ groupOf unit step n ⌝ }
 {
     if step == 2 {
-        return lesser(unit / 2, n);
+        return helpers::min_len(unit / 2, n);
     }
-    lesser(unit, n)
+    helpers::min_len(unit, n)
 }
 
 // How many of an edge's 2n + 1 entries have a number below `limit`, from the luma place (row, col) on, where the plane has `room` for
@@ -277,87 +280,51 @@ fn edge_reach(
     room: usize,
 ) -> usize
     requires { ⌜ Edge s row col down across unit n room ⌝ }
-    ensures { λ r. ⌜ r ≡ leading (λ (i : ℕ). ltb (numberBy s (row + i * down) (col + i * across)) limit) (min (2 * n + 1) room) ⌝ }
+    ensures { λ r. ⌜ r ≡ leading (onLine s limit row col down across) (min (2 * n + 1) room) ⌝ }
 {
     let group = group_of(unit, down + across, n);
-    let most = lesser(2 * n + 1, room);
+    let most = helpers::min_len(2 * n + 1, room);
     leads(s, limit, row, col, down, across, group, most)
 }
 
 // How many entries of the row above a block are there.
-fn above_reach(
-    s: Shifts,
-    l: Plane,
-    unit: usize,
-    n: usize,
-    row: usize,
-    col: usize,
-    limit: usize,
-) -> usize
-    requires { ⌜ Placed s l unit n row col ⌝ }
-    ensures { λ r. ⌜ r ≡ leading (aboveHas (below s l limit) row col) (2 * n + 1) ⌝ }
+fn above_reach(s: Shifts, e: Site, unit: usize, n: usize, limit: usize) -> usize
+    requires { ⌜ Sited s e unit n ⌝ }
+    ensures { λ r. ⌜ r ≡ leading (aboveBy s e limit) (2 * n + 1) ⌝ }
 {
-    if row == 0 {
+    if e.row.0 == 0 {
         return 0;
     }
-    let across = l.across;
-    let from = (row - 1) * l.down;
-    edge_reach(
-        s,
-        limit,
-        from,
-        col * across,
-        0,
-        across,
-        unit,
-        n,
-        l.width - col,
-    )
+    let row = e.above.0 as usize;
+    let col = e.col.0 as usize;
+    edge_reach(s, limit, row, col, 0, e.across, unit, n, e.cols)
 }
 
 // How many entries of the column left of a block are there.
-fn left_reach(
-    s: Shifts,
-    l: Plane,
-    unit: usize,
-    n: usize,
-    row: usize,
-    col: usize,
-    limit: usize,
-) -> usize
-    requires { ⌜ Placed s l unit n row col ⌝ }
-    ensures { λ r. ⌜ r ≡ leading (leftHas (below s l limit) row col) (2 * n + 1) ⌝ }
+fn left_reach(s: Shifts, e: Site, unit: usize, n: usize, limit: usize) -> usize
+    requires { ⌜ Sited s e unit n ⌝ }
+    ensures { λ r. ⌜ r ≡ leading (leftBy s e limit) (2 * n + 1) ⌝ }
 {
-    if col == 0 {
+    if e.col.0 == 0 {
         return 0;
     }
-    let down = l.down;
-    let from = (col - 1) * l.across;
-    edge_reach(s, limit, row * down, from, down, 0, unit, n, l.height - row)
+    let row = e.row.0 as usize;
+    let col = e.left.0 as usize;
+    edge_reach(s, limit, row, col, e.down, 0, unit, n, e.rows)
 }
 
 // Whether the corner of a block is there.
-fn corner_there(
-    s: Shifts,
-    l: Plane,
-    unit: usize,
-    n: usize,
-    row: usize,
-    col: usize,
-    limit: usize,
-) -> bool
-    requires { ⌜ Placed s l unit n row col ⌝ }
-    ensures { λ r. ⌜ r ≡ cornerHas (below s l limit) row col ⌝ }
+fn corner_there(s: Shifts, e: Site, unit: usize, n: usize, limit: usize) -> bool
+    requires { ⌜ Sited s e unit n ⌝ }
+    ensures { λ r. ⌜ r ≡ cornerBy s e limit ⌝ }
 {
-    if row == 0 {
+    if e.row.0 == 0 {
         return false;
     }
-    if col == 0 {
+    if e.col.0 == 0 {
         return false;
     }
-    let down = l.down;
-    let across = l.across;
-    number(s, (row - 1) * down, (col - 1) * across) < limit
+    number(s, e.above.0 as usize, e.left.0 as usize) < limit
 }
 
 // Whether a number is a multiple of a block's side.
@@ -383,12 +350,6 @@ fn in_plane(height: usize, width: usize, row: u32, col: u32, n: usize) -> bool
     multiple(r, n) & multiple(c, n) & (r + n <= height) & (c + n <= width)
 }
 
-fn picture_ok(p: Picture) -> bool
-    ensures { λ r. ⌜ r ≡ pictureOk p ⌝ }
-{
-    domain::side_ok(p.width) & domain::side_ok(p.height) & domain::ctu_ok(p.ctu)
-}
-
 // The number that refuses a luma block, or 0.
 fn luma_no(b: LumaBlock) -> u32
     ensures { λ r. ⌜ r ≡ lumaReachNo b ⌝ }
@@ -398,7 +359,7 @@ fn luma_no(b: LumaBlock) -> u32
     if !domain::size_ok(n) {
         return 2;
     }
-    if !picture_ok(p) {
+    if !domain::picture_ok(p.width, p.height, p.ctu) {
         return 4;
     }
     let placed = in_plane(p.height as usize, p.width as usize, b.row.0, b.col.0, n);
@@ -409,24 +370,42 @@ fn luma_no(b: LumaBlock) -> u32
 }
 
 // The reach of a block over a good grid, below one limit in the row above and the corner, below another in the left column.
-fn edges(
-    s: Shifts,
-    l: Plane,
-    unit: usize,
-    n: usize,
-    row: usize,
-    col: usize,
-    above_limit: usize,
-    left_limit: usize,
-) -> Reach
-    requires { ⌜ Placed s l unit n row col ⌝ }
-    ensures { λ r. ⌜ r ≡ edgesOf s l n row col «above_limit» «left_limit» ⌝ }
+fn edges(s: Shifts, e: Site, unit: usize, n: usize, above_limit: usize, left_limit: usize) -> Reach
+    requires { ⌜ Sited s e unit n ⌝ }
+    ensures { λ r. ⌜ r ≡ edgesOf s e n «above_limit» «left_limit» ⌝ }
 {
     Reach {
         no: 0,
-        corner: corner_there(s, l, unit, n, row, col, above_limit),
-        above: above_reach(s, l, unit, n, row, col, above_limit),
-        left: left_reach(s, l, unit, n, row, col, left_limit),
+        corner: corner_there(s, e, unit, n, above_limit),
+        above: above_reach(s, e, unit, n, above_limit),
+        left: left_reach(s, e, unit, n, left_limit),
+    }
+}
+
+// The row or column before one, 0 for the first.
+fn back(v: u32) -> u32
+    ensures { λ r. ⌜ r ≡ v - 1 ⌝ }
+{
+    if v == 0 { 0 } else { v - 1 }
+}
+
+fn luma_site(b: LumaBlock) -> Site
+    requires { ⌜ lumaReachNo b ≡ 0 ⌝ }
+    ensures { λ r. ⌜ r ≡ lumaSite b ⌝ }
+{
+    let row = b.row;
+    let col = b.col;
+    let above = LumaRow(back(row.0));
+    let left = LumaCol(back(col.0));
+    Site {
+        row,
+        col,
+        above,
+        left,
+        down: 1,
+        across: 1,
+        rows: (b.picture.height - row.0) as usize,
+        cols: (b.picture.width - col.0) as usize,
     }
 }
 
@@ -436,16 +415,8 @@ fn luma_work(b: LumaBlock) -> Reach
 {
     let p = b.picture;
     let s = shifts_of(p);
-    let row = b.row.0 as usize;
-    let col = b.col.0 as usize;
-    let cur = number(s, row, col);
-    let l = Plane {
-        height: p.height as usize,
-        width: p.width as usize,
-        down: 1,
-        across: 1,
-    };
-    edges(s, l, p.unit as usize, b.n, row, col, cur, cur)
+    let cur = number(s, b.row.0 as usize, b.col.0 as usize);
+    edges(s, luma_site(b), p.unit as usize, b.n, cur, cur)
 }
 
 // How far the neighbours of a luma block reach that are available to it.
@@ -476,17 +447,6 @@ fn has_chroma(f: ChromaFormat) -> bool
     }
 }
 
-// A side or a CTU over the subsampling.
-fn over(v: u32, sub: usize) -> usize
-    requires { ⌜ Step sub ⌝ }
-    ensures { λ r. ⌜ r ≡ v / sub ⌝ }
-{
-    if sub == 2 {
-        return (v as usize) / 2;
-    }
-    v as usize
-}
-
 // Whether a luma place is in the picture, and the unit is one.
 fn current_ok(p: Picture, row: LumaRow, col: LumaCol) -> bool
     ensures { λ r. ⌜ r ≡ placeOk p (row .0) (col .0) ⌝ }
@@ -499,10 +459,11 @@ fn chroma_block_ok(p: Picture, f: ChromaFormat, row: ChromaRow, col: ChromaCol, 
     requires { ⌜ Size n ⌝ }
     ensures { λ r. ⌜ r ≡ chromaBlockOk p f (row .0) (col .0) n ⌝ }
 {
-    let sub_w = f.sub_w();
-    let height = over(p.height, f.sub_h());
-    let width = over(p.width, sub_w);
-    in_plane(height, width, row.0, col.0, n) & (n <= over(p.ctu, sub_w))
+    let height = f.chroma_row(LumaRow(p.height));
+    let width = f.chroma_col(LumaCol(p.width));
+    let ctu = f.chroma_col(LumaCol(p.ctu));
+    let placed = in_plane(height.0 as usize, width.0 as usize, row.0, col.0, n);
+    placed & (n <= (ctu.0 as usize))
 }
 
 // The number that refuses a chroma block, or 0.
@@ -515,7 +476,7 @@ fn chroma_no(b: ChromaBlock) -> u32
     if !domain::size_ok(n) {
         return 2;
     }
-    if !(picture_ok(p) & has_chroma(f)) {
+    if !(domain::picture_ok(p.width, p.height, p.ctu) & has_chroma(f)) {
         return 4;
     }
     let row = b.row;
@@ -528,32 +489,38 @@ fn chroma_no(b: ChromaBlock) -> u32
     0
 }
 
+fn chroma_site(b: ChromaBlock) -> Site
+    requires { ⌜ chromaReachNo b ≡ 0 ⌝ }
+    ensures { λ r. ⌜ r ≡ chromaSite b ⌝ }
+{
+    let f = b.format;
+    let height = f.chroma_row(LumaRow(b.picture.height));
+    let width = f.chroma_col(LumaCol(b.picture.width));
+    let row = f.luma_row(b.row);
+    let col = f.luma_col(b.col);
+    let above = f.luma_row(ChromaRow(back(b.row.0)));
+    let left = f.luma_col(ChromaCol(back(b.col.0)));
+    Site {
+        row,
+        col,
+        above,
+        left,
+        down: f.sub_h(),
+        across: f.sub_w(),
+        rows: (height.0 - b.row.0) as usize,
+        cols: (width.0 - b.col.0) as usize,
+    }
+}
+
 fn chroma_work(b: ChromaBlock) -> Reach
     requires { ⌜ chromaReachNo b ≡ 0 ⌝ }
     ensures { λ r. ⌜ r ≡ reachBy 0 (chromaHas b) (b .row .0) (b .col .0) (b .n) ⌝ }
 {
     let p = b.picture;
-    let f = b.format;
-    let down = f.sub_h();
-    let across = f.sub_w();
     let s = shifts_of(p);
     let cur = number(s, b.cur_luma_row.0 as usize, b.cur_luma_col.0 as usize);
-    let l = Plane {
-        height: over(p.height, down),
-        width: over(p.width, across),
-        down,
-        across,
-    };
-    edges(
-        s,
-        l,
-        p.unit as usize,
-        b.n,
-        b.row.0 as usize,
-        b.col.0 as usize,
-        cur + 1,
-        cur,
-    )
+    let above_limit = cur + 1;
+    edges(s, chroma_site(b), p.unit as usize, b.n, above_limit, cur)
 }
 
 // How far the neighbours of a chroma block reach that the chroma rule has for it.

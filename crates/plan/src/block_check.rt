@@ -7,9 +7,8 @@ ghost use lib.Dec.{eqb};
 ghost use Rattle.domain.specs.Facts.{Size};
 ghost use Rattle.order.specs.Good.{Good};
 ghost use Rattle.plan.specs.tiling.Tiling.{pictureOf};
-ghost use Rattle.plan.specs.tiling.Check.{placedOk, blockNo, blockDoor};
+ghost use Rattle.plan.specs.tiling.Check.{placedOk, blockNo};
 use crate::next_cell;
-use crate::tiling;
 use crate::tiling::Block;
 use crate::tiling::Frame;
 
@@ -38,15 +37,15 @@ fn placed_ok(f: Frame, b: Block) -> bool
     at & (row + n <= (f.height as usize)) & (col + n <= (f.width as usize)) & (b.side <= f.ctu)
 }
 
-// The number that refuses a block of a good picture, or 0.
-fn placed_no(f: Frame, b: Block, covered: usize) -> u32
+// The number that refuses the next block of a good picture's plan, or 0: 2, 3, 6, 9. So many samples are covered before it.
+pub(crate) fn block_no(f: Frame, b: Block, covered: usize) -> u32
     requires { ⌜ Good (pictureOf f) ⌝ }
     ensures { λ r. ⌜ r ≡ blockNo f b covered ⌝ }
 {
     if !domain::size_ok(b.side as usize) {
         return 2;
     }
-    if b.mode > 34 {
+    if !domain::mode_ok(b.mode) {
         return 3;
     }
     if !placed_ok(f, b) {
@@ -56,14 +55,4 @@ fn placed_no(f: Frame, b: Block, covered: usize) -> u32
         return 9;
     }
     0
-}
-
-// The number that refuses the next block of a plan, or 0: 4, 2, 3, 6, 9. So many samples are covered before it.
-pub fn block_no(f: Frame, b: Block, covered: usize) -> u32
-    ensures { λ r. ⌜ r ≡ blockDoor f b covered ⌝ }
-{
-    if !tiling::picture_ok(f) {
-        return 4;
-    }
-    placed_no(f, b, covered)
 }

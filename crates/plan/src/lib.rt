@@ -1,43 +1,66 @@
-// Plans: which blocks, in which order, cover a still (document 01, 'Plan, walk, replay').
-// Rests on the steps of a verdict.
-pub mod block_check;
-pub mod next_cell;
+// Plans: which blocks, in which order, cover a still (document 01, 'Plan, walk, replay'). A plan is lent as four slices of numbers,
+// as block records, or as bytes. Rests on the steps of a verdict.
+mod block_check;
+mod next_cell;
 pub mod records;
 pub mod tiling;
-pub mod verdict;
+mod verdict;
 
 ghost use mathlib.Core.Path.{_≡_};
-ghost use Prim.Native.Nat.{_<_};
-ghost use lib.ListN.{length};
+ghost use lib.ListN.{getD};
 ghost use Rattle.plan.specs.tiling.Plan.{planOf, listed};
-ghost use Rattle.plan.specs.RecordPlan.{recordsOf, bytesVerdict};
+ghost use Rattle.plan.specs.RecordPlan.{recordsOf};
 ghost use Rattle.plan.specs.tiling.PlanCheck.{planVerdict};
 use crate::tiling::Block;
 use crate::tiling::Frame;
 use crate::tiling::Verdict;
 
-// Block i of a plan.
-fn block_at(plan: &[[u32; 4]], i: usize) -> Block
-    requires { ⌜ i < length (now plan) ⌝ }
-    ensures { λ r. ⌜ r ≡ planOf (now (plan .entry)) .block i ⌝ }
+// Entry i of a slice of numbers; 0 where there is none.
+fn entry(list: &[u32], i: usize) -> u32
+    ensures { λ r. ⌜ r ≡ getD (now (list .entry)) i 0 ⌝ }
+{
+    if i < list.len() { list[i] } else { 0 }
+}
+
+// Block i of a plan of numbers; a number is 0 where its slice has none.
+pub fn block_at(rows: &[u32], cols: &[u32], sides: &[u32], modes: &[u32], i: usize) -> Block
+    ensures { λ r. ⌜ r ≡ (planOf (now (rows .entry)) (now (cols .entry)) (now (sides .entry)) (now (modes .entry)))
+        .block i ⌝ }
 {
     Block {
-        row: plan[i][0],
-        col: plan[i][1],
-        side: plan[i][2],
-        mode: plan[i][3],
+        row: entry(rows, i),
+        col: entry(cols, i),
+        side: entry(sides, i),
+        mode: entry(modes, i),
     }
 }
 
-// The first rule that a plan breaks, its picture's first, then its blocks' in list order, then that they cover all.
-pub fn check_plan_numbers(frame: Frame, plan: &[[u32; 4]]) -> Verdict
-    ensures { λ r. ⌜ r ≡ planVerdict frame (planOf (now (plan .entry))) ⌝ }
+// Number 5: whether a plan's slices of numbers are of one length.
+pub fn is_whole(rows: &[u32], cols: &[u32], sides: &[u32], modes: &[u32]) -> bool
+    ensures { λ r. ⌜ r ≡ (planOf (now (rows .entry)) (now (cols .entry)) (now (sides .entry)) (now (modes .entry)))
+        .whole ⌝ }
 {
-    let count = plan.len();
-    let mut t = verdict::check_start(frame);
+    let count = rows.len();
+    (cols.len() == count) & (sides.len() == count) & (modes.len() == count)
+}
+
+// The first rule that a plan breaks: its picture's, that its slices are of one length, its blocks' in list order, then that they cover all.
+pub fn check_plan_numbers(
+    frame: Frame,
+    rows: &[u32],
+    cols: &[u32],
+    sides: &[u32],
+    modes: &[u32],
+) -> Verdict
+    ensures { λ r. ⌜ r ≡ planVerdict frame (planOf (now (rows .entry)) (now (cols .entry)) (now (sides .entry)) (now
+        (modes .entry))) ⌝ }
+{
+    let count = rows.len();
+    let mut t = verdict::check_start(frame, is_whole(rows, cols, sides, modes));
     let mut i: usize = 0;
     while i < count {
-        t = verdict::check_step(frame, t, block_at(plan, i), i);
+        let b = block_at(rows, cols, sides, modes, i);
+        t = verdict::check_step(frame, t, b, i);
         i += 1;
     }
     verdict::check_end(frame, t)
@@ -47,7 +70,7 @@ pub fn check_plan_numbers(frame: Frame, plan: &[[u32; 4]]) -> Verdict
 pub fn check_plan(frame: Frame, plan: &[Block]) -> Verdict
     ensures { λ r. ⌜ r ≡ planVerdict frame (listed (now (plan .entry))) ⌝ }
 {
-    let mut t = verdict::check_start(frame);
+    let mut t = verdict::check_start(frame, true);
     let mut i: usize = 0;
     while i < plan.len() {
         t = verdict::check_step(frame, t, plan[i], i);
@@ -56,29 +79,16 @@ pub fn check_plan(frame: Frame, plan: &[Block]) -> Verdict
     verdict::check_end(frame, t)
 }
 
-// The same of the records that bytes spell.
-fn check_records(frame: Frame, plan: &[u8]) -> Verdict
+// The same of the records that bytes spell: 5 where they are not whole records.
+pub fn check_plan_bytes(frame: Frame, plan: &[u8]) -> Verdict
     ensures { λ r. ⌜ r ≡ planVerdict frame (recordsOf (now (plan .entry))) ⌝ }
 {
     let count = plan.len() / 6;
-    let mut t = verdict::check_start(frame);
+    let mut t = verdict::check_start(frame, plan.len() % 6 == 0);
     let mut i: usize = 0;
     while i < count {
         t = verdict::check_step(frame, t, records::record_at(plan, i), i);
         i += 1;
     }
     verdict::check_end(frame, t)
-}
-
-// The plan check on bytes: also that they are whole records.
-pub fn check_plan_bytes(frame: Frame, plan: &[u8]) -> Verdict
-    ensures { λ r. ⌜ r ≡ bytesVerdict frame (now (plan .entry)) ⌝ }
-{
-    if !tiling::picture_ok(frame) {
-        return Verdict { no: 4, block: 0 };
-    }
-    if plan.len() % 6 != 0 {
-        return Verdict { no: 5, block: 0 };
-    }
-    check_records(frame, plan)
 }

@@ -8,23 +8,15 @@ ghost use Rattle.domain.specs.Facts.{Ctu};
 ghost use Rattle.order.specs.Good.{Good};
 ghost use Rattle.plan.specs.tiling.Tiling.{pictureOf, In};
 ghost use Rattle.plan.specs.tiling.Check.{aheadBy, ahead};
-ghost use Rattle.plan.specs.next_cell.NextCell.{nextOk};
-use crate::tiling;
 use crate::tiling::Frame;
-use order::cells;
-
-fn lesser(a: usize, b: usize) -> usize
-    ensures { λ r. ⌜ r ≡ min a b ⌝ }
-{
-    if a < b { a } else { b }
-}
+use domain::helpers;
 
 // The cells of a strip s wide and a long, as far as there are b along it.
 fn strip(s: usize, a: usize, b: usize) -> usize
     requires { ⌜ (s ≤ 16) × (a ≤ 32) ⌝ }
     ensures { λ r. ⌜ (r ≡ s * min a b) × (r ≤ 512) ⌝ }
 {
-    s * lesser(a, b)
+    s * helpers::min_len(a, b)
 }
 
 fn bit(v: usize, k: usize) -> usize
@@ -66,8 +58,8 @@ fn levels_of(ctu: u32) -> u32
     }
 }
 
-// Whether a place of a good picture has as many samples ahead of it as are covered.
-fn starts_next(f: Frame, row: usize, col: usize, covered: usize) -> bool
+// Number 9: whether a place of a good picture has as many samples ahead of it as are covered.
+pub(crate) fn is_next(f: Frame, row: usize, col: usize, covered: usize) -> bool
     requires { ⌜ Good (pictureOf f) × In f row col ⌝ }
     ensures { λ r. ⌜ r ≡ eqb (ahead f row col) covered ⌝ }
 {
@@ -75,17 +67,4 @@ fn starts_next(f: Frame, row: usize, col: usize, covered: usize) -> bool
     let h = (f.height as usize) / 4;
     let w = (f.width as usize) / 4;
     16 * cells_ahead(h, w, m, row / 4, col / 4) == covered
-}
-
-// Number 9: whether a place is in a picture that is not refused and has as many samples ahead of it as are covered.
-pub fn is_next(f: Frame, row: usize, col: usize, covered: usize) -> bool
-    ensures { λ r. ⌜ r ≡ nextOk f row col covered ⌝ }
-{
-    if !tiling::picture_ok(f) {
-        return false;
-    }
-    if !cells::inside(f.height, f.width, row, col) {
-        return false;
-    }
-    starts_next(f, row, col, covered)
 }

@@ -1,8 +1,6 @@
-// A still's frame, a block of its plan and a plan's verdict: what blocks cover, what refuses one, and what refuses a plan (document 01, 'Plan, walk, replay'), definitions
-// and laws. Number 9 is decided in next_cell, the other numbers of a block in block_check, the verdict in verdict. Rests on the decode order's definitions and on the domain's tests.
-ghost use mathlib.Core.Path.{_≡_};
-ghost use Rattle.order.specs.Order.{pictureOk};
-ghost use Rattle.plan.specs.tiling.Tiling.{pictureOf};
+// A still's frame, a block of its plan and a plan's verdict: what blocks cover, what refuses one, and what refuses a plan (document
+// 01, 'Plan, walk, replay'), definitions and laws. Number 9 is decided in next_cell, the other numbers of a block in block_check,
+// the verdict in verdict. Rests on the decode order's definitions and on the domain's tests.
 
 // A still's luma sides and its CTU; its least unit is 4.
 pub struct Frame {
@@ -24,11 +22,4 @@ pub struct Block {
 pub struct Verdict {
     pub no: u32,
     pub block: u32,
-}
-
-// Number 4: whether the picture is not refused.
-pub fn picture_ok(f: Frame) -> bool
-    ensures { λ r. ⌜ r ≡ pictureOk (pictureOf f) ⌝ }
-{
-    domain::side_ok(f.width) & domain::side_ok(f.height) & domain::ctu_ok(f.ctu)
 }

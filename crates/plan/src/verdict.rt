@@ -1,26 +1,30 @@
-// The check that comes to a plan's verdict block by block (document 01, 'Plan, walk, replay'); where the blocks are read from is left to crates above.
-// Rests on the verdict's definition, in tiling, and on what refuses one block.
+// The check that comes to a plan's verdict block by block (document 01, 'Plan, walk, replay'); where the blocks are read from is
+// left to the doors. Rests on the verdict's definition, in tiling, and on what refuses one block.
 ghost use mathlib.Core.Path.{_≡_};
-ghost use Prim.Native.Nat.{min};
-ghost use Rattle.plan.specs.verdict.Standing.{startOf, stepOf, endOf};
+ghost use Rattle.plan.specs.verdict.Standing.{checkStart, checkStep, checkEnd, Unrefused};
 use crate::block_check;
-use crate::tiling;
 use crate::tiling::Block;
 use crate::tiling::Frame;
 use crate::tiling::Verdict;
 
 // Where the check of a plan stands: the first refusal, its block, and the samples covered before it.
-pub struct Checking {
+pub(crate) struct Checking {
     pub no: u32,
     pub block: u32,
     pub covered: usize,
 }
 
-// No block is looked at.
-pub fn check_start(f: Frame) -> Checking
-    ensures { λ r. ⌜ r ≡ startOf f ⌝ }
+// No block is looked at. `whole` says whether what was lent makes whole records.
+pub(crate) fn check_start(f: Frame, whole: bool) -> Checking
+    ensures { λ r. ⌜ r ≡ checkStart f whole ⌝ }
 {
-    let no = if tiling::picture_ok(f) { 0 } else { 4 };
+    let no = if !domain::picture_ok(f.width, f.height, f.ctu) {
+        4
+    } else if whole {
+        0
+    } else {
+        5
+    };
     Checking {
         no,
         block: 0,
@@ -28,16 +32,10 @@ pub fn check_start(f: Frame) -> Checking
     }
 }
 
-// A block's list number in 32 bits. Those of a plan have room, since each block before one that is looked at covers samples.
-fn list_number(i: usize) -> u32
-    ensures { λ r. ⌜ r ≡ min i 4294967295 ⌝ }
-{
-    if i < 4294967295 { i as u32 } else { 4294967295 }
-}
-
 // Block i is looked at, unless one before it is refused.
-pub fn check_step(f: Frame, t: Checking, b: Block, i: usize) -> Checking
-    ensures { λ r. ⌜ r ≡ stepOf f t b i ⌝ }
+pub(crate) fn check_step(f: Frame, t: Checking, b: Block, i: usize) -> Checking
+    requires { ⌜ Unrefused f t i ⌝ }
+    ensures { λ r. ⌜ r ≡ checkStep f t b i ⌝ }
 {
     if t.no != 0 {
         return t;
@@ -46,7 +44,7 @@ pub fn check_step(f: Frame, t: Checking, b: Block, i: usize) -> Checking
     if no != 0 {
         return Checking {
             no,
-            block: list_number(i),
+            block: i as u32,
             covered: t.covered,
         };
     }
@@ -59,8 +57,8 @@ pub fn check_step(f: Frame, t: Checking, b: Block, i: usize) -> Checking
 }
 
 // Every block is looked at.
-pub fn check_end(f: Frame, t: Checking) -> Verdict
-    ensures { λ r. ⌜ r ≡ endOf f t ⌝ }
+pub(crate) fn check_end(f: Frame, t: Checking) -> Verdict
+    ensures { λ r. ⌜ r ≡ checkEnd f t ⌝ }
 {
     if t.no != 0 {
         return Verdict {

@@ -1,15 +1,11 @@
 -- What a served block holds is the standard's, 8.4.4.2.1: chroma from its neighbours as they are, luma from rows that are smoothed where the rule says.
 -- Rests on the modes' laws and on smoothing.
-use mathlib.Core.Path.{_≡_, refl, sym, ap, _∙_}
+use mathlib.Core.Path.{_≡_, refl, sym, _∙_}
 use mathlib.Core.Bool.{Bool, true, false, cond}
 use mathlib.Core.List.{List}
 use Prim.Native.Nat.{ℕ, _≤_}
 use native.Mathlib.Omega.{arith}
-use lib.Dec.{eqb}
-use lib.ListN.{length}
-use borrow.Author.Tests.{eqb-true}
 use Rattle.laws.specs.Fill.{block}
-use Rattle.laws.specs.Choose.{served}
 use Rattle.laws.specs.FillLaws.{rows-same}
 use Rattle.domain.specs.Facts.{Size, size-small}
 use Rattle.h265.specs.Notation.{Neighbours}
@@ -19,25 +15,14 @@ use Rattle.h265.specs.Prediction.{filters, prepared, predSamples}
 use Rattle.h265.specs.Mean.{Agree}
 use Rattle.domain.specs.declared.rows.Rows.{Rows}
 use Rattle.domain.specs.rows.Neighbours.{neighboursOf}
-use Rattle.smooth.specs.Smoothing.{smoothed, ruleDoor, lumaDoor}
+use Rattle.smooth.specs.Smoothing.{smoothed}
 use Rattle.smooth.specs.Standard.{is-standard}
-use Rattle.predict.specs.luma_rows.LumaRows.{usedRows}
-use Rattle.predict.specs.by_mode.Door.{Block, fit, side, highest}
-use Rattle.samples.specs.numbers.Numbers.{Lent, predictNo}
+use Rattle.predict.specs.luma_rows.LumaRows.{lumaRows}
 use Rattle.predict.specs.modes.Modes.{byMode, plain, is-by-mode, by-mode-alone}
 
 -- chroma of the first edition; how it is sampled, here 4:2:0, plays no part once the neighbours are there
 abbrev pub chromaAt : ℕ → Component
 chromaAt bits = record { luma = false; bits = bits; subWidth = 2; subHeight = 2; full = false }
-
--- the rows that a luma block is predicted from
-unfoldable pub lumaRows : ℕ → ℕ → ℕ → Rows → Rows
-lumaRows bits n mode rows = cond (filterFlag n mode) (smoothed true bits n (rows .corner) (rows .above) (rows .left)) rows
-
--- they are the rows that the rule and smoothing give for a block that is served
-pub rows-used : (bits n mode : ℕ) → Block bits n mode → (rows : Rows) → length (rows .above) ≡ 65 → length (rows .left) ≡ 65 → usedRows bits n mode rows ≡ lumaRows bits n mode rows
-unfolding usedRows ruleDoor lumaDoor lumaRows
-rows-used bits n mode b rows ha hl = rw (b .depth, b .size, b .inside, ha, hl)
 
 -- chroma, however it is sampled, is predicted with nothing filtered
 pub chroma-plain : (c : Component) (strong : Bool) (n mode : ℕ) (nb : Neighbours) (x y : ℕ) → c .luma ≡ false → c .full ≡ false → predSamples c (first strong) n mode nb x y ≡ plain (c .bits) n mode nb x y
@@ -64,25 +49,3 @@ module _ (bits n mode : ℕ) (s : Size n) (d : List ℕ) where
       rows-same _ _ n n d
       (λ y x hy hx. rw (is-by-mode (lumaAt bits) (first true) n mode (neighboursOf rows) x y) (by-mode-alone n mode s m x y hx hy bits true true _ _ (rows-agree rows)))
       (omega arith)
-
--- what a call leaves, refused or not, where its work is another's if it is served
-same-work : {A : Type 0} (k : ℕ) (work other kept : A) → (k ≡ 0 → work ≡ other) → served k work kept ≡ served k other kept
-same-work k work other kept h = pick (eqb k 0) (λ e. h (eqb-true k 0 e)) where
-  pick : (b : Bool) → (b ≡ true → work ≡ other) → cond b work kept ≡ cond b other kept
-  pick true g = g refl
-  pick false g = refl
-
-module _ (bits n mode : ℕ) (l : Lent) (r : ℕ) (told : r ≡ predictNo bits n mode l) (d : List ℕ) where
-  tested : r ≡ 0 → Block bits n mode
-  tested z = fit bits n mode l (sym told ∙ z) .0
-
-  pub chroma-left : (nb : Neighbours) → served r (block (λ (y x : ℕ). byMode bits false false n mode nb x y) n d) d ≡ served r (block (λ (y x : ℕ). predSamples (chromaAt bits) (first true) n mode nb x y) n d) d
-  chroma-left nb = same-work r _ _ d (λ z. chroma-block bits n mode (side (tested z)) d nb)
-
-  pub luma-left : (rows used : Rows) → used ≡ usedRows bits n mode rows → length (rows .above) ≡ 65 → length (rows .left) ≡ 65
-      → served r (block (λ (y x : ℕ). byMode bits true true n mode (neighboursOf used) x y) n d) d ≡ served r (block (λ (y x : ℕ). predSamples (lumaAt bits) (first true) n mode (neighboursOf rows) x y) n d) d
-  luma-left rows used e ha hl =
-      same-work r _ _ d
-      (λ z.
-      ap (λ (u : Rows). block (λ (y x : ℕ). byMode bits true true n mode (neighboursOf u) x y) n d) (e ∙ rows-used bits n mode (tested z) rows ha hl)
-      ∙ luma-block bits n mode (side (tested z)) d (highest (tested z)) rows)

@@ -1,8 +1,10 @@
--- Contents: what a served block holds is the standard's.
+-- Lent: what a call is lent and what it gives, by name. Contents: what a served block holds is the standard's.
+pub mod Lent
 pub mod Contents
-pub mod flat
+pub mod refusals
+pub mod angles
+pub mod planar_dc
 pub mod angular
 pub mod modes
 pub mod by_mode
 pub mod luma_rows
-pub mod scratch

@@ -1,12 +1,13 @@
 // The rows that a luma block is predicted from, H.265 8.4.4.2.1: smoothed where the rule says so, and as they are where it does not.
-// Rests on the doors of rule and smoothing.
+// Rests on the doors of rule and smoothing, which serve it: the door above has found the number.
 ghost use mathlib.Core.Path.{_≡_};
-ghost use Rattle.predict.specs.luma_rows.LumaRows.{usedRows};
+ghost use Rattle.predict.specs.by_mode.Door.{Block};
+ghost use Rattle.predict.specs.luma_rows.LumaRows.{lumaRows};
 use domain::rows;
 
-// Its rows for every input: where the doors refuse, what they give.
-pub fn luma_rows(mode: u8, rows: rows::Rows, n: usize, bits: u32) -> rows::Rows
-    ensures { λ r. ⌜ r ≡ usedRows bits n mode rows ⌝ }
+pub(crate) fn luma_rows(mode: u8, rows: rows::Rows, n: usize, bits: u32) -> rows::Rows
+    requires { ⌜ Block bits n mode ⌝ }
+    ensures { λ r. ⌜ r ≡ lumaRows bits n mode rows ⌝ }
 {
     if smooth::should_filter_refs(mode, n).yes {
         let above = rows.above;

@@ -1,6 +1,6 @@
 // The angular scratch as one struct: the three tables that a call of angular prediction asks for. Rests on the doors' numbers.
 ghost use mathlib.Core.Path.{_≡_};
-ghost use Rattle.predict.specs.scratch.Lent.{zeroScratch};
+ghost use Rattle.predict.specs.Lent.{zeroScratch};
 
 #[repr(C)]
 pub struct AngularScratch {

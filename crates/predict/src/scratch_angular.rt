@@ -1,14 +1,9 @@
 // Angular prediction with the scratch struct, lent by `&mut`: the entry takes its three tables apart and calls the form over slices.
 // Rests on that form. A call that makes its own scratch stands beside it.
 ghost use mathlib.Core.Path.{_≡_};
-ghost use Prim.Native.Nat.{ℕ};
-ghost use lib.ListN.{length};
-ghost use Rattle.laws.specs.Fill.{block};
-ghost use Rattle.laws.specs.Choose.{served};
-ghost use Rattle.h265.specs.Notation.{fromRows};
 ghost use Rattle.h265.specs.Angular.{angular};
-ghost use Rattle.samples.specs.numbers.Numbers.{angularNo};
-ghost use Rattle.predict.specs.scratch.Lent.{withScratch};
+ghost use Rattle.predict.specs.refusals.Refusals.{angularNo};
+ghost use Rattle.predict.specs.Lent.{len, withScratch, neighbours, Predicts};
 use crate::angular;
 use crate::scratch::AngularScratch;
 
@@ -24,7 +19,9 @@ pub fn predict_angular_into(
     pred: &mut [u16],
     scratch: &mut AngularScratch,
 ) -> u32
-    ensures { λ r. ⌜ (r ≡ angularNo bits n mode (withScratch (length (now (above .entry))) (length (now (left .entry))) (length (now (pred .entry))))) × ((now (pred .exit) ≡ served r (block (λ (y x : ℕ). angular bits «filter_boundary» n mode (fromRows corner (now (above .entry)) (now (left .entry))) x y) n (now (pred .entry))) (now (pred .entry))) × ((r ≡ 0 → ⊥) → now (scratch .exit) ≡ now (scratch .entry))) ⌝ }
+    ensures { λ r. ⌜ (r ≡ angularNo bits n mode (withScratch (len above) (len left) (len pred)))
+        × (Predicts r n (angular bits «filter_boundary» n mode (neighbours corner above left)) pred
+        × ((r ≡ 0 → ⊥) → now (scratch .exit) ≡ now (scratch .entry))) ⌝ }
 {
     angular::predict_angular_slices(
         corner,
@@ -52,7 +49,8 @@ pub fn predict_angular_fresh(
     bits: u32,
     pred: &mut [u16],
 ) -> u32
-    ensures { λ r. ⌜ (r ≡ angularNo bits n mode (withScratch (length (now (above .entry))) (length (now (left .entry))) (length (now (pred .entry))))) × (now (pred .exit) ≡ served r (block (λ (y x : ℕ). angular bits «filter_boundary» n mode (fromRows corner (now (above .entry)) (now (left .entry))) x y) n (now (pred .entry))) (now (pred .entry))) ⌝ }
+    ensures { λ r. ⌜ (r ≡ angularNo bits n mode (withScratch (len above) (len left) (len pred)))
+        × Predicts r n (angular bits «filter_boundary» n mode (neighbours corner above left)) pred ⌝ }
 {
     let mut scratch = AngularScratch::new();
     predict_angular_into(

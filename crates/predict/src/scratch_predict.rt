@@ -1,18 +1,13 @@
-// A block of either kind in any mode with the scratch struct, lent by `&mut`: each entry takes its three tables apart and calls the form over slices.
-// Rests on those forms. A call that makes its own scratch stands beside each entry.
+// A block of either kind in any mode with the scratch struct, lent by `&mut`: each entry takes its three tables apart and calls
+// the form over slices. Rests on those forms. A call that makes its own scratch stands beside each entry.
 ghost use mathlib.Core.Path.{_≡_};
 ghost use mathlib.Core.Bool.{true};
-ghost use Prim.Native.Nat.{ℕ};
-ghost use lib.ListN.{length};
-ghost use Rattle.laws.specs.Fill.{block};
-ghost use Rattle.laws.specs.Choose.{served};
-ghost use Rattle.h265.specs.Notation.{fromRows};
 ghost use Rattle.h265.specs.Setting.{lumaAt, first};
 ghost use Rattle.h265.specs.Prediction.{predSamples};
 ghost use Rattle.domain.specs.rows.Neighbours.{neighboursOf};
-ghost use Rattle.samples.specs.numbers.Numbers.{predictNo};
+ghost use Rattle.predict.specs.refusals.Refusals.{predictNo};
 ghost use Rattle.predict.specs.Contents.{chromaAt};
-ghost use Rattle.predict.specs.scratch.Lent.{withScratch};
+ghost use Rattle.predict.specs.Lent.{len, withScratch, neighbours, Predicts};
 use crate::scratch::AngularScratch;
 use domain::rows;
 
@@ -27,7 +22,9 @@ pub fn predict_chroma_tb_into(
     pred: &mut [u16],
     scratch: &mut AngularScratch,
 ) -> u32
-    ensures { λ r. ⌜ (r ≡ predictNo bits n mode (withScratch (length (now (above .entry))) (length (now (left .entry))) (length (now (pred .entry))))) × ((now (pred .exit) ≡ served r (block (λ (y x : ℕ). predSamples (chromaAt bits) (first true) n mode (fromRows corner (now (above .entry)) (now (left .entry))) x y) n (now (pred .entry))) (now (pred .entry))) × ((r ≡ 0 → ⊥) → now (scratch .exit) ≡ now (scratch .entry))) ⌝ }
+    ensures { λ r. ⌜ (r ≡ predictNo bits n mode (withScratch (len above) (len left) (len pred)))
+        × (Predicts r n (predSamples (chromaAt bits) (first true) n mode (neighbours corner above left)) pred
+        × ((r ≡ 0 → ⊥) → now (scratch .exit) ≡ now (scratch .entry))) ⌝ }
 {
     crate::predict_chroma_tb_slices(
         mode,
@@ -52,7 +49,9 @@ pub fn predict_luma_tb_into(
     pred: &mut [u16],
     scratch: &mut AngularScratch,
 ) -> u32
-    ensures { λ r. ⌜ (r ≡ predictNo bits n mode (withScratch 65 65 (length (now (pred .entry))))) × ((now (pred .exit) ≡ served r (block (λ (y x : ℕ). predSamples (lumaAt bits) (first true) n mode (neighboursOf rows) x y) n (now (pred .entry))) (now (pred .entry))) × ((r ≡ 0 → ⊥) → now (scratch .exit) ≡ now (scratch .entry))) ⌝ }
+    ensures { λ r. ⌜ (r ≡ predictNo bits n mode (withScratch 65 65 (len pred)))
+        × (Predicts r n (predSamples (lumaAt bits) (first true) n mode (neighboursOf rows)) pred
+        × ((r ≡ 0 → ⊥) → now (scratch .exit) ≡ now (scratch .entry))) ⌝ }
 {
     crate::predict_luma_tb_slices(
         mode,
@@ -76,7 +75,8 @@ pub fn predict_chroma_tb_fresh(
     bits: u32,
     pred: &mut [u16],
 ) -> u32
-    ensures { λ r. ⌜ (r ≡ predictNo bits n mode (withScratch (length (now (above .entry))) (length (now (left .entry))) (length (now (pred .entry))))) × (now (pred .exit) ≡ served r (block (λ (y x : ℕ). predSamples (chromaAt bits) (first true) n mode (fromRows corner (now (above .entry)) (now (left .entry))) x y) n (now (pred .entry))) (now (pred .entry))) ⌝ }
+    ensures { λ r. ⌜ (r ≡ predictNo bits n mode (withScratch (len above) (len left) (len pred)))
+        × Predicts r n (predSamples (chromaAt bits) (first true) n mode (neighbours corner above left)) pred ⌝ }
 {
     let mut scratch = AngularScratch::new();
     predict_chroma_tb_into(mode, corner, above, left, n, bits, pred, &mut scratch)
@@ -90,7 +90,8 @@ pub fn predict_luma_tb_fresh(
     bits: u32,
     pred: &mut [u16],
 ) -> u32
-    ensures { λ r. ⌜ (r ≡ predictNo bits n mode (withScratch 65 65 (length (now (pred .entry))))) × (now (pred .exit) ≡ served r (block (λ (y x : ℕ). predSamples (lumaAt bits) (first true) n mode (neighboursOf rows) x y) n (now (pred .entry))) (now (pred .entry))) ⌝ }
+    ensures { λ r. ⌜ (r ≡ predictNo bits n mode (withScratch 65 65 (len pred)))
+        × Predicts r n (predSamples (lumaAt bits) (first true) n mode (neighboursOf rows)) pred ⌝ }
 {
     let mut scratch = AngularScratch::new();
     predict_luma_tb_into(mode, rows, n, bits, pred, &mut scratch)

@@ -8,23 +8,24 @@ use Rattle.fmt.specs.declared.depth.DepthFrom.{DepthFrom}
 use Rattle.fmt.specs.declared.depth.DepthFrom.the-variants.{Depth, Refused}
 use Rattle.fmt.specs.declared.FormatFrom.{FormatFrom}
 use Rattle.fmt.specs.declared.FormatFrom.the-variants.{Format, Unknown}
-use Rattle.fmt.specs.depth.Depth.{bitsOf, largest, neutralOf, depthFrom}
+use Rattle.fmt.specs.depth.Depth.{bitsOf, maxVal, neutral, depthFrom}
 use Rattle.fmt.specs.Fmt.{formatFrom, subWidth, subHeight}
 use Rattle.fmt.specs.Places.{lumaRow, lumaCol, chromaRow, chromaCol}
 use Rattle.order.specs.declared.Picture.{Picture}
 use Rattle.order.specs.declared.Numbered.{Numbered}
 use Rattle.order.specs.declared.Flagged.{Flagged}
-use Rattle.order.specs.Order.{orderDoor, availDoor}
+use Rattle.order.specs.Order.{decodeOrder, isAvailable}
 use Rattle.smooth.specs.declared.Rule.{Rule}
 use Rattle.smooth.specs.declared.FilteredRows.{FilteredRows}
 use Rattle.smooth.specs.declared.Smoothed.{Smoothed}
-use Rattle.smooth.specs.Smoothing.{ruleDoor, filterDoor, lumaDoor}
+use Rattle.smooth.specs.Smoothing.{shouldFilterRefs, filterReferences, filterLumaRefs}
 use Rattle.domain.specs.declared.rows.Rows.{Rows}
 use Rattle.refs.specs.declared.substitution.Flags.{Flags}
 use Rattle.domain.specs.declared.rows.Gathered.{Gathered}
 use Rattle.refs.specs.declared.GatheredPair.{GatheredPair}
+use Rattle.refs.specs.declared.LumaRefGeometry.{LumaRefGeometry}
 use Rattle.refs.specs.declared.ChromaRefGeometry.{ChromaRefGeometry}
-use Rattle.refs.specs.substitution.Door.{substituteDoor}
+use Rattle.refs.specs.substitution.Door.{substituteRefs}
 use Rattle.refs.specs.Door as gather
 use Rattle.probes.specs.declared.Answer.{Answer}
 use Rattle.probes.specs.declared.PairReferences.{PairReferences}
@@ -36,7 +37,7 @@ use Rattle.probes.specs.declared.References.{References}
 
 -- a depth's figures; a refusal is number 1 and zeros
 abbrev pub figuresOf : DepthFrom → DepthFigures
-figuresOf (Depth d) = record { no = 0; bits = bitsOf d; largest = largest d; neutral = neutralOf d }
+figuresOf (Depth d) = record { no = 0; bits = bitsOf d; largest = maxVal d; neutral = neutral d }
 figuresOf Refused = record { no = 1; bits = 0; largest = 0; neutral = 0 }
 
 abbrev pub depthFigures : ℕ → DepthFigures
@@ -80,11 +81,11 @@ abbrev pub flagOf : Flagged → Answer
 flagOf a = record { no = a .no; value = bit (a .yes) }
 
 abbrev pub orderAnswer : ℕ → ℕ → ℕ → ℕ → ℕ → ℕ → Answer
-orderAnswer row col width height ctu unit = valueOf (orderDoor (pictureOf width height ctu unit) (record { 0 = row }) (record { 0 = col }))
+orderAnswer row col width height ctu unit = valueOf (decodeOrder (pictureOf width height ctu unit) (record { 0 = row }) (record { 0 = col }))
 
 abbrev pub availableAnswer : ℤ → ℤ → ℕ → ℕ → ℕ → ℕ → ℕ → ℕ → Answer
 availableAnswer nr nc row col width height ctu unit =
-    flagOf (availDoor (pictureOf width height ctu unit) (record { row = nr; col = nc }) (record { 0 = row }) (record { 0 = col }))
+    flagOf (isAvailable (pictureOf width height ctu unit) (record { row = nr; col = nc }) (record { 0 = row }) (record { 0 = col }))
 
 -- the smoothing doors' answers
 abbrev pub ruleOf : Rule → Answer
@@ -97,13 +98,13 @@ abbrev pub referencesOf : Smoothed → References
 referencesOf a = record { no = a .no; corner = a .rows .corner; above = a .rows .above; left = a .rows .left }
 
 abbrev pub ruleAnswer : ℕ → ℕ → Answer
-ruleAnswer mode n = ruleOf (ruleDoor mode n)
+ruleAnswer mode n = ruleOf (shouldFilterRefs mode n)
 
 abbrev pub filterAnswer : ℕ → List ℕ → List ℕ → ℕ → TwoRows
-filterAnswer corner above left n = twoRowsOf (filterDoor corner above left n)
+filterAnswer corner above left n = twoRowsOf (filterReferences corner above left n)
 
 abbrev pub lumaAnswer : ℕ → List ℕ → List ℕ → ℕ → ℕ → References
-lumaAnswer corner above left n bits = referencesOf (lumaDoor true corner above left n bits)
+lumaAnswer corner above left n bits = referencesOf (filterLumaRefs true corner above left n bits)
 
 -- the answers of substitution and of the two gathers
 abbrev pub gatheredOf : Gathered → References
@@ -126,11 +127,10 @@ pairOf a =
     }
 
 abbrev pub substituteAnswer : Rows → Flags → ℕ → ℕ → References
-substituteAnswer rows flags n bits = gatheredOf (substituteDoor rows flags n bits)
+substituteAnswer rows flags n bits = gatheredOf (substituteRefs rows flags n bits)
 
-abbrev pub gatherAnswer : List ℕ → ℕ → Picture → ℕ → ℕ → ℕ → References
-gatherAnswer plane bits picture row col n =
-    gatheredOf (gather.lumaDoor plane (record { bits = bits; picture = picture; «block_row» = record { 0 = row }; «block_col» = record { 0 = col }; n = n }))
+abbrev pub gatherAnswer : List ℕ → LumaRefGeometry → References
+gatherAnswer plane geo = gatheredOf (gather.getReferenceSamples plane geo)
 
 abbrev pub pairAnswer : List ℕ → List ℕ → ChromaRefGeometry → PairReferences
-pairAnswer cb cr geo = pairOf (gather.chromaDoor cb cr geo)
+pairAnswer cb cr geo = pairOf (gather.getReferenceSamplesChromaPair cb cr geo)

@@ -1,12 +1,13 @@
-// Entries at native types for the runs of what comes before prediction, the rules of fmt, order, smoothing and gathering, against the Rust: each calls a
-// door and hands its answer over as plain numbers. Rests on the doors' contracts.
+// Entries at native types for the runs of what comes before prediction, the rules of fmt, order, smoothing and gathering, against
+// the Rust: each calls a door and hands its answer over as plain numbers. Rests on the doors' contracts.
 pub mod predict_probes;
 pub mod walk_probes;
 
 ghost use mathlib.Core.Path.{_≡_};
 ghost use Rattle.probes.specs.Probes.{depthFigures, formatFigures, onLuma, onChroma, orderAnswer, availableAnswer};
 ghost use Rattle.probes.specs.Probes.{ruleAnswer, filterAnswer, lumaAnswer};
-ghost use Rattle.probes.specs.Probes.{pictureOf, substituteAnswer, gatherAnswer, pairAnswer};
+ghost use Rattle.probes.specs.Probes.{substituteAnswer, gatherAnswer, pairAnswer};
+ghost use Rattle.refs.specs.Door.{lumaGeometry, chromaGeometry};
 use domain::rows::Rows;
 use fmt::ChromaCol;
 use fmt::ChromaFormat;
@@ -279,7 +280,16 @@ pub extern "C" fn salvrunde_probe_substitute_refs(
     n: usize,
     bits: u32,
 ) -> References
-    ensures { λ r. ⌜ r ≡ substituteAnswer (record { corner = corner; above = now (above .entry); left = now (left .entry) }) (record { corner = «has_corner»; above = now («has_above» .entry); left = now («has_left» .entry) }) n bits ⌝ }
+    ensures { λ r. ⌜ r ≡ substituteAnswer (record {
+      corner = corner;
+      above = now (above .entry);
+      left = now (left
+          .entry);
+    }) (record {
+      corner = «has_corner»;
+      above = now («has_above» .entry);
+      left = now («has_left» .entry);
+    }) n bits ⌝ }
 {
     let rows = Rows {
         corner,
@@ -314,7 +324,7 @@ pub extern "C" fn salvrunde_probe_get_reference_samples(
     col: u32,
     n: usize,
 ) -> References
-    ensures { λ r. ⌜ r ≡ gatherAnswer (now (plane .entry)) bits (pictureOf width height ctu unit) row col n ⌝ }
+    ensures { λ r. ⌜ r ≡ gatherAnswer (now (plane .entry)) (lumaGeometry bits width height ctu unit row col n) ⌝ }
 {
     let picture = Picture {
         width,
@@ -368,7 +378,8 @@ pub extern "C" fn salvrunde_probe_get_reference_samples_chroma_pair(
     cur_row: u32,
     cur_col: u32,
 ) -> PairReferences
-    ensures { λ r. ⌜ r ≡ pairAnswer (now («plane_cb» .entry)) (now («plane_cr» .entry)) (record { bits = bits; format = format; «luma_w» = «luma_w»; «luma_h» = «luma_h»; «min_luma_pu» = «min_luma_pu»; «block_row» = record { 0 = row }; «block_col» = record { 0 = col }; n = n; «cur_luma_row» = record { 0 = «cur_row» }; «cur_luma_col» = record { 0 = «cur_col» } }) ⌝ }
+    ensures { λ r. ⌜ r ≡ pairAnswer (now («plane_cb» .entry)) (now («plane_cr» .entry))
+        (chromaGeometry bits format «luma_w» «luma_h» «min_luma_pu» row col n «cur_row» «cur_col») ⌝ }
 {
     let geo = ChromaRefGeometry {
         bits,

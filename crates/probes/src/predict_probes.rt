@@ -1,24 +1,20 @@
-// Entries at native types for the runs of prediction, residual and reconstruction against the Rust: each calls a door. Rests on the doors' contracts.
+// Entries at native types for the runs of prediction, residual and reconstruction against the Rust: each calls a door.
+// Rests on the doors' contracts.
 ghost use mathlib.Core.Path.{_≡_};
 ghost use mathlib.Core.Bool.{true};
-ghost use Prim.Native.Nat.{ℕ};
 ghost use lib.ListN.{length};
-ghost use Rattle.laws.specs.Choose.{served};
-ghost use Rattle.laws.specs.Fill.{block};
-ghost use Rattle.h265.specs.Notation.{fromRows};
 ghost use Rattle.h265.specs.Planar.{planar};
 ghost use Rattle.h265.specs.Dc.{dc};
 ghost use Rattle.h265.specs.Angular.{angular};
-ghost use Rattle.samples.specs.numbers.Numbers.{flatNo, angularNo, predictNo};
+ghost use Rattle.predict.specs.refusals.Refusals.{flatNo, angularNo, predictNo};
 ghost use Rattle.residual.specs.Residual.{residualNo, residualsAfter, reconstructNo, reconstructed};
 ghost use Rattle.h265.specs.Setting.{lumaAt, first};
 ghost use Rattle.h265.specs.Prediction.{predSamples};
-ghost use Rattle.domain.specs.rows.Neighbours.{neighboursOf};
 ghost use Rattle.predict.specs.Contents.{chromaAt};
-ghost use Rattle.predict.specs.scratch.Lent.{withScratch};
+ghost use Rattle.predict.specs.Lent.{len, withTables, withScratch, neighbours, Predicts, Untouched};
 use domain::rows::Rows;
 use predict::angular;
-use predict::flat;
+use predict::planar_dc;
 use predict::scratch_angular;
 use predict::scratch_predict;
 
@@ -29,9 +25,10 @@ pub extern "C" fn salvrunde_probe_predict_planar_into(
     n: usize,
     pred: &mut [u16],
 ) -> u32
-    ensures { λ r. ⌜ (r ≡ flatNo n (length (now (above .entry))) (length (now (left .entry))) (length (now (pred .entry)))) × (now (pred .exit) ≡ served r (block (λ (y x : ℕ). planar n (fromRows 0 (now (above .entry)) (now (left .entry))) x y) n (now (pred .entry))) (now (pred .entry))) ⌝ }
+    ensures { λ r. ⌜ (r ≡ flatNo n (len above) (len left) (len pred))
+        × Predicts r n (planar n (neighbours 0 above left)) pred ⌝ }
 {
-    flat::predict_planar_into(above, left, n, &mut *pred)
+    planar_dc::predict_planar_into(above, left, n, &mut *pred)
 }
 
 #[no_mangle]
@@ -42,9 +39,10 @@ pub extern "C" fn salvrunde_probe_predict_dc_into(
     filter_boundary: bool,
     pred: &mut [u16],
 ) -> u32
-    ensures { λ r. ⌜ (r ≡ flatNo n (length (now (above .entry))) (length (now (left .entry))) (length (now (pred .entry)))) × (now (pred .exit) ≡ served r (block (λ (y x : ℕ). dc «filter_boundary» n (fromRows 0 (now (above .entry)) (now (left .entry))) x y) n (now (pred .entry))) (now (pred .entry))) ⌝ }
+    ensures { λ r. ⌜ (r ≡ flatNo n (len above) (len left) (len pred))
+        × Predicts r n (dc «filter_boundary» n (neighbours 0 above left)) pred ⌝ }
 {
-    flat::predict_dc_into(above, left, n, filter_boundary, &mut *pred)
+    planar_dc::predict_dc_into(above, left, n, filter_boundary, &mut *pred)
 }
 
 #[no_mangle]
@@ -61,7 +59,9 @@ pub extern "C" fn salvrunde_probe_predict_angular_slices(
     indices: &mut [u32],
     fractions: &mut [u32],
 ) -> u32
-    ensures { λ r. ⌜ (r ≡ angularNo bits n mode (record { above = length (now (above .entry)); left = length (now (left .entry)); pred = length (now (pred .entry)); refs = length (now (refs .entry)); indices = length (now (indices .entry)); fractions = length (now (fractions .entry)) })) × ((now (pred .exit) ≡ served r (block (λ (y x : ℕ). angular bits «filter_boundary» n mode (fromRows corner (now (above .entry)) (now (left .entry))) x y) n (now (pred .entry))) (now (pred .entry))) × ((r ≡ 0 → ⊥) → (now (refs .exit) ≡ now (refs .entry)) × ((now (indices .exit) ≡ now (indices .entry)) × (now (fractions .exit) ≡ now (fractions .entry))))) ⌝ }
+    ensures { λ r. ⌜ (r ≡ angularNo bits n mode (withTables (len above) (len left) (len pred) refs indices fractions))
+        × (Predicts r n (angular bits «filter_boundary» n mode (neighbours corner above left)) pred
+        × ((r ≡ 0 → ⊥) → Untouched refs indices fractions)) ⌝ }
 {
     angular::predict_angular_slices(
         corner,
@@ -85,7 +85,8 @@ pub extern "C" fn salvrunde_probe_compute_residual_i32_into(
     n: usize,
     residual: &mut [i32],
 ) -> u32
-    ensures { λ r. ⌜ (r ≡ residualNo n (length (now (orig .entry))) (length (now (pred .entry))) (length (now (residual .entry)))) × (now (residual .exit) ≡ residualsAfter n (now (orig .entry)) (now (pred .entry)) (now (residual .entry))) ⌝ }
+    ensures { λ r. ⌜ (r ≡ residualNo n (len orig) (len pred) (length (now (residual .entry))))
+        × (now (residual .exit) ≡ residualsAfter n (now (orig .entry)) (now (pred .entry)) (now (residual .entry))) ⌝ }
 {
     residual::compute_residual_i32_into(orig, pred, n, &mut *residual)
 }
@@ -98,7 +99,8 @@ pub extern "C" fn salvrunde_probe_reconstruct_into(
     bits: u32,
     out: &mut [u16],
 ) -> u32
-    ensures { λ r. ⌜ (r ≡ reconstructNo bits n (length (now (pred .entry))) (now (residual .entry)) (length (now (out .entry)))) × (now (out .exit) ≡ reconstructed bits n (now (pred .entry)) (now (residual .entry)) (now (out .entry))) ⌝ }
+    ensures { λ r. ⌜ (r ≡ reconstructNo bits n (len pred) (now (residual .entry)) (len out))
+        × (now (out .exit) ≡ reconstructed bits n (now (pred .entry)) (now (residual .entry)) (now (out .entry))) ⌝ }
 {
     residual::reconstruct_into(pred, residual, n, bits, &mut *out)
 }
@@ -116,7 +118,9 @@ pub extern "C" fn salvrunde_probe_predict_chroma_tb_slices(
     indices: &mut [u32],
     fractions: &mut [u32],
 ) -> u32
-    ensures { λ r. ⌜ (r ≡ predictNo bits n mode (record { above = length (now (above .entry)); left = length (now (left .entry)); pred = length (now (pred .entry)); refs = length (now (refs .entry)); indices = length (now (indices .entry)); fractions = length (now (fractions .entry)) })) × ((now (pred .exit) ≡ served r (block (λ (y x : ℕ). predSamples (chromaAt bits) (first true) n mode (fromRows corner (now (above .entry)) (now (left .entry))) x y) n (now (pred .entry))) (now (pred .entry))) × ((r ≡ 0 → ⊥) → (now (refs .exit) ≡ now (refs .entry)) × ((now (indices .exit) ≡ now (indices .entry)) × (now (fractions .exit) ≡ now (fractions .entry))))) ⌝ }
+    ensures { λ r. ⌜ (r ≡ predictNo bits n mode (withTables (len above) (len left) (len pred) refs indices fractions))
+        × (Predicts r n (predSamples (chromaAt bits) (first true) n mode (neighbours corner above left)) pred
+        × ((r ≡ 0 → ⊥) → Untouched refs indices fractions)) ⌝ }
 {
     predict::predict_chroma_tb_slices(
         mode,
@@ -145,7 +149,9 @@ pub extern "C" fn salvrunde_probe_predict_luma_tb_slices(
     indices: &mut [u32],
     fractions: &mut [u32],
 ) -> u32
-    ensures { λ r. ⌜ (r ≡ predictNo bits n mode (record { above = 65; left = 65; pred = length (now (pred .entry)); refs = length (now (refs .entry)); indices = length (now (indices .entry)); fractions = length (now (fractions .entry)) })) × ((now (pred .exit) ≡ served r (block (λ (y x : ℕ). predSamples (lumaAt bits) (first true) n mode (neighboursOf (record { corner = corner; above = now (above .entry); left = now (left .entry) })) x y) n (now (pred .entry))) (now (pred .entry))) × ((r ≡ 0 → ⊥) → (now (refs .exit) ≡ now (refs .entry)) × ((now (indices .exit) ≡ now (indices .entry)) × (now (fractions .exit) ≡ now (fractions .entry))))) ⌝ }
+    ensures { λ r. ⌜ (r ≡ predictNo bits n mode (withTables 65 65 (len pred) refs indices fractions))
+        × (Predicts r n (predSamples (lumaAt bits) (first true) n mode (neighbours corner above left)) pred
+        × ((r ≡ 0 → ⊥) → Untouched refs indices fractions)) ⌝ }
 {
     let rows = Rows {
         corner,
@@ -176,7 +182,8 @@ pub extern "C" fn salvrunde_probe_predict_angular_scratch(
     bits: u32,
     pred: &mut [u16],
 ) -> u32
-    ensures { λ r. ⌜ (r ≡ angularNo bits n mode (withScratch (length (now (above .entry))) (length (now (left .entry))) (length (now (pred .entry))))) × (now (pred .exit) ≡ served r (block (λ (y x : ℕ). angular bits «filter_boundary» n mode (fromRows corner (now (above .entry)) (now (left .entry))) x y) n (now (pred .entry))) (now (pred .entry))) ⌝ }
+    ensures { λ r. ⌜ (r ≡ angularNo bits n mode (withScratch (len above) (len left) (len pred)))
+        × Predicts r n (angular bits «filter_boundary» n mode (neighbours corner above left)) pred ⌝ }
 {
     scratch_angular::predict_angular_fresh(
         corner,
@@ -200,7 +207,8 @@ pub extern "C" fn salvrunde_probe_predict_chroma_tb_scratch(
     bits: u32,
     pred: &mut [u16],
 ) -> u32
-    ensures { λ r. ⌜ (r ≡ predictNo bits n mode (withScratch (length (now (above .entry))) (length (now (left .entry))) (length (now (pred .entry))))) × (now (pred .exit) ≡ served r (block (λ (y x : ℕ). predSamples (chromaAt bits) (first true) n mode (fromRows corner (now (above .entry)) (now (left .entry))) x y) n (now (pred .entry))) (now (pred .entry))) ⌝ }
+    ensures { λ r. ⌜ (r ≡ predictNo bits n mode (withScratch (len above) (len left) (len pred)))
+        × Predicts r n (predSamples (chromaAt bits) (first true) n mode (neighbours corner above left)) pred ⌝ }
 {
     scratch_predict::predict_chroma_tb_fresh(mode, corner, above, left, n, bits, &mut *pred)
 }
@@ -215,7 +223,8 @@ pub extern "C" fn salvrunde_probe_predict_luma_tb_scratch(
     bits: u32,
     pred: &mut [u16],
 ) -> u32
-    ensures { λ r. ⌜ (r ≡ predictNo bits n mode (withScratch 65 65 (length (now (pred .entry))))) × (now (pred .exit) ≡ served r (block (λ (y x : ℕ). predSamples (lumaAt bits) (first true) n mode (neighboursOf (record { corner = corner; above = now (above .entry); left = now (left .entry) })) x y) n (now (pred .entry))) (now (pred .entry))) ⌝ }
+    ensures { λ r. ⌜ (r ≡ predictNo bits n mode (withScratch 65 65 (len pred)))
+        × Predicts r n (predSamples (lumaAt bits) (first true) n mode (neighbours corner above left)) pred ⌝ }
 {
     let rows = Rows {
         corner,

@@ -1,18 +1,16 @@
-// Entries at native types for the runs of plan check, walk and replay against the Rust: each calls a door and hands its answer over as plain numbers.
-// Rests on the doors' contracts.
+// Entries at native types for the runs of plan check, walk and replay against the Rust: each calls a door and hands its answer over
+// as plain numbers. Rests on the doors' contracts.
 ghost use mathlib.Core.Path.{_≡_};
-ghost use lib.ListN.{length};
-ghost use Rattle.plan.specs.tiling.Plan.{planOf, listed};
-ghost use Rattle.walk.specs.Listed.{scratchTables};
-ghost use Rattle.walk.specs.calls.Door.{walkVerdict, walkAfter, replayVerdict, replayAfter};
-ghost use Rattle.walk.specs.Door.{steppedBy};
-ghost use Rattle.probes.specs.walk_probes.Probes.{planAnswer, stillOf, stepOf};
+ghost use Rattle.plan.specs.tiling.Plan.{listed};
+ghost use Rattle.walk.specs.Lent.{scratchTables, lentPlan, worldBefore, worldAfter};
+ghost use Rattle.probes.specs.walk_probes.Probes.{planAnswer, stillOf, stepOf, ProbeReplay, ProbeReplayLent, ProbeWalk};
+ghost use Rattle.probes.specs.walk_probes.Probes.{ProbeWalkLent};
 use plan::tiling::Block;
 use plan::tiling::Frame;
 use predict::scratch::AngularScratch;
 use walk::Progress;
 use walk::Stepped;
-use walk::still::Still;
+use walk::checks::Still;
 
 // A plan's number, and the list number of the block that it is about.
 #[repr(C)]
@@ -26,11 +24,14 @@ pub extern "C" fn salvrunde_probe_check_plan(
     width: u32,
     height: u32,
     ctu: u32,
-    plan: &[[u32; 4]],
+    rows: &[u32],
+    cols: &[u32],
+    sides: &[u32],
+    modes: &[u32],
 ) -> PlanAnswer
-    ensures { λ r. ⌜ r ≡ planAnswer width height ctu (now (plan .entry)) ⌝ }
+    ensures { λ r. ⌜ r ≡ planAnswer width height ctu (lentPlan rows cols sides modes) ⌝ }
 {
-    let a = plan::check_plan_numbers(Frame { width, height, ctu }, plan);
+    let a = plan::check_plan_numbers(Frame { width, height, ctu }, rows, cols, sides, modes);
     PlanAnswer {
         no: a.no,
         block: a.block,
@@ -53,7 +54,10 @@ pub extern "C" fn salvrunde_probe_walk(
     width: u32,
     height: u32,
     ctu: u32,
-    plan: &[[u32; 4]],
+    rows: &[u32],
+    cols: &[u32],
+    sides: &[u32],
+    modes: &[u32],
     source: &[u16],
     work: &mut [u16],
     residuals: &mut [i32],
@@ -62,13 +66,17 @@ pub extern "C" fn salvrunde_probe_walk(
     fractions: &mut [u32],
     grant: u32,
 ) -> StepAnswer
-    ensures { λ r. ⌜ (r ≡ stepOf (steppedBy (walkVerdict (stillOf bits width height ctu) (planOf (now (plan .entry))) (record { refs = length (now (refs .entry)); indices = length (now (indices .entry)); fractions = length (now (fractions .entry)) }) done (now (source .entry)) (record { work = now (work .entry); residuals = now (residuals .entry) })) (planOf (now (plan .entry))) (record { done = done }) grant)) × ((record { work = now (work .exit); residuals = now (residuals .exit) } ≡ walkAfter (stillOf bits width height ctu) (planOf (now (plan .entry))) (record { refs = length (now (refs .entry)); indices = length (now (indices .entry)); fractions = length (now (fractions .entry)) }) done grant (now (source .entry)) (record { work = now (work .entry); residuals = now (residuals .entry) })) × ((r .no ≡ 0 → ⊥) → (now (refs .exit) ≡ now (refs .entry)) × ((now (indices .exit) ≡ now (indices .entry)) × (now (fractions .exit) ≡ now (fractions .entry))))) ⌝ }
+    ensures { λ r. ⌜ ProbeWalkLent (stillOf bits width height ctu) (lentPlan rows cols sides modes) (record { done = done })
+        grant source work residuals refs indices fractions r ⌝ }
 {
     let frame = Frame { width, height, ctu };
     let p = Progress { done };
     let a = p.walk_numbers(
         Still { bits, frame },
-        plan,
+        rows,
+        cols,
+        sides,
+        modes,
         source,
         &mut *work,
         &mut *residuals,
@@ -92,7 +100,10 @@ pub extern "C" fn salvrunde_probe_replay(
     width: u32,
     height: u32,
     ctu: u32,
-    plan: &[[u32; 4]],
+    rows: &[u32],
+    cols: &[u32],
+    sides: &[u32],
+    modes: &[u32],
     residuals: &[i32],
     plane: &mut [u16],
     refs: &mut [u16],
@@ -100,13 +111,17 @@ pub extern "C" fn salvrunde_probe_replay(
     fractions: &mut [u32],
     grant: u32,
 ) -> StepAnswer
-    ensures { λ r. ⌜ (r ≡ stepOf (steppedBy (replayVerdict (stillOf bits width height ctu) (planOf (now (plan .entry))) (record { refs = length (now (refs .entry)); indices = length (now (indices .entry)); fractions = length (now (fractions .entry)) }) done (length (now (plane .entry))) (now (residuals .entry))) (planOf (now (plan .entry))) (record { done = done }) grant)) × ((now (plane .exit) ≡ replayAfter (stillOf bits width height ctu) (planOf (now (plan .entry))) (record { refs = length (now (refs .entry)); indices = length (now (indices .entry)); fractions = length (now (fractions .entry)) }) done grant (now (residuals .entry)) (now (plane .entry))) × ((r .no ≡ 0 → ⊥) → (now (refs .exit) ≡ now (refs .entry)) × ((now (indices .exit) ≡ now (indices .entry)) × (now (fractions .exit) ≡ now (fractions .entry))))) ⌝ }
+    ensures { λ r. ⌜ ProbeReplayLent (stillOf bits width height ctu) (lentPlan rows cols sides modes) (record { done = done })
+        grant residuals plane refs indices fractions r ⌝ }
 {
     let frame = Frame { width, height, ctu };
     let p = Progress { done };
     let a = p.replay_numbers(
         Still { bits, frame },
-        plan,
+        rows,
+        cols,
+        sides,
+        modes,
         residuals,
         &mut *plane,
         &mut *refs,
@@ -160,7 +175,10 @@ pub extern "C" fn salvrunde_probe_replay_records(
     scratch: &mut AngularScratch,
     grant: u32,
 ) -> StepAnswer
-    ensures { λ r. ⌜ (r ≡ stepOf (steppedBy (replayVerdict (stillOf bits width height ctu) (listed (now (plan .entry))) scratchTables done (length (now (plane .entry))) (now (residuals .entry))) (listed (now (plan .entry))) (record { done = done }) grant)) × ((now (plane .exit) ≡ replayAfter (stillOf bits width height ctu) (listed (now (plan .entry))) scratchTables done grant (now (residuals .entry)) (now (plane .entry))) × ((r .no ≡ 0 → ⊥) → now (scratch .exit) ≡ now (scratch .entry))) ⌝ }
+    ensures { λ r. ⌜ ProbeReplay (stillOf bits width height ctu) (listed (now (plan .entry))) scratchTables (record {
+      done = done;
+    }) grant (now (residuals .entry)) (now (plane .entry)) (now (plane .exit)) r (now (scratch .exit)
+        ≡ now (scratch .entry)) ⌝ }
 {
     let p = progress_of(done);
     let s = still_of(bits, width, height, ctu);
@@ -182,7 +200,9 @@ pub extern "C" fn salvrunde_probe_walk_records(
     scratch: &mut AngularScratch,
     grant: u32,
 ) -> StepAnswer
-    ensures { λ r. ⌜ (r ≡ stepOf (steppedBy (walkVerdict (stillOf bits width height ctu) (listed (now (plan .entry))) scratchTables done (now (source .entry)) (record { work = now (work .entry); residuals = now (residuals .entry) })) (listed (now (plan .entry))) (record { done = done }) grant)) × ((record { work = now (work .exit); residuals = now (residuals .exit) } ≡ walkAfter (stillOf bits width height ctu) (listed (now (plan .entry))) scratchTables done grant (now (source .entry)) (record { work = now (work .entry); residuals = now (residuals .entry) })) × ((r .no ≡ 0 → ⊥) → now (scratch .exit) ≡ now (scratch .entry))) ⌝ }
+    ensures { λ r. ⌜ ProbeWalk (stillOf bits width height ctu) (listed (now (plan .entry))) scratchTables (record { done = done })
+        grant (now (source .entry)) (worldBefore work residuals) (worldAfter work residuals) r
+        (now (scratch .exit) ≡ now (scratch .entry)) ⌝ }
 {
     let p = progress_of(done);
     let s = still_of(bits, width, height, ctu);

@@ -1,5 +1,5 @@
 -- Document 01, demand 3 on bytes: replays in a plane's own bytes, in any calls, leave bytes that spell what the replays of the spelt samples leave, so the
--- source comes back there too. Rests on demand 3, and on what one call on bytes leaves (byte_replay's Spelt).
+-- source comes back there too. Rests on demand 3, and on what one call on bytes leaves (camera's replay, Spelt).
 use Prim.Native.Nat.{ℕ, _+_, _≤_}
 use mathlib.Core.Path.{_≡_, refl, ap, _∙_}
 use mathlib.Core.Bool.{Bool, true, false, cond}
@@ -15,18 +15,18 @@ use Rattle.bytes.specs.Laws.{AreBytes, length-samples}
 use Rattle.plan.specs.declared.tiling.Verdict.{Verdict}
 use Rattle.plan.specs.tiling.Plan.{Plan}
 use Rattle.plan.specs.RecordPlan.{recordsOf}
-use Rattle.walk.specs.declared.still.Still.{Still}
-use Rattle.walk.specs.steps.Steps.{doing}
-use Rattle.walk.specs.walked.Block.{World}
+use Rattle.walk.specs.declared.checks.Still.{Still}
+use Rattle.walk.specs.calls.Steps.{doing}
+use Rattle.walk.specs.block.Walked.{World}
 use Rattle.walk.specs.declared.Progress.{Progress}
 use Rattle.walk.specs.declared.Stepped.{Stepped}
 use Rattle.walk.specs.Door.{steppedBy}
-use Rattle.camera.specs.byte_answer.Door.{Lent, bytesFit, byteVerdict}
-use Rattle.camera.specs.byte_answer.Laws.{fitting}
-use Rattle.camera.specs.byte_replay.Door.{nextWritten, planeAfter}
-use Rattle.camera.specs.byte_replay.Laws.{own}
-use Rattle.camera.specs.byte_replay.Spelt.{spelt-verdict, left}
-use Rattle.promises.specs.demand3.Calls.{Job, Held, Served, count, fresh, calls, walkNo, walkCall, replayCall}
+use Rattle.camera.specs.replay.Verdict.{Lent, bytesFit, byteVerdict}
+use Rattle.camera.specs.replay.VerdictLaws.{fitting}
+use Rattle.camera.specs.replay.Door.{nextWritten, planeAfter}
+use Rattle.walk.specs.Lent.{scratchTables}
+use Rattle.camera.specs.replay.Spelt.{spelt-verdict, left}
+use Rattle.promises.specs.demand3.Calls.{Task, Held, Served, count, fresh, calls, walkVerdictAt, walkCall, replayCall}
 use Rattle.promises.specs.demand3.Proof3.{demand-3}
 
 -- what all calls share: the still, the bytes of plan and residuals, and how long the result buffer is
@@ -37,8 +37,8 @@ pub record ByteJob : Type 0 where
   pub result : ℕ
 
 -- the job that they spell, with the tables that a call makes for itself
-abbrev pub speltJob : ByteJob → Job
-speltJob j = record { still = j .still; plan = recordsOf (j .plan); tables = own }
+abbrev pub speltJob : ByteJob → Task
+speltJob j = record { still = j .still; plan = recordsOf (j .plan); tables = scratchTables }
 
 abbrev pub lentOf : ByteJob → List ℕ → Lent
 lentOf j plane = record { plan = j .plan; residuals = j .residuals; plane = length plane; result = j .result }
@@ -90,7 +90,7 @@ module _ (j : ByteJob) where
       any-calls (byteCall j x g) gs (o .1) ∙ ap (λ (y : Held (List ℕ)). calls (replayCall (speltJob j) (residualsOf (j .residuals))) y gs) (o .0)
 
   -- The residuals of a walk, as bytes: replays whose grants reach the count leave the source.
-  pub source-back : (source : List ℕ) (w : World) (grants : List ℕ) → Served (walkNo (speltJob j) source (fresh w)) → count (speltJob j) ≤ sum grants
+  pub source-back : (source : List ℕ) (w : World) (grants : List ℕ) → Served (walkVerdictAt (speltJob j) source (fresh w)) → count (speltJob j) ≤ sum grants
       → residualsOf (j .residuals) ≡ calls (walkCall (speltJob j) source) (fresh w) grants .world .residuals
       → (plane : List ℕ) → Fits j plane → (again : List ℕ) → count (speltJob j) ≤ sum again → samplesOf (calls (byteCall j) (fresh plane) again .world) ≡ source
   source-back source w grants served enough spell plane f again all =

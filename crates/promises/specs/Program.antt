@@ -11,17 +11,18 @@ use lib.ListN.{length, getD, length-replicate}
 use borrow.Author.Tests.{eq-eqb, eqb-true}
 use Rattle.laws.specs.Chain.{sum}
 use Rattle.report.specs.file.File.{fileOk}
-use Rattle.walk.specs.spans.Spans.{agree}
+use Rattle.report.specs.sums.Sums.{agree}
 use Rattle.report.specs.text.Text.{refusal, ending}
-use Rattle.report.specs.Told.{tables, zeros, blank, verdict, residuals, replayed, lines, told, printed, jobOf}
+use Rattle.walk.specs.Lent.{scratchTables}
+use Rattle.report.specs.Told.{zeros, blank, verdict, residuals, replayed, lines, told, printed, jobOf}
 use Rattle.report.specs.Told.{Job as File}
-use Rattle.promises.specs.demand3.Calls.{Job, calls}
+use Rattle.promises.specs.demand3.Calls.{Task, calls}
 use Rattle.promises.specs.demand3.Chains.{sum-none, sum-more}
 use Rattle.promises.specs.demand3.Proof3.{demand-3}
 
 -- a file's walk and replay as demand 3 has them: one call each, which is granted every block
-abbrev job : File → Job
-job f = record { still = f .still; plan = f .plan; tables = tables }
+abbrev job : File → Task
+job f = record { still = f .still; plan = f .plan; tables = scratchTables }
 
 abbrev whole : File → List ℕ
 whole f = f .plan .count ∷ []

@@ -1,3 +1,4 @@
-// What demand 3 comes to above: for replays on bytes and for the program intrawalk. Rests on demand3. No code; a library has at least one function.
+// What the owner asked for, on pages that a stranger can read: the three demands, the table of numbers, one answer for each call. Its pages
+// are in specs/. No code; a library has at least one function.
 
 fn nothing() {}

@@ -19,7 +19,8 @@ use Rattle.h265.specs.Substitution.{firstMarked}
 use Rattle.order.specs.declared.Reach.{Reach}
 use Rattle.order.specs.Reach.{cornerHas, aboveHas, leftHas}
 use Rattle.domain.specs.declared.rows.Rows.{Rows}
-use Rattle.refs.specs.substitution.Substitution.{flagsOn, samplesOn, levelRows, substituted}
+use Rattle.domain.specs.rows.Neighbours.{levelRows}
+use Rattle.refs.specs.substitution.Substitution.{flagsOn, samplesOn, substituted}
 use Rattle.refs.specs.Gather.{flagsBy, samplesBy, gatheredBy}
 use Rattle.refs.specs.substitution.Line.{on-left, on-corner, on-above, anyBy, startBy, leftBy, cornerBy, restBy, aboveBy, CountedLine, told, settled-left, settled-corner, settled-above, starts, nothing}
 

@@ -1,11 +1,11 @@
 -- The samples that are there, as they are read out of a plane, and the rows made of these values alone, whatever held them. Assumes nothing.
-use mathlib.Core.Path.{_≡_, refl, sym, ap, ap₂, _∙_}
+use mathlib.Core.Path.{_≡_, refl, sym, ap, _∙_}
 use mathlib.Core.Bool.{Bool, true, false, cond, _||_, false≢true}
-use mathlib.Core.List.{List}
+use mathlib.Core.List.{List, [], _∷_}
 use Prim.Native.Nat.{ℕ, _+_, _-_, _*_, _≤_, _<_}
 use native.Mathlib.Omega.{arith}
 use lib.Dec.{ltb}
-use lib.ListN.{getD, replicate, length-replicate}
+use lib.ListN.{length, getD, set, replicate, length-replicate}
 use borrow.Author.Tests.{lt-ltb, le-ltb, ltb-true}
 use Rattle.laws.specs.Choose.{if-yes, if-no}
 use Rattle.laws.specs.Fill.{fill, run}
@@ -13,7 +13,7 @@ use Rattle.laws.specs.FillLaws.{fill-at, fill-same, fill-run}
 use Rattle.order.specs.declared.Reach.{Reach}
 use Rattle.domain.specs.declared.rows.Rows.{Rows}
 use Rattle.refs.specs.declared.Spot.{Spot}
-use Rattle.refs.specs.substitution.Substitution.{levelRows}
+use Rattle.domain.specs.rows.Neighbours.{levelRows}
 use Rattle.refs.specs.substitution.Line.{anyBy}
 use Rattle.refs.specs.Spots.{cornerOn, aboveOn, leftOn, planeRows, Few}
 use Rattle.refs.specs.Counts.{startOf, cornerOf, restOf, edgeOf, reached, fromReach}
@@ -32,15 +32,19 @@ entry row i = getD row i 0
 abbrev pub padded : ℕ → ℕ → ℕ → List ℕ → List ℕ
 padded count have rest row = run (λ i. rest) have (count - have) row
 
--- the rows of what was read: the corner c, the row above, the left column
-unfoldable pub padRows : Reach → ℕ → List ℕ → List ℕ → ℕ → Rows
-padRows r c above left n =
-    let start = startOf r c (entry above) (entry left) in
-    let corner = cornerOf r c (entry left) start in
+-- a plane's two rows, above and left, with their corner
+abbrev pub withCorner : ℕ → List (List ℕ) → Rows
+withCorner c two = record { corner = c; above = getD two 0 []; left = getD two 1 [] }
+
+-- rows completed, of what was read
+unfoldable pub padRows : Reach → Rows → ℕ → Rows
+padRows r seen n =
+    let start = startOf r (seen .corner) (entry (seen .above)) (entry (seen .left)) in
+    let corner = cornerOf r (seen .corner) (entry (seen .left)) start in
     record {
       corner = corner;
-      above = padded (2 * n + 1) (r .above) (restOf r (entry above) corner) above;
-      left = padded (2 * n + 1) (r .left) start left;
+      above = padded (2 * n + 1) (r .above) (restOf r (entry (seen .above)) corner) (seen .above);
+      left = padded (2 * n + 1) (r .left) start (seen .left);
     }
 
 -- two answers by one test
@@ -94,7 +98,7 @@ module _ (r : Reach) (c : ℕ) (above left : ℕ → ℕ) (n : ℕ) (small : n �
 
   -- the rows made of what was read are the rows of the samples
   padded-are : anyBy (r .corner) (r .above) (r .left) ≡ true
-      → padRows r (seenCorner r c) (seenEdge (r .above) above) (seenEdge (r .left) left) n ≡ reached r c above left n
+      → padRows r (record { corner = seenCorner r c; above = seenEdge (r .above) above; left = seenEdge (r .left) left }) n ≡ reached r c above left n
   unfolding padRows
   padded-are any =
       let s = start any in
@@ -113,15 +117,25 @@ module _ (plane : List ℕ) (s : Spot) (r : Reach) (n neutral : ℕ) where
   unfolding fromReach
   finish-none gone = if-no (anyBy (r .corner) (r .above) (r .left)) _ (levelRows neutral) (levelRows neutral) gone refl
 
-  pub finish-some : anyBy (r .corner) (r .above) (r .left) ≡ true → Few r n → {a l : List ℕ} {c : ℕ} {v : Rows}
-      → a ≡ seenEdge (r .above) (aboveOn plane s) → l ≡ seenEdge (r .left) (leftOn plane s) → c ≡ seenCorner r (cornerOn plane s) → v ≡ padRows r c a l n
-      → v ≡ planeRows plane s r n neutral
+  pub finish-some : anyBy (r .corner) (r .above) (r .left) ≡ true → Few r n → {x y v : Rows}
+      → x ≡ record { corner = seenCorner r (cornerOn plane s); above = seenEdge (r .above) (aboveOn plane s); left = seenEdge (r .left) (leftOn plane s) }
+      → y ≡ padRows r x n → v ≡ y → v ≡ planeRows plane s r n neutral
   unfolding fromReach
-  finish-some any f {a} {l} {c} {v} ea el ec ev =
+  finish-some any f {x} {y} {v} ex ey ev =
       if-yes (anyBy (r .corner) (r .above) (r .left)) (reached r (cornerOn plane s) (aboveOn plane s) (leftOn plane s) n) (levelRows neutral) v any
-      (ev ∙ ap₂ (λ (x y : List ℕ). padRows r c x y n) ea el ∙ ap (λ (k : ℕ). padRows r k (seenEdge (r .above) (aboveOn plane s)) (seenEdge (r .left) (leftOn plane s)) n) ec
+      (ev ∙ ey ∙ ap (λ (q : Rows). padRows r q n) ex
       ∙ padded-are r (cornerOn plane s) (aboveOn plane s) (leftOn plane s) n (f .side) (f .above-few) (f .left-few) any)
 
 -- rows from their parts
 pub from-parts : {c : ℕ} {a l : List ℕ} (r : Rows) → c ≡ r .corner → a ≡ r .above → l ≡ r .left → _≡_ {A = Rows} (record { corner = c; above = a; left = l }) r
 from-parts r ec ea el = λ i. record { corner = ec i; above = ea i; left = el i }
+
+-- both rows stored anew
+pub two-set : (two : List (List ℕ)) (c : ℕ) (a l : List ℕ) → length two ≡ 2 → withCorner c (set (set two 0 a) 1 l) ≡ record { corner = c; above = a; left = l }
+two-set (_ ∷ _ ∷ _) c a l h = refl
+two-set (_ ∷ []) c a l h = absurd (omega arith)
+two-set [] c a l h = absurd (omega arith)
+
+pub second-kept : (two : List (List ℕ)) (a : List ℕ) → getD (set two 0 a) 1 [] ≡ getD two 1 []
+second-kept [] a = refl
+second-kept (_ ∷ _) a = refl

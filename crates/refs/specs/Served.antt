@@ -2,7 +2,7 @@
 use mathlib.Core.Path.{_≡_, refl, sym, ap, ap₂, _∙_, subst}
 use mathlib.Core.Bool.{Bool, true, false, cond, _&&_, _||_, false≢true}
 use mathlib.Core.List.{List, [], _∷_}
-use mathlib.Core.Logic.{_⊎_, ⊎-elim}
+use mathlib.Core.Logic.{⊎-elim}
 use Prim.Native.Nat.{ℕ, zero, suc, _*_, _≤_}
 use native.Mathlib.Omega.{arith}
 use lib.Dec.{leb, eqb}
@@ -11,9 +11,9 @@ use lib.ListN.{length}
 use borrow.Author.Tests.{ne-eqb, eqb-true, le-leb, lt-leb}
 use Rattle.laws.specs.Choose.{served, worked, passed, both-true}
 use Rattle.domain.specs.Domain.{depthOk, sizeOk}
-use Rattle.domain.specs.Facts.{size-small}
-use Rattle.order.specs.declared.LumaBlock.{LumaBlock}
-use Rattle.order.specs.declared.ChromaBlock.{ChromaBlock}
+use Rattle.domain.specs.Facts.{depth-of, size-small}
+use Rattle.fmt.specs.depth.Depth.{neutralOf}
+use Rattle.fmt.specs.depth.Laws.{neutral-of-is}
 use Rattle.order.specs.declared.Reach.{Reach}
 use Rattle.order.specs.Order.{pictureOk}
 use Rattle.order.specs.Reach.{reachBy, noReach, lumaPlaceOk, lumaReachNo, lumaHas, lumaReach, colour, chromaPlaceOk, chromaReachNo, chromaHas, chromaReach, chromaWidth}
@@ -21,15 +21,15 @@ use Rattle.order.specs.Blocks.{luma-fine, chroma-fine}
 use Rattle.domain.specs.declared.rows.Rows.{Rows}
 use Rattle.refs.specs.declared.GatheredPair.{GatheredPair}
 use Rattle.refs.specs.declared.Spot.{Spot}
+use Rattle.refs.specs.declared.Layout.{Layout}
 use Rattle.refs.specs.declared.LumaRefGeometry.{LumaRefGeometry}
 use Rattle.refs.specs.declared.ChromaRefGeometry.{ChromaRefGeometry}
 use Rattle.refs.specs.Gather.{gatheredBy, sampleOf}
-use Rattle.refs.specs.substitution.Door.{neutralAt, neutralFor}
-use Rattle.refs.specs.Door.{lumaBlock, lumaNumber, lumaLength, lumaNo, lumaRows, formatOf, chromaPicture, chromaBlock, chromaLength, chromaNumber, chromaNo, chromaRows}
+use Rattle.refs.specs.substitution.Door.{neutralAt}
+use Rattle.refs.specs.Door.{lumaBlock, lumaNumber, lumaLength, lumaNo, lumaRows, formatOf, chromaPicture, chromaBlock, chromaLength, chromaNumber, chromaNo, chromaRows, chromaPair}
 use Rattle.refs.specs.substitution.Line.{told}
-use Rattle.refs.specs.substitution.Served.{neutral-for}
 use Rattle.refs.specs.Counts.{Counted}
-use Rattle.refs.specs.Spots.{spotOf, lumaSpot, chromaSpot, planeRows, Reads, rows-are}
+use Rattle.refs.specs.Spots.{spotOf, lumaLayout, chromaLayout, planeRows, Reads, rows-are}
 use Rattle.refs.specs.Rules.{Rule, luma-rule, chroma-rule, counted, reads}
 
 -- 1, then what the reach gives of 2 and 4, then 5, then its 6; a plane of the right length is whole
@@ -63,7 +63,7 @@ coloured true = by-four (λ (f : ℕ). (leb 1 f && leb f 3) ≡ colour (formatOf
   where
     other : (k : ℕ) → 4 ≤ k → (leb 1 k && leb k 3) ≡ colour (formatOf k)
     other k h =
-        simp (le-leb 1 k (omega arith), lt-leb k 3 (omega arith), ne-eqb k 1 (λ e. let q : k ≡ 1 = e in omega arith), ne-eqb k 2 (λ e. let q : k ≡ 2 = e in omega arith), ne-eqb k 3 (λ e. let q : k ≡ 3 = e in omega arith))
+        simp (le-leb 1 k (omega arith), lt-leb k 3 (omega arith), ne-eqb k 0 (λ e. let q : k ≡ 0 = e in omega arith), ne-eqb k 1 (λ e. let q : k ≡ 1 = e in omega arith), ne-eqb k 2 (λ e. let q : k ≡ 2 = e in omega arith), ne-eqb k 3 (λ e. let q : k ≡ 3 = e in omega arith))
 coloured false = λ f. refl
 
 pub chroma-no : (whole : Bool) (g : ChromaRefGeometry) → chromaNumber whole g ≡ gatherNo (g .bits) (chromaReachNo (chromaBlock g)) whole
@@ -144,17 +144,15 @@ abbrev pub gatheredPair : ℕ → List Rows → GatheredPair
 gatheredPair k v = record { no = k; planes = v }
 
 -- the number that the code gives is the call's, however its planes are told to be whole
-pub luma-number : (whole : Bool) (g : LumaRefGeometry) {b : LumaBlock} {r : Reach} {w : Bool} {k : ℕ} → b ≡ lumaBlock g → r ≡ lumaReach b → w ≡ whole
-    → k ≡ gatherNo (g .bits) (r .no) w → (r ≡ lumaReach (lumaBlock g)) × (k ≡ lumaNumber whole g)
-luma-number whole g eb er ew ek =
-    let e = er ∙ ap lumaReach eb in
-    (e, ek ∙ ap₂ (gatherNo (g .bits)) (ap (λ (q : Reach). q .no) e ∙ luma-reach-no g) ew ∙ sym (luma-no whole g))
+pub luma-number : (whole : Bool) (g : LumaRefGeometry) {l : Layout} {w : Bool} {k : ℕ} → l ≡ lumaLayout g → w ≡ whole → k ≡ gatherNo (g .bits) (l .reach .no) w
+    → k ≡ lumaNumber whole g
+luma-number whole g el ew ek =
+    ek ∙ ap₂ (gatherNo (g .bits)) (ap (λ (q : Layout). q .reach .no) el ∙ luma-reach-no g) ew ∙ sym (luma-no whole g)
 
-pub chroma-number : (whole : Bool) (g : ChromaRefGeometry) {b : ChromaBlock} {r : Reach} {w : Bool} {k : ℕ} → b ≡ chromaBlock g → r ≡ chromaReach b → w ≡ whole
-    → k ≡ gatherNo (g .bits) (r .no) w → (r ≡ chromaReach (chromaBlock g)) × (k ≡ chromaNumber whole g)
-chroma-number whole g eb er ew ek =
-    let e = er ∙ ap chromaReach eb in
-    (e, ek ∙ ap₂ (gatherNo (g .bits)) (ap (λ (q : Reach). q .no) e ∙ chroma-reach-no g) ew ∙ sym (chroma-no whole g))
+pub chroma-number : (whole : Bool) (g : ChromaRefGeometry) {l : Layout} {w : Bool} {k : ℕ} → l ≡ chromaLayout g → w ≡ whole → k ≡ gatherNo (g .bits) (l .reach .no) w
+    → k ≡ chromaNumber whole g
+chroma-number whole g el ew ek =
+    ek ∙ ap₂ (gatherNo (g .bits)) (ap (λ (q : Layout). q .reach .no) el ∙ chroma-reach-no g) ew ∙ sym (chroma-no whole g)
 
 -- the rows of a plane, from the parts that the code makes
 module _ {has : ℤ → ℤ → Bool} {r : Reach} (plane : List ℕ) (width row col n bits : ℕ) (y : Ready has r (length plane) width row col n) {s : Spot}
@@ -162,43 +160,42 @@ module _ {has : ℤ → ℤ → Bool} {r : Reach} (plane : List ℕ) (width row 
   inside : Reads r s (length plane) n
   inside = subst (λ (t : Spot). Reads r t (length plane) n) (sym es) (y .reads)
 
-  made : depthOk bits ≡ true → {neutral : ℕ} {v : Rows} → neutral ≡ neutralFor bits → v ≡ planeRows plane s r n neutral
+  made : depthOk bits ≡ true → {neutral : ℕ} {v : Rows} → neutral ≡ neutralOf bits → v ≡ planeRows plane s r n neutral
       → v ≡ gatheredBy has (sampleOf plane width) row col n (neutralAt bits)
   made deep en ev =
       ev
-      ∙ ap₂ (λ (t : Spot) (k : ℕ). planeRows plane t r n k) es (en ∙ neutral-for bits deep)
+      ∙ ap₂ (λ (t : Spot) (k : ℕ). planeRows plane t r n k) es (en ∙ neutral-of-is bits (depth-of bits deep))
       ∙ rows-are has plane width row col n (neutralAt bits) r (y .reads .few .side) (y .known)
 
 -- the same for the two doors, whose calls are not refused
-module _ (plane : List ℕ) (g : LumaRefGeometry) (r : Reach) (er : r ≡ lumaReach (lumaBlock g)) (e : lumaNo (length plane) g ≡ 0) {s : Spot} (es : s ≡ lumaSpot g) where
-  abbrev luma : (depthOk (g .bits) ≡ true) × Ready (lumaHas (lumaBlock g)) r (length plane) (g .picture .width) (g .«block_row» .0) (g .«block_col» .0) (g .n)
-  luma = luma-ready (length plane) g r er e
+module _ (plane : List ℕ) (g : LumaRefGeometry) {l : Layout} (el : l ≡ lumaLayout g) (e : lumaNo (length plane) g ≡ 0) where
+  abbrev luma : (depthOk (g .bits) ≡ true) × Ready (lumaHas (lumaBlock g)) (l .reach) (length plane) (g .picture .width) (g .«block_row» .0) (g .«block_col» .0) (g .n)
+  luma = luma-ready (length plane) g (l .reach) (ap (λ (q : Layout). q .reach) el) e
 
-  pub luma-inside : Reads r s (length plane) (g .n)
-  luma-inside = inside plane (g .picture .width) (g .«block_row» .0) (g .«block_col» .0) (g .n) (g .bits) (luma .1) es
+  pub luma-inside : Reads (l .reach) (l .spot) (length plane) (g .n)
+  luma-inside = inside plane (g .picture .width) (g .«block_row» .0) (g .«block_col» .0) (g .n) (g .bits) (luma .1) (ap (λ (q : Layout). q .spot) el)
 
-  pub luma-made : {neutral : ℕ} {v : Rows} → neutral ≡ neutralFor (g .bits) → v ≡ planeRows plane s r (g .n) neutral → v ≡ lumaRows plane g
+  pub luma-made : {neutral : ℕ} {v : Rows} → neutral ≡ neutralOf (g .bits) → v ≡ planeRows plane (l .spot) (l .reach) (g .n) neutral → v ≡ lumaRows plane g
   unfolding lumaRows
-  luma-made en ev = made plane (g .picture .width) (g .«block_row» .0) (g .«block_col» .0) (g .n) (g .bits) (luma .1) es (luma .0) en ev
+  luma-made en ev = made plane (g .picture .width) (g .«block_row» .0) (g .«block_col» .0) (g .n) (g .bits) (luma .1) (ap (λ (q : Layout). q .spot) el) (luma .0) en ev
 
-module _ (cb cr : List ℕ) (g : ChromaRefGeometry) (r : Reach) (er : r ≡ chromaReach (chromaBlock g)) (e : chromaNo (length cb) (length cr) g ≡ 0) {s : Spot}
-    (es : s ≡ chromaSpot g) where
+module _ (cb cr : List ℕ) (g : ChromaRefGeometry) {l : Layout} (el : l ≡ chromaLayout g) (e : chromaNo (length cb) (length cr) g ≡ 0) where
   abbrev Chroma : List ℕ → Type 0
-  Chroma plane = Ready (chromaHas (chromaBlock g)) r (length plane) (chromaWidth (chromaBlock g)) (g .«block_row» .0) (g .«block_col» .0) (g .n)
+  Chroma plane = Ready (chromaHas (chromaBlock g)) (l .reach) (length plane) (chromaWidth (chromaBlock g)) (g .«block_row» .0) (g .«block_col» .0) (g .n)
 
   abbrev fine : (depthOk (g .bits) ≡ true) × Chroma cb × Chroma cr
-  fine = chroma-ready (length cb) (length cr) g r er e
+  fine = chroma-ready (length cb) (length cr) g (l .reach) (ap (λ (q : Layout). q .reach) el) e
 
-  one-inside : (plane : List ℕ) → Chroma plane → Reads r s (length plane) (g .n)
-  one-inside plane y = inside plane (chromaWidth (chromaBlock g)) (g .«block_row» .0) (g .«block_col» .0) (g .n) (g .bits) y es
+  one-inside : (plane : List ℕ) → Chroma plane → Reads (l .reach) (l .spot) (length plane) (g .n)
+  one-inside plane y = inside plane (chromaWidth (chromaBlock g)) (g .«block_row» .0) (g .«block_col» .0) (g .n) (g .bits) y (ap (λ (q : Layout). q .spot) el)
 
-  pub chroma-inside : Reads r s (length cb) (g .n) × Reads r s (length cr) (g .n)
+  pub chroma-inside : Reads (l .reach) (l .spot) (length cb) (g .n) × Reads (l .reach) (l .spot) (length cr) (g .n)
   chroma-inside = (one-inside cb (fine .1), one-inside cr (fine .2))
 
-  one-made : (plane : List ℕ) → Chroma plane → {neutral : ℕ} {v : Rows} → neutral ≡ neutralFor (g .bits) → v ≡ planeRows plane s r (g .n) neutral → v ≡ chromaRows plane g
+  one-made : (plane : List ℕ) → Chroma plane → {neutral : ℕ} {v : Rows} → neutral ≡ neutralOf (g .bits) → v ≡ planeRows plane (l .spot) (l .reach) (g .n) neutral → v ≡ chromaRows plane g
   unfolding chromaRows
-  one-made plane y en ev = made plane (chromaWidth (chromaBlock g)) (g .«block_row» .0) (g .«block_col» .0) (g .n) (g .bits) y es (fine .0) en ev
+  one-made plane y en ev = made plane (chromaWidth (chromaBlock g)) (g .«block_row» .0) (g .«block_col» .0) (g .n) (g .bits) y (ap (λ (q : Layout). q .spot) el) (fine .0) en ev
 
-  pub chroma-made : {neutral : ℕ} {v u : Rows} → neutral ≡ neutralFor (g .bits) → v ≡ planeRows cb s r (g .n) neutral → u ≡ planeRows cr s r (g .n) neutral
-      → _≡_ {A = List Rows} (v ∷ u ∷ []) (chromaRows cb g ∷ chromaRows cr g ∷ [])
+  pub chroma-made : {neutral : ℕ} {v u : Rows} → neutral ≡ neutralOf (g .bits) → v ≡ planeRows cb (l .spot) (l .reach) (g .n) neutral
+      → u ≡ planeRows cr (l .spot) (l .reach) (g .n) neutral → _≡_ {A = List Rows} (v ∷ u ∷ []) (chromaPair cb cr g)
   chroma-made en ev eu = ap₂ (λ (a b : Rows). a ∷ b ∷ []) (one-made cb (fine .1) en ev) (one-made cr (fine .2) en eu)

@@ -7,13 +7,14 @@ use native.Mathlib.Omega.{arith}
 use lib.IntN.{ℤ}
 use lib.ListN.{getD}
 use Rattle.order.specs.declared.Reach.{Reach}
-use Rattle.order.specs.Reach.{chromaWidth}
+use Rattle.order.specs.Reach.{lumaReach, chromaReach, chromaWidth}
 use Rattle.domain.specs.declared.rows.Rows.{Rows}
 use Rattle.refs.specs.declared.Spot.{Spot}
+use Rattle.refs.specs.declared.Layout.{Layout}
 use Rattle.refs.specs.declared.LumaRefGeometry.{LumaRefGeometry}
 use Rattle.refs.specs.declared.ChromaRefGeometry.{ChromaRefGeometry}
 use Rattle.refs.specs.Gather.{gatheredBy, sampleOf}
-use Rattle.refs.specs.Door.{chromaBlock}
+use Rattle.refs.specs.Door.{lumaBlock, lumaLength, chromaBlock, chromaLength}
 use Rattle.refs.specs.Counts.{cornerAt, aboveAt, leftAt, fromReach, Counted, from-reach}
 
 -- the corner, and entry 0 of the row above and of the left column
@@ -27,6 +28,13 @@ lumaSpot g = spotOf (g .picture .width) (g .«block_row» .0) (g .«block_col» 
 
 abbrev pub chromaSpot : ChromaRefGeometry → Spot
 chromaSpot g = spotOf (chromaWidth (chromaBlock g)) (g .«block_row» .0) (g .«block_col» .0)
+
+-- what a gather goes by, luma and chroma
+abbrev pub lumaLayout : LumaRefGeometry → Layout
+lumaLayout g = record { reach = lumaReach (lumaBlock g); spot = lumaSpot g; length = lumaLength g }
+
+abbrev pub chromaLayout : ChromaRefGeometry → Layout
+chromaLayout g = record { reach = chromaReach (chromaBlock g); spot = chromaSpot g; length = chromaLength g }
 
 -- entry i of an edge from at on, each entry step samples further
 abbrev pub onEdge : List ℕ → ℕ → ℕ → ℕ → ℕ

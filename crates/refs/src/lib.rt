@@ -3,24 +3,25 @@
 pub mod substitution;
 
 ghost use mathlib.Core.Path.{_≡_};
-ghost use mathlib.Core.List.{[], _∷_};
-ghost use Prim.Native.Nat.{ℕ, _+_, _-_, _*_, _/_, _≤_, _<_};
-ghost use lib.ListN.{length, getD};
+ghost use Prim.Native.Nat.{ℕ, _+_, _-_, _*_, _≤_, _<_};
+ghost use lib.ListN.{length};
 ghost use Rattle.laws.specs.Fill.{fill};
-ghost use Rattle.order.specs.Edges.{Step};
-ghost use Rattle.order.specs.Reach.{lumaReach, chromaReach, chromaWidth};
-ghost use Rattle.refs.specs.Door.{lumaBlock, lumaLength, lumaNo, lumaRows, lumaDoor, formatOf, chromaBlock, chromaLength, chromaNo, chromaRows, chromaDoor};
+ghost use Rattle.refs.specs.Door.{lumaNo, lumaRows, getReferenceSamples, formatOf, chromaBlock, chromaNo, chromaPair};
+ghost use Rattle.refs.specs.Door.{getReferenceSamplesChromaPair};
 ghost use Rattle.refs.specs.Served.{gatherNo};
 ghost use Rattle.refs.specs.substitution.Line.{restBy};
-ghost use Rattle.refs.specs.Spots.{spotOf, lumaSpot, chromaSpot, onEdge, cornerOn, planeRows, Few, Reads};
-ghost use Rattle.refs.specs.Seen.{seenCorner, entry, padded, padRows};
+ghost use Rattle.refs.specs.Spots.{spotOf, lumaLayout, chromaLayout, onEdge, cornerOn, planeRows, Few, Reads};
+ghost use Rattle.refs.specs.Seen.{seenCorner, entry, padded, withCorner, padRows};
+use domain::rows;
 use domain::rows::Gathered;
 use domain::rows::Rows;
 use fmt::ChromaCol;
 use fmt::ChromaFormat;
 use fmt::ChromaRow;
+use fmt::FormatFrom;
 use fmt::LumaCol;
 use fmt::LumaRow;
+use fmt::depth;
 use order::ChromaBlock;
 use order::LumaBlock;
 use order::Picture;
@@ -130,31 +131,26 @@ fn pad(row: &mut [u16], have: usize, count: usize, rest: u16)
     }
 }
 
-// Completes the rows of what was read, where a neighbour is there, and gives the corner: what stands before the first sample that is
-// there is that sample, a missing corner takes left[0], and what stands after the last one of the row above is that one, or the corner.
-fn finish(above: &mut [u16], left: &mut [u16], seen: u16, r: Reach, n: usize) -> u16
-    requires { ⌜ Few r n × ((length (now above) ≡ 65) × (length (now left) ≡ 65)) ⌝ }
-    ensures { λ c. ⌜ (c ≡ padRows r seen (now (above .entry)) (now (left .entry)) n .corner) × ((now (above .exit) ≡ padRows r seen (now (above .entry)) (now (left .entry)) n .above) × (now (left .exit) ≡ padRows r seen (now (above .entry)) (now (left .entry)) n .left)) ⌝ }
+// Completes a plane's two rows, above and left, of what was read, where a neighbour is there, and gives the corner: what stands before the
+// first sample that is there is that sample, a missing corner takes left[0], and what stands after the last one of the row above is
+// that one, or the corner. The rows are lent: by value they would go through memory once more.
+fn finish(two: &mut [[u16; 65]; 2], seen: u16, r: Reach, n: usize) -> u16
+    requires { ⌜ Few r n × (length (now two) ≡ 2) ⌝ }
+    ensures { λ c. ⌜ withCorner c (now (two .exit)) ≡ padRows r (withCorner seen (now (two .entry))) n ⌝ }
 {
-    let start = last_of(
-        &*left,
-        r.left,
-        substitution::choose(r.corner, seen, above[0]),
-    );
-    let corner = substitution::choose(
-        r.corner,
-        seen,
-        substitution::choose(r.left > 0, left[0], start),
-    );
-    let rest = last_of(&*above, r.above, corner);
-    pad(&mut *above, r.above, 2 * n + 1, rest);
-    pad(&mut *left, r.left, 2 * n + 1, start);
+    let before = substitution::choose(r.corner, seen, two[0][0]);
+    let start = last_of(&two[1], r.left, before);
+    let beside = substitution::choose(r.left > 0, two[1][0], start);
+    let corner = substitution::choose(r.corner, seen, beside);
+    let rest = last_of(&two[0], r.above, corner);
+    pad(&mut two[0], r.above, 2 * n + 1, rest);
+    pad(&mut two[1], r.left, 2 * n + 1, start);
     corner
 }
 
 // A plane's two rows, above and left, with their corner.
 fn with_corner(corner: u16, two: [[u16; 65]; 2]) -> Rows
-    ensures { λ v. ⌜ v ≡ record { corner = corner; above = getD two 0 []; left = getD two 1 [] } ⌝ }
+    ensures { λ v. ⌜ v ≡ withCorner corner two ⌝ }
 {
     Rows {
         corner,
@@ -169,15 +165,14 @@ fn plane_rows(plane: &[u16], s: Spot, r: Reach, n: usize, neutral: u16) -> Rows
     ensures { λ v. ⌜ v ≡ planeRows (now (plane .entry)) s r n neutral ⌝ }
 {
     if !((r.left > 0) | r.corner | (r.above > 0)) {
-        return substitution::level_rows(neutral);
+        return rows::level_rows(neutral);
     }
-    let mut above = [0u16; 65];
-    let mut left = [0u16; 65];
-    edge(plane, s.above, 1, r.above, &mut above);
-    edge(plane, s.left, s.width, r.left, &mut left);
+    let mut two = [[0u16; 65]; 2];
+    edge(plane, s.above, 1, r.above, &mut two[0]);
+    edge(plane, s.left, s.width, r.left, &mut two[1]);
     let seen = corner_seen(plane, s, r, n);
-    let corner = finish(&mut above, &mut left, seen, r, n);
-    with_corner(corner, [above, left])
+    let corner = finish(&mut two, seen, r, n);
+    with_corner(corner, two)
 }
 
 // The number that refuses a gather, or 0: the depth's, then the reach's 2 or 4, then the planes', then the reach's 6.
@@ -193,59 +188,66 @@ pub fn gather_no(bits: u32, reach: u32, whole: bool) -> u32
     if whole { reach } else { 5 }
 }
 
-// The block of a luma gather.
-pub fn luma_block(geo: LumaRefGeometry) -> LumaBlock
-    ensures { λ r. ⌜ r ≡ lumaBlock geo ⌝ }
+// What a gather goes by: how far its block's neighbours reach, where they stand, how many samples a plane has.
+pub struct Layout {
+    pub reach: Reach,
+    pub spot: Spot,
+    pub length: usize,
+}
+
+// The number of samples in so many rows of so many columns.
+fn area(height: u32, width: u32) -> usize
+    ensures { λ r. ⌜ r ≡ height * width ⌝ }
+{
+    (height as usize) * (width as usize)
+}
+
+pub fn luma_layout(geo: LumaRefGeometry) -> Layout
+    ensures { λ r. ⌜ r ≡ lumaLayout geo ⌝ }
 {
     let picture = geo.picture;
     let row = geo.block_row;
     let col = geo.block_col;
-    LumaBlock {
+    let block = LumaBlock {
         picture,
         row,
         col,
         n: geo.n,
+    };
+    let reach = order::luma_reach(block);
+    let spot = spot_of(picture.width, row.0, col.0);
+    let length = area(picture.height, picture.width);
+    Layout {
+        reach,
+        spot,
+        length,
     }
 }
 
-// Where its neighbours stand.
-pub fn luma_spot(geo: LumaRefGeometry) -> Spot
-    ensures { λ r. ⌜ r ≡ lumaSpot geo ⌝ }
-{
-    spot_of(geo.picture.width, geo.block_row.0, geo.block_col.0)
-}
-
-fn luma_rows(plane: &[u16], geo: LumaRefGeometry, reach: Reach) -> Rows
-    requires { ⌜ (reach ≡ lumaReach (lumaBlock geo)) × (lumaNo (length (now plane)) geo ≡ 0) ⌝ }
+fn luma_rows(plane: &[u16], geo: LumaRefGeometry, l: Layout) -> Rows
+    requires { ⌜ (l ≡ lumaLayout geo) × (lumaNo (length (now plane)) geo ≡ 0) ⌝ }
     ensures { λ r. ⌜ r ≡ lumaRows (now (plane .entry)) geo ⌝ }
 {
-    let s = luma_spot(geo);
-    plane_rows(plane, s, reach, geo.n, substitution::neutral_of(geo.bits))
-}
-
-// A plane's count of luma samples.
-pub fn luma_length(geo: LumaRefGeometry) -> usize
-    ensures { λ r. ⌜ r ≡ lumaLength geo ⌝ }
-{
-    (geo.picture.height as usize) * (geo.picture.width as usize)
+    let s = l.spot;
+    let reach = l.reach;
+    plane_rows(plane, s, reach, geo.n, depth::neutral_of(geo.bits))
 }
 
 // The reference rows of a luma block (document 01, module 4).
 pub fn get_reference_samples(plane: &[u16], geo: LumaRefGeometry) -> Gathered
-    ensures { λ r. ⌜ r ≡ lumaDoor (now (plane .entry)) geo ⌝ }
+    ensures { λ r. ⌜ r ≡ getReferenceSamples (now (plane .entry)) geo ⌝ }
 {
-    let reach = order::luma_reach(luma_block(geo));
-    let whole = plane.len() == luma_length(geo);
-    let no = gather_no(geo.bits, reach.no, whole);
+    let l = luma_layout(geo);
+    let no = gather_no(geo.bits, l.reach.no, plane.len() == l.length);
     if no != 0 {
         return Gathered {
             no,
-            rows: substitution::level_rows(0),
+            rows: rows::level_rows(0),
         };
     }
     Gathered {
         no: 0,
-        rows: luma_rows(plane, geo, reach),
+        rows: luma_rows(plane, geo, l),
     }
 }
 
@@ -253,16 +255,14 @@ pub fn get_reference_samples(plane: &[u16], geo: LumaRefGeometry) -> Gathered
 fn format_of(idc: u32) -> ChromaFormat
     ensures { λ r. ⌜ r ≡ formatOf idc ⌝ }
 {
-    match idc {
-        1 => ChromaFormat::Yuv420,
-        2 => ChromaFormat::Yuv422,
-        3 => ChromaFormat::Yuv444,
-        _ => ChromaFormat::Monochrome,
+    match ChromaFormat::from_idc(idc) {
+        FormatFrom::Format(f) => f,
+        FormatFrom::Unknown => ChromaFormat::Monochrome,
     }
 }
 
-// The block of a chroma gather.
-pub fn chroma_block(geo: ChromaRefGeometry) -> ChromaBlock
+// The block of a chroma gather, whose CTU is 64.
+fn chroma_block(geo: ChromaRefGeometry) -> ChromaBlock
     ensures { λ r. ⌜ r ≡ chromaBlock geo ⌝ }
 {
     let picture = Picture {
@@ -287,55 +287,36 @@ pub fn chroma_block(geo: ChromaRefGeometry) -> ChromaBlock
     }
 }
 
-// A side of the luma picture in chroma samples.
-fn over(side: u32, sub: usize) -> usize
-    requires { ⌜ Step sub ⌝ }
-    ensures { λ r. ⌜ (r ≡ side / sub) × (r ≤ 4294967295) ⌝ }
+// The planes' sides are the first row and the first column past them.
+pub fn chroma_layout(geo: ChromaRefGeometry) -> Layout
+    ensures { λ r. ⌜ r ≡ chromaLayout geo ⌝ }
 {
-    if sub == 2 {
-        return (side as usize) / 2;
+    let block = chroma_block(geo);
+    let format = block.format;
+    let height = format.chroma_row(LumaRow(geo.luma_h));
+    let width = format.chroma_col(LumaCol(geo.luma_w));
+    let reach = order::chroma_reach(block);
+    let spot = spot_of(width.0, geo.block_row.0, geo.block_col.0);
+    let length = area(height.0, width.0);
+    Layout {
+        reach,
+        spot,
+        length,
     }
-    side as usize
 }
 
-// A chroma plane's width.
-fn chroma_width(geo: ChromaRefGeometry) -> usize
-    ensures { λ r. ⌜ (r ≡ chromaWidth (chromaBlock geo)) × (r ≤ 4294967295) ⌝ }
+// The rows of Cb and of Cr: one layout for both.
+fn chroma_rows(plane_cb: &[u16], plane_cr: &[u16], geo: ChromaRefGeometry, l: Layout) -> [Rows; 2]
+    requires { ⌜ (l ≡ chromaLayout geo) × (chromaNo (length (now «plane_cb»)) (length (now «plane_cr»)) geo ≡ 0) ⌝ }
+    ensures { λ r. ⌜ r ≡ chromaPair (now («plane_cb» .entry)) (now («plane_cr» .entry)) geo ⌝ }
 {
-    over(geo.luma_w, format_of(geo.format).sub_w())
-}
-
-// Where its neighbours stand in a plane of Cb or of Cr.
-pub fn chroma_spot(geo: ChromaRefGeometry) -> Spot
-    ensures { λ r. ⌜ r ≡ chromaSpot geo ⌝ }
-{
-    let width = chroma_width(geo);
-    spot_of(width as u32, geo.block_row.0, geo.block_col.0)
-}
-
-// The rows of Cb and of Cr: one reach for both.
-fn chroma_rows(
-    plane_cb: &[u16],
-    plane_cr: &[u16],
-    geo: ChromaRefGeometry,
-    reach: Reach,
-) -> [Rows; 2]
-    requires { ⌜ (reach ≡ chromaReach (chromaBlock geo)) × (chromaNo (length (now «plane_cb»)) (length (now «plane_cr»)) geo ≡ 0) ⌝ }
-    ensures { λ r. ⌜ r ≡ chromaRows (now («plane_cb» .entry)) geo ∷ chromaRows (now («plane_cr» .entry)) geo ∷ [] ⌝ }
-{
-    let s = chroma_spot(geo);
-    let neutral = substitution::neutral_of(geo.bits);
+    let s = l.spot;
+    let reach = l.reach;
+    let neutral = depth::neutral_of(geo.bits);
     let n = geo.n;
     let cb = plane_rows(plane_cb, s, reach, n, neutral);
     let cr = plane_rows(plane_cr, s, reach, n, neutral);
     [cb, cr]
-}
-
-// A plane's count of chroma samples.
-pub fn chroma_length(geo: ChromaRefGeometry) -> usize
-    ensures { λ r. ⌜ r ≡ chromaLength geo ⌝ }
-{
-    over(geo.luma_h, format_of(geo.format).sub_h()) * chroma_width(geo)
 }
 
 // The reference rows of a chroma block in both planes, by one pass over its neighbours (document 01, module 4).
@@ -344,14 +325,13 @@ pub fn get_reference_samples_chroma_pair(
     plane_cr: &[u16],
     geo: ChromaRefGeometry,
 ) -> GatheredPair
-    ensures { λ r. ⌜ r ≡ chromaDoor (now («plane_cb» .entry)) (now («plane_cr» .entry)) geo ⌝ }
+    ensures { λ r. ⌜ r ≡ getReferenceSamplesChromaPair (now («plane_cb» .entry)) (now («plane_cr» .entry)) geo ⌝ }
 {
-    let reach = order::chroma_reach(chroma_block(geo));
-    let len = chroma_length(geo);
-    let whole = (plane_cb.len() == len) & (plane_cr.len() == len);
-    let no = gather_no(geo.bits, reach.no, whole);
+    let l = chroma_layout(geo);
+    let whole = (plane_cb.len() == l.length) & (plane_cr.len() == l.length);
+    let no = gather_no(geo.bits, l.reach.no, whole);
     if no != 0 {
-        let none = substitution::level_rows(0);
+        let none = rows::level_rows(0);
         return GatheredPair {
             no,
             planes: [none, none],
@@ -359,6 +339,6 @@ pub fn get_reference_samples_chroma_pair(
     }
     GatheredPair {
         no: 0,
-        planes: chroma_rows(plane_cb, plane_cr, geo, reach),
+        planes: chroma_rows(plane_cb, plane_cr, geo, l),
     }
 }

@@ -1,16 +1,18 @@
-// Substitution of missing reference samples, H.265 8.4.4.2.2 (document 01, module 3). Rests on the domain's tests alone; a sample's value
-// never says whether it is there.
+// Substitution of missing reference samples, H.265 8.4.4.2.2 (document 01, module 3). Rests on the domain's tests and the depths; a
+// sample's value never says whether it is there.
 ghost use mathlib.Core.Path.{_≡_};
 ghost use Prim.Native.Nat.{ℕ, _+_, _-_, _*_, _≤_, _<_};
 ghost use mathlib.Core.Bool.{false, cond};
 ghost use lib.ListN.{getD, replicate};
 ghost use Rattle.laws.specs.Fill.{fill};
 ghost use Rattle.h265.specs.Substitution.{firstMarked, settled};
-ghost use Rattle.refs.specs.substitution.Substitution.{levelRows, substituted};
-ghost use Rattle.refs.specs.substitution.Door.{neutralFor, substituteNo, substituteDoor};
+ghost use Rattle.refs.specs.substitution.Substitution.{substituted};
+ghost use Rattle.refs.specs.substitution.Door.{substituteNo, substituteRefs};
 ghost use Rattle.refs.specs.substitution.Line.{lineOf};
+use domain::rows;
 use domain::rows::Gathered;
 use domain::rows::Rows;
+use fmt::depth;
 
 // Which entries of a block's rows are there.
 pub struct Flags {
@@ -64,7 +66,7 @@ fn first_marked(left: &[bool; 65], corner: bool, above: &[bool; 65], e: usize) -
 }
 
 // A sample where it is there, another where it is not. Every sample may be 0.
-pub fn choose(there: bool, v: u16, other: u16) -> u16
+pub(crate) fn choose(there: bool, v: u16, other: u16) -> u16
     ensures { λ r. ⌜ r ≡ cond there v other ⌝ }
 {
     if there { v } else { other }
@@ -82,7 +84,8 @@ fn settle(
     found: usize,
 ) -> [u16; 131]
     requires { ⌜ (e ≤ 64) × (found < 2 * e + 3) ⌝ }
-    ensures { λ r. ⌜ r ≡ fill (settled (lineOf false (now («has_left» .entry)) «has_corner» (now («has_above» .entry)) e) (lineOf 0 (now (left .entry)) corner (now (above .entry)) e) found) (2 * e + 3) (replicate 131 0) ⌝ }
+    ensures { λ r. ⌜ r ≡ fill (settled (lineOf false (now («has_left» .entry)) «has_corner» (now («has_above» .entry))
+        e) (lineOf 0 (now (left .entry)) corner (now (above .entry)) e) found) (2 * e + 3) (replicate 131 0) ⌝ }
 {
     let total = 2 * e + 3;
     let mut vals = [0u16; 131];
@@ -137,7 +140,7 @@ fn substitute(rows: Rows, flags: Flags, n: usize, neutral: u16) -> Rows
     let has_above = flags.above;
     let found = first_marked(&has_left, flags.corner, &has_above, e);
     if found >= 2 * e + 3 {
-        return level_rows(neutral);
+        return rows::level_rows(neutral);
     }
     let line = settle(
         &left,
@@ -169,42 +172,19 @@ fn substitute_no(n: usize, bits: u32) -> u32
     0
 }
 
-// The neutral sample of a depth, 0 where there is no such depth.
-pub fn neutral_of(bits: u32) -> u16
-    ensures { λ r. ⌜ r ≡ neutralFor bits ⌝ }
-{
-    match bits {
-        8 => 128,
-        10 => 512,
-        12 => 2048,
-        _ => 0,
-    }
-}
-
 // Reference rows with the missing entries substituted (H.265 8.4.4.2.2, document 01, module 3).
 pub fn substitute_refs(rows: Rows, flags: Flags, n: usize, bits: u32) -> Gathered
-    ensures { λ r. ⌜ r ≡ substituteDoor rows flags n bits ⌝ }
+    ensures { λ r. ⌜ r ≡ substituteRefs rows flags n bits ⌝ }
 {
     let no = substitute_no(n, bits);
     if no != 0 {
         return Gathered {
             no,
-            rows: level_rows(0),
+            rows: rows::level_rows(0),
         };
     }
     Gathered {
         no: 0,
-        rows: substitute(rows, flags, n, neutral_of(bits)),
-    }
-}
-
-// Every entry at one value.
-pub fn level_rows(v: u16) -> Rows
-    ensures { λ r. ⌜ r ≡ levelRows v ⌝ }
-{
-    Rows {
-        corner: v,
-        above: [v; 65],
-        left: [v; 65],
+        rows: substitute(rows, flags, n, depth::neutral_of(bits)),
     }
 }

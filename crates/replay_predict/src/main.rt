@@ -13,7 +13,7 @@ ghost use Prim.Native.Nat.{_+_, _≤_, _<_};
 use domain::rows::Rows;
 use listing::Count;
 use predict::angular;
-use predict::flat;
+use predict::planar_dc;
 
 // What a line gives a call, and the number and the value that it wants.
 struct Call {
@@ -130,13 +130,13 @@ fn luma_same(line: &[u8], call: Call, above: &[u16], left: &[u16]) -> bool {
 
 fn planar_same(line: &[u8], call: Call, above: &[u16], left: &[u16]) -> bool {
     let mut pred = [4660u16; 1024];
-    let no = flat::predict_planar_into(above, left, call.n, &mut pred);
+    let no = planar_dc::predict_planar_into(above, left, call.n, &mut pred);
     (no == call.no) & same(line, &pred, call)
 }
 
 fn dc_same(line: &[u8], call: Call, above: &[u16], left: &[u16]) -> bool {
     let mut pred = [4660u16; 1024];
-    let no = flat::predict_dc_into(above, left, call.n, call.edge, &mut pred);
+    let no = planar_dc::predict_dc_into(above, left, call.n, call.edge, &mut pred);
     (no == call.no) & same(line, &pred, call)
 }
 

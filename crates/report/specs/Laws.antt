@@ -14,14 +14,15 @@ use Rattle.plan.specs.declared.tiling.Block.{Block}
 use Rattle.plan.specs.tiling.Tiling.{place}
 use Rattle.plan.specs.tiling.Plan.{Plan}
 use Rattle.walk.specs.declared.Stepped.{Stepped}
-use Rattle.walk.specs.walked.Block.{World}
+use Rattle.walk.specs.block.Walked.{World}
 use Rattle.walk.specs.calls.Door.{walkVerdict, walkAfter}
 use Rattle.walk.specs.Door.{steppedBy}
-use Rattle.walk.specs.rebuilt.Places.{place-in}
-use Rattle.walk.specs.spans.Spans.{absolutes}
+use Rattle.walk.specs.Lent.{scratchTables}
+use Rattle.walk.specs.calls.Places.{place-in}
+use Rattle.report.specs.sums.Sums.{absolutes}
 use Rattle.report.specs.text.Text.{laid, line}
 use Rattle.report.specs.text.Laws.{Laid, then, said}
-use Rattle.report.specs.Told.{Job, tables, fresh, lines}
+use Rattle.report.specs.Told.{Job, fresh, lines}
 
 -- a plan whose blocks have their residuals among so many, and of which the text has room
 pub record Listed (plan : Plan) (residuals : ℕ) : Type 0 where
@@ -54,9 +55,9 @@ module _ (plan : Plan) (v : List ℤ) (ok : Listed plan (length v)) (k at : ℕ)
       said _ _ (then before this (omega arith)) (ap (λ (u : List ℕ). lines (plan .block) v k ++ u) t ∙ lines-more (plan .block) v k) (omega arith)
 
 -- what the walk gives: its number, the block of a refusal, and the residuals
-pub record Walked (j : Job) (w x : World) (r : Stepped) : Type 0 where
-  pub gives : r ≡ steppedBy (walkVerdict (j .still) (j .plan) tables 0 (j .source) w) (j .plan) fresh (j .plan .count)
-  pub leaves : x ≡ walkAfter (j .still) (j .plan) tables 0 (j .plan .count) (j .source) w
+pub record WholeWalk (j : Job) (w x : World) (r : Stepped) : Type 0 where
+  pub gives : r ≡ steppedBy (walkVerdict (j .still) (j .plan) scratchTables 0 (j .source) w) (j .plan) fresh (j .plan .count)
+  pub leaves : x ≡ walkAfter (j .still) (j .plan) scratchTables 0 (j .plan .count) (j .source) w
 
 -- the first k of n entries, in a buffer of m
 fill-front : {A : Type 0} (f : ℕ → A) (k : ℕ) (d r : List A) → k ≤ length d → fill f k (d ++ r) ≡ fill f k d ++ r

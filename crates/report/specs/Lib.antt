@@ -4,4 +4,5 @@ pub mod Told
 pub mod Laws
 pub mod Whole
 pub mod file
+pub mod sums
 pub mod text

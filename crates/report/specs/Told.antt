@@ -8,16 +8,16 @@ use lib.ListN.{length, replicate}
 use Rattle.plan.specs.declared.tiling.Verdict.{Verdict}
 use Rattle.plan.specs.declared.tiling.Block.{Block}
 use Rattle.plan.specs.tiling.Tiling.{place}
-use Rattle.plan.specs.tiling.Plan.{Plan, planOf}
-use Rattle.walk.specs.declared.still.Still.{Still}
+use Rattle.plan.specs.tiling.Plan.{Plan}
+use Rattle.walk.specs.declared.checks.Still.{Still}
 use Rattle.walk.specs.declared.Progress.{Progress}
-use Rattle.walk.specs.walked.Block.{World}
-use Rattle.walk.specs.still.Checks.{Tables}
+use Rattle.walk.specs.block.Walked.{World}
+use Rattle.walk.specs.Lent.{scratchTables}
 use Rattle.walk.specs.calls.Door.{walkVerdict, walkAfter, replayAfter}
 use Rattle.report.specs.declared.Printout.{Printout}
 use Rattle.report.specs.declared.file.Trailer.{Trailer}
-use Rattle.report.specs.file.File.{trailerOf, fileOk, sourceOf, recordsOf}
-use Rattle.walk.specs.spans.Spans.{agree, absolutes}
+use Rattle.report.specs.file.File.{trailerOf, fileOk, sourceOf, planIn}
+use Rattle.report.specs.sums.Sums.{agree, absolutes}
 use Rattle.report.specs.text.Text.{laid, line, refusal, ending}
 
 -- a file's contents: the still, its plan and its source
@@ -31,12 +31,9 @@ abbrev pub stillOf : Trailer → Still
 stillOf t = record { bits = t .bits; frame = record { width = t .width; height = t .height; ctu = t .ctu } }
 
 abbrev pub jobOf : List ℕ → Job
-jobOf b = let t = trailerOf b in record { still = stillOf t; plan = planOf (recordsOf b t); source = sourceOf b t }
+jobOf b = let t = trailerOf b in record { still = stillOf t; plan = planIn b t; source = sourceOf b t }
 
--- the program's own: scratch tables, a fresh record, a plane of zeros, work plane and residuals before the walk
-abbrev pub tables : Tables
-tables = record { refs = 193; indices = 32; fractions = 32 }
-
+-- the program's own: a fresh record, a plane of zeros, work plane and residuals before the walk
 abbrev pub fresh : Progress
 fresh = record { done = 0 }
 
@@ -48,14 +45,14 @@ blank s = record { work = zeros s; residuals = replicate (s .frame .height * s .
 
 -- the walk's verdict and its residuals
 abbrev pub verdict : Job → Verdict
-verdict j = walkVerdict (j .still) (j .plan) tables 0 (j .source) (blank (j .still))
+verdict j = walkVerdict (j .still) (j .plan) scratchTables 0 (j .source) (blank (j .still))
 
 abbrev pub residuals : Job → List ℤ
-residuals j = walkAfter (j .still) (j .plan) tables 0 (j .plan .count) (j .source) (blank (j .still)) .residuals
+residuals j = walkAfter (j .still) (j .plan) scratchTables 0 (j .plan .count) (j .source) (blank (j .still)) .residuals
 
 -- the replay over zeros
 abbrev pub replayed : Job → List ℕ
-replayed j = replayAfter (j .still) (j .plan) tables 0 (j .plan .count) (residuals j) (zeros (j .still))
+replayed j = replayAfter (j .still) (j .plan) scratchTables 0 (j .plan .count) (residuals j) (zeros (j .still))
 
 -- the lines of the first k blocks
 unfoldable pub lines : (ℕ → Block) → List ℤ → ℕ → List ℕ

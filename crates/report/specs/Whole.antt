@@ -6,7 +6,7 @@ use Prim.Native.Nat.{ℕ, _+_, _-_, _*_, _≤_, min}
 use native.Mathlib.Omega.{arith}
 use lib.Dec.{leb, eqb}
 use lib.IntN.{ℤ, pos}
-use lib.ListN.{length, take, drop, replicate, length-append, length-replicate}
+use lib.ListN.{length, getD, take, drop, replicate, length-append, length-replicate}
 use lib.Seq.{length-take-le}
 use borrow.Author.Tests.{leb-true, eqb-true, eq-eqb, ne-eqb}
 use Rattle.laws.specs.Fill.{fill}
@@ -15,24 +15,25 @@ use Rattle.laws.specs.Bytes.{leAt}
 use Rattle.laws.specs.Choose.{if-yes, if-no, both-true, unserved}
 use Rattle.domain.specs.Facts.{size-small}
 use Rattle.report.specs.declared.file.Trailer.{Trailer}
-use Rattle.report.specs.file.File.{trailerOf, area, regionsOk, fileOk, sourceOf, recordAt, recordsOf}
+use Rattle.report.specs.file.File.{trailerOf, area, regionsOk, fileOk, tabulated, sourceOf, planIn}
 use Rattle.plan.specs.declared.tiling.Verdict.{Verdict}
 use Rattle.plan.specs.tiling.Plan.{Plan, planOf}
 use Rattle.plan.specs.tiling.Cover.{area as plan-area}
-use Rattle.walk.specs.declared.still.Still.{Still}
+use Rattle.walk.specs.declared.checks.Still.{Still}
 use Rattle.walk.specs.declared.Progress.{Progress}
 use Rattle.walk.specs.declared.Stepped.{Stepped}
-use Rattle.walk.specs.walked.Block.{World}
+use Rattle.walk.specs.block.Walked.{World}
 use Rattle.walk.specs.calls.Door.{walkVerdict, walkAfter, replayAfter}
 use Rattle.walk.specs.calls.Ready.{Sound}
 use Rattle.walk.specs.calls.Laws.{walk-sound}
 use Rattle.walk.specs.Door.{steppedBy}
-use Rattle.walk.specs.spans.Spans.{agree}
+use Rattle.walk.specs.Lent.{scratchTables}
+use Rattle.report.specs.sums.Sums.{agree}
 use Rattle.report.specs.text.Text.{laid, refusal, ending}
 use Rattle.report.specs.text.Laws.{Laid}
 use Rattle.report.specs.declared.Printout.{Printout}
-use Rattle.report.specs.Told.{Job, stillOf, jobOf, tables, fresh, zeros, blank, verdict, residuals, replayed, lines, told, printed, reportOf}
-use Rattle.report.specs.Laws.{Listed, Walked, take-fill}
+use Rattle.report.specs.Told.{Job, stillOf, jobOf, fresh, zeros, blank, verdict, residuals, replayed, lines, told, printed, reportOf}
+use Rattle.report.specs.Laws.{Listed, WholeWalk, take-fill}
 
 -- what the program lends a walk: few blocks, planes and residuals of zeros, room for the text
 pub record Blank (s : Still) (blocks : ℕ) (w : World) (plane : List ℕ) (room : ℕ) : Type 0 where
@@ -52,9 +53,9 @@ stepped-no v plan p grant = go (eqb (v .no) 0) refl _ refl
 stepped-block : (v : Verdict) (plan : Plan) (p : Progress) (grant : ℕ) → (v .no ≡ 0 → ⊥) → steppedBy v plan p grant .block ≡ v .block
 stepped-block v plan p grant h = ap (λ (a : Stepped). a .block) (sym (unserved (v .no) _ _ h))
 
-module _ {j : Job} {w x : World} {r : Stepped} (h : Walked j w x r) (b : w ≡ blank (j .still)) where
+module _ {j : Job} {w x : World} {r : Stepped} (h : WholeWalk j w x r) (b : w ≡ blank (j .still)) where
   given : r ≡ steppedBy (verdict j) (j .plan) fresh (j .plan .count)
-  given = h .gives ∙ ap (λ (u : World). steppedBy (walkVerdict (j .still) (j .plan) tables 0 (j .source) u) (j .plan) fresh (j .plan .count)) b
+  given = h .gives ∙ ap (λ (u : World). steppedBy (walkVerdict (j .still) (j .plan) scratchTables 0 (j .source) u) (j .plan) fresh (j .plan .count)) b
 
   number-is : r .no ≡ verdict j .no
   number-is = ap (λ (u : Stepped). u .no) given ∙ stepped-no (verdict j) (j .plan) fresh (j .plan .count)
@@ -67,13 +68,13 @@ module _ {j : Job} {w x : World} {r : Stepped} (h : Walked j w x r) (b : w ≡ b
       ∙ if-no (eqb (verdict j .no) 0) _ _ _ (ne-eqb (verdict j .no) 0 k) refl
 
   pub residuals-are : x .residuals ≡ residuals j
-  residuals-are = ap (λ (u : World). u .residuals) (h .leaves) ∙ ap (λ (u : World). walkAfter (j .still) (j .plan) tables 0 (j .plan .count) (j .source) u .residuals) b
+  residuals-are = ap (λ (u : World). u .residuals) (h .leaves) ∙ ap (λ (u : World). walkAfter (j .still) (j .plan) scratchTables 0 (j .plan .count) (j .source) u .residuals) b
 
   module _ (z : r .no ≡ 0) where
-    sound : Sound (j .still) (j .plan) (length (w .work)) (length (w .residuals)) tables × ((length (j .source) ≡ length (w .work)) × (0 ≤ j .plan .count))
+    sound : Sound (j .still) (j .plan) (length (w .work)) (length (w .residuals)) scratchTables × ((length (j .source) ≡ length (w .work)) × (0 ≤ j .plan .count))
     sound =
-        walk-sound (j .still) (j .plan) tables 0 (j .source) w
-        (ap (λ (u : World). walkVerdict (j .still) (j .plan) tables 0 (j .source) u .no) b ∙ sym number-is ∙ z)
+        walk-sound (j .still) (j .plan) scratchTables 0 (j .source) w
+        (ap (λ (u : World). walkVerdict (j .still) (j .plan) scratchTables 0 (j .source) u .no) b ∙ sym number-is ∙ z)
 
     pub listed-all : (n : ℕ) → n ≡ length (w .residuals) → j .plan .count ≤ 512 → Listed (j .plan) n
     listed-all n e few =
@@ -90,12 +91,12 @@ module _ {j : Job} {w x : World} {r : Stepped} (h : Walked j w x r) (b : w ≡ b
         ap length e ∙ length-replicate n 0 ∙ sym (length-replicate n 0) ∙ sym (ap (λ (u : World). length (u .work)) b) ∙ sym (sound .1 .0)
 
     pub served-told : (plane back : List ℕ) (same : Bool) → plane ≡ zeros (j .still)
-        → back ≡ replayAfter (j .still) (j .plan) tables 0 (j .plan .count) (x .residuals) plane → same ≡ agree back (j .source) (length (j .source))
+        → back ≡ replayAfter (j .still) (j .plan) scratchTables 0 (j .plan .count) (x .residuals) plane → same ≡ agree back (j .source) (length (j .source))
         → lines (j .plan .block) (x .residuals) (j .plan .count) ++ ending (j .plan .count) same ≡ told j
     unfolding told
     served-told plane back same e q s =
         let v = residuals-are in
-        let f : back ≡ replayed j = q ∙ ap₂ (λ (u : List ℤ) (d : List ℕ). replayAfter (j .still) (j .plan) tables 0 (j .plan .count) u d) v e in
+        let f : back ≡ replayed j = q ∙ ap₂ (λ (u : List ℤ) (d : List ℕ). replayAfter (j .still) (j .plan) scratchTables 0 (j .plan .count) u d) v e in
         ap₂ (λ (u : List ℤ) (t : Bool). lines (j .plan .block) u (j .plan .count) ++ ending (j .plan .count) t) v (s ∙ ap (λ (d : List ℕ). agree d (j .source) (length (j .source))) f)
         ∙ if-yes (eqb (verdict j .no) 0) _ _ _ (eq-eqb (verdict j .no) 0 (sym number-is ∙ z)) refl
 
@@ -134,6 +135,9 @@ zeros-long n m z {d} e h = part-long n d (ap length e ∙ length-replicate m z) 
 pub fill-long : {A : Type 0} (f : ℕ → A) (k m : ℕ) (z : A) {d : List A} → d ≡ fill f (min k m) (replicate m z) → k ≤ m → k ≡ length (take k d)
 fill-long f k m z {d} e h = part-long k d (ap length e ∙ length-fill f (min k m) (replicate m z) ∙ length-replicate m z) h
 
+pub fill-room : {A : Type 0} (f : ℕ → A) (k m n : ℕ) (z : A) {d : List A} → d ≡ fill f k (replicate m z) → n ≤ m → n ≤ length d
+fill-room f k m n z {d} e h = omega (arith, ap length e ∙ length-fill f k (replicate m z) ∙ length-replicate m z)
+
 take-zeros : {A : Type 0} (n m : ℕ) (z : A) → n ≤ m → take n (replicate m z) ≡ replicate n z
 unfolding fill
 take-zeros n m z h = take-fill (λ k. z) 0 n m z (omega arith) h
@@ -149,17 +153,30 @@ blank-part s t n blocks room d e v h i m k r p q u =
     let c : take n e ≡ zeros s = ap (take n) u ∙ take-zeros n 8192 0 l ∙ ap (λ (x : ℕ). replicate x 0) g in
     record { few = omega (arith, k, h .blocks-few); world = λ x. record { work = a x; residuals = b x }; plane-zero = c; roomy = r }
 
+-- a field that is read is that of the file's records
+field-is : (f : ℕ → ℕ) (n : ℕ) (d : List ℕ) → n ≤ 512 → d ≡ fill f (min n 512) (replicate 512 0) → take n d ≡ tabulated f n 0
+field-is f n d h p =
+    let few : min n 512 ≡ n = omega arith in
+    ap (take n) p ∙ ap (λ (j : ℕ). take n (fill f j (replicate 512 0))) few ∙ take-fill f n n 512 0 (omega arith) h
+
 -- what is read is what the file asks to be walked
-pub job-is : (b : List ℕ) (t : Trailer) (s : Still) (n : ℕ) (plan : List (List ℕ)) (source : List ℕ) → Held b t → s ≡ stillOf t → n ≡ area t
-    → plan ≡ fill (λ (k : ℕ). recordAt b (t .plan + 6 * k)) (min (t .blocks) 512) (replicate 512 (replicate 4 0))
+pub job-is : (b : List ℕ) (t : Trailer) (s : Still) (n : ℕ) (rows cols sides modes source : List ℕ) → Held b t → s ≡ stillOf t → n ≡ area t
+    → rows ≡ fill (λ (k : ℕ). leAt 2 b (t .plan + 6 * k)) (min (t .blocks) 512) (replicate 512 0)
+    → cols ≡ fill (λ (k : ℕ). leAt 2 b (t .plan + 2 + 6 * k)) (min (t .blocks) 512) (replicate 512 0)
+    → sides ≡ fill (λ (k : ℕ). getD b (t .plan + 4 + 6 * k) 0) (min (t .blocks) 512) (replicate 512 0)
+    → modes ≡ fill (λ (k : ℕ). getD b (t .plan + 5 + 6 * k) 0) (min (t .blocks) 512) (replicate 512 0)
     → source ≡ fill (λ (i : ℕ). leAt 2 b (t .samples + 2 * i)) (min n 8192) (replicate 8192 0)
-    → record { still = s; plan = planOf (take (t .blocks) plan); source = take n source } ≡ jobOf b
-job-is b t s n plan source h e m p q =
-    let few : min (t .blocks) 512 ≡ t .blocks = omega (arith, h .blocks-few) in
+    → let m = t .blocks in
+    record { still = s; plan = planOf (take m rows) (take m cols) (take m sides) (take m modes); source = take n source } ≡ jobOf b
+job-is b t s n rows cols sides modes source h e m p₀ p₁ p₂ p₃ q =
     let all : min n 8192 ≡ area t = omega (arith, h .samples-few, m) in
-    let x : take (t .blocks) plan ≡ recordsOf b t = ap (take (t .blocks)) p ∙ ap (λ (j : ℕ). take (t .blocks) (fill (λ (k : ℕ). recordAt b (t .plan + 6 * k)) j (replicate 512 (replicate 4 0)))) few ∙ take-fill _ (t .blocks) (t .blocks) 512 (replicate 4 0) (omega arith) (h .blocks-few) in
+    let x₀ = field-is _ (t .blocks) rows (h .blocks-few) p₀ in
+    let x₁ = field-is _ (t .blocks) cols (h .blocks-few) p₁ in
+    let x₂ = field-is _ (t .blocks) sides (h .blocks-few) p₂ in
+    let x₃ = field-is _ (t .blocks) modes (h .blocks-few) p₃ in
     let y : take n source ≡ sourceOf b t = ap (take n) q ∙ ap₂ (λ (j k : ℕ). take j (fill (λ (i : ℕ). leAt 2 b (t .samples + 2 * i)) k (replicate 8192 0))) m all ∙ take-fill _ (area t) (area t) 8192 0 (omega arith) (h .samples-few) in
-    (λ i. record { still = e i; plan = planOf (x i); source = y i }) ∙ ap (λ (u : Trailer). record { still = stillOf u; plan = planOf (recordsOf b u); source = sourceOf b u }) (h .trailer)
+    (λ i. record { still = e i; plan = planOf (x₀ i) (x₁ i) (x₂ i) (x₃ i); source = y i })
+    ∙ ap (λ (u : Trailer). record { still = stillOf u; plan = planIn b u; source = sourceOf b u }) (h .trailer)
 
 -- the whole text of an input
 pub printed-is : (b : List ℕ) (t : Bool) → fileOk b ≡ t → cond t (told (jobOf b)) (refusal 12 0) ≡ printed b

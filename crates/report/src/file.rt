@@ -1,11 +1,12 @@
-// The program's input (document 01, 'The program'): its trailer, number 12, and the samples and block records in it. A byte past the end counts
-// as 0, so every reader takes every input. Rests on the numbers in bytes.
+// The program's input (document 01, 'The program'): its trailer, number 12, and the samples and block records in it. A byte past
+// the end counts as 0, so every reader takes every input. Rests on the numbers in bytes.
 ghost use mathlib.Core.Path.{_≡_};
-ghost use Prim.Native.Nat.{ℕ, _+_, _-_, _*_, _<_, min};
+ghost use Prim.Native.Nat.{ℕ, _+_, _-_, _*_, _≤_, _<_, min};
 ghost use lib.ListN.{getD, replicate};
 ghost use Rattle.laws.specs.Fill.{fill};
 ghost use Rattle.laws.specs.Bytes.{leAt};
-ghost use Rattle.report.specs.file.File.{trailerOf, area, regionsOk, fileOk, recordAt};
+ghost use Rattle.report.specs.file.File.{trailerOf, area, regionsOk, fileOk};
+use domain::helpers;
 
 // The last 16 bytes of the input.
 pub struct Trailer {
@@ -53,7 +54,7 @@ fn start_of(len: usize) -> usize
     len - 16
 }
 
-pub fn trailer_of(b: &[u8]) -> Trailer
+pub(crate) fn trailer_of(b: &[u8]) -> Trailer
     ensures { λ r. ⌜ r ≡ trailerOf (now (b .entry)) ⌝ }
 {
     let t = start_of(b.len());
@@ -76,7 +77,7 @@ pub fn trailer_of(b: &[u8]) -> Trailer
 }
 
 // How many samples the picture has.
-pub fn area_of(t: Trailer) -> usize
+pub(crate) fn area_of(t: Trailer) -> usize
     ensures { λ r. ⌜ (r ≡ area t) × (r < 4294967296) ⌝ }
 {
     (t.height as usize) * (t.width as usize)
@@ -95,7 +96,7 @@ fn regions_ok(t: Trailer, start: usize) -> bool
 }
 
 // Whether number 12 is not given.
-pub fn file_ok(b: &[u8]) -> bool
+pub(crate) fn file_ok(b: &[u8]) -> bool
     ensures { λ r. ⌜ r ≡ fileOk (now (b .entry)) ⌝ }
 {
     if b.len() < 16 {
@@ -107,19 +108,13 @@ pub fn file_ok(b: &[u8]) -> bool
     regions_ok(trailer_of(b), b.len() - 16)
 }
 
-fn lesser(a: usize, b: usize) -> usize
-    ensures { λ r. ⌜ r ≡ min a b ⌝ }
-{
-    if a < b { a } else { b }
-}
-
 // So many samples from `at` on, 8,192 at most.
-pub fn read_samples(b: &[u8], at: u32, many: usize) -> [u16; 8192]
+pub(crate) fn read_samples(b: &[u8], at: u32, many: usize) -> [u16; 8192]
     ensures { λ r. ⌜ r ≡ fill (λ (i : ℕ). leAt 2 (now (b .entry)) (at + 2 * i)) (min many 8192) (replicate 8192 0) ⌝ }
 {
     let mut source = [0u16; 8192];
     let start = at as usize;
-    let end = lesser(many, 8192);
+    let end = helpers::min_len(many, 8192);
     let mut i = 0;
     while i < end {
         source[i] = two_at(b, start + 2 * i);
@@ -134,29 +129,32 @@ fn wide(x: u8) -> u32
     x as u32
 }
 
-// A block record.
-fn record_at(b: &[u8], at: usize) -> [u32; 4]
-    requires { ⌜ at + 6 < 18446744073709551616 ⌝ }
-    ensures { λ r. ⌜ r ≡ recordAt (now (b .entry)) at ⌝ }
+// A field of so many block records, 512 at most: two bytes of each, from `at` on, six bytes apart.
+pub(crate) fn read_twos(b: &[u8], at: usize, many: usize) -> [u32; 512]
+    requires { ⌜ at ≤ 4294967300 ⌝ }
+    ensures { λ r. ⌜ r ≡ fill (λ (k : ℕ). leAt 2 (now (b .entry)) (at + 6 * k)) (min many 512) (replicate 512 0) ⌝ }
 {
-    let row = two_at(b, at) as u32;
-    let col = two_at(b, at + 2) as u32;
-    let side = wide(byte_at(b, at + 4));
-    let mode = wide(byte_at(b, at + 5));
-    [row, col, side, mode]
-}
-
-// So many block records from `at` on, 512 at most.
-pub fn read_plan(b: &[u8], at: u32, many: usize) -> [[u32; 4]; 512]
-    ensures { λ r. ⌜ r ≡ fill (λ (k : ℕ). recordAt (now (b .entry)) (at + 6 * k)) (min many 512) (replicate 512 (replicate 4 0)) ⌝ }
-{
-    let mut plan = [[0u32; 4]; 512];
-    let start = at as usize;
-    let end = lesser(many, 512);
+    let mut field = [0u32; 512];
+    let end = helpers::min_len(many, 512);
     let mut k = 0;
     while k < end {
-        plan[k] = record_at(b, start + 6 * k);
+        field[k] = two_at(b, at + 6 * k) as u32;
         k += 1;
     }
-    plan
+    field
+}
+
+// The same of one byte.
+pub(crate) fn read_ones(b: &[u8], at: usize, many: usize) -> [u32; 512]
+    requires { ⌜ at ≤ 4294967300 ⌝ }
+    ensures { λ r. ⌜ r ≡ fill (λ (k : ℕ). getD (now (b .entry)) (at + 6 * k) 0) (min many 512) (replicate 512 0) ⌝ }
+{
+    let mut field = [0u32; 512];
+    let end = helpers::min_len(many, 512);
+    let mut k = 0;
+    while k < end {
+        field[k] = wide(byte_at(b, at + 6 * k));
+        k += 1;
+    }
+    field
 }

@@ -1,6 +1,7 @@
 // What intrawalk prints of its input (document 01, 'The program'): the whole text, from the bytes alone.
 // Rests on the contracts of walk and replay, of the sums and of the lines.
 pub mod file;
+mod sums;
 pub mod text;
 
 ghost use mathlib.Core.Path.{_≡_};
@@ -9,18 +10,17 @@ ghost use lib.ListN.{replicate};
 ghost use lib.ListN.{length as count};
 ghost use lib.IntN.{pos};
 ghost use Rattle.plan.specs.tiling.Plan.{planOf};
+ghost use Rattle.walk.specs.Lent.{scratchTables, world};
 ghost use Rattle.walk.specs.calls.Door.{replayAfter};
-ghost use Rattle.report.specs.Told.{stillOf, tables, lines, told, jobOf, printed, reportOf};
+ghost use Rattle.report.specs.Told.{stillOf, lines, told, jobOf, printed, reportOf};
 ghost use Rattle.report.specs.text.Laws.{Laid};
-ghost use Rattle.report.specs.Laws.{Listed, Walked};
+ghost use Rattle.report.specs.Laws.{Listed, WholeWalk};
 ghost use Rattle.report.specs.Whole.{Blank, Held};
 use crate::file::Trailer;
-use plan::tiling::Block;
 use plan::tiling::Frame;
 use walk::Progress;
 use walk::Stepped;
-use walk::spans;
-use walk::still::Still;
+use walk::checks::Still;
 
 // The text and how many bytes it has.
 pub struct Printout {
@@ -47,31 +47,28 @@ fn blank_text() -> [u8; 65536]
     [0; 65536]
 }
 
-// Block i of a plan.
-fn block_at(plan: &[[u32; 4]], i: usize) -> Block
-    requires { ⌜ i < count (now plan) ⌝ }
-    ensures { λ r. ⌜ r ≡ planOf (now (plan .entry)) .block i ⌝ }
-{
-    Block {
-        row: plan[i][0],
-        col: plan[i][1],
-        side: plan[i][2],
-        mode: plan[i][3],
-    }
-}
-
 // The lines of all blocks.
-fn lay_lines(out: &mut [u8], plan: &[[u32; 4]], residuals: &[i32]) -> usize
-    requires { ⌜ Listed (planOf (now plan)) (count (now residuals)) × (65536 ≤ count (now out)) ⌝ }
-    ensures { λ r. ⌜ Laid 0 (lines (planOf (now (plan .entry)) .block) (now (residuals .entry)) (count (now (plan .entry)))) (now (out .entry)) (now (out .exit)) r 53760 ⌝ }
+fn lay_lines(
+    out: &mut [u8],
+    rows: &[u32],
+    cols: &[u32],
+    sides: &[u32],
+    modes: &[u32],
+    residuals: &[i32],
+) -> usize
+    requires { ⌜ Listed (planOf (now rows) (now cols) (now sides) (now modes)) (count (now residuals)) × (65536 ≤
+        count (now out)) ⌝ }
+    ensures { λ r. ⌜ Laid 0 (lines ((planOf (now (rows .entry)) (now (cols .entry)) (now (sides .entry)) (now (modes
+        .entry))) .block) (now (residuals .entry)) (count (now (rows .entry)))) (now (out .entry)) (now (out .exit)) r
+        53760 ⌝ }
 {
     let mut end = 0;
     let mut at = 0;
     let mut k = 0;
-    while k < plan.len() {
-        let b = block_at(plan, k);
+    while k < rows.len() {
+        let b = plan::block_at(rows, cols, sides, modes, k);
         let n = b.side as usize;
-        end = text::lay_line(&mut *out, end, b, spans::sum_of(residuals, at, n * n));
+        end = text::lay_line(&mut *out, end, b, sums::sum_of(residuals, at, n * n));
         at += n * n;
         k += 1;
     }
@@ -81,47 +78,72 @@ fn lay_lines(out: &mut [u8], plan: &[[u32; 4]], residuals: &[i32]) -> usize
 // The whole walk.
 fn walk_all(
     still: Still,
-    plan: &[[u32; 4]],
+    rows: &[u32],
+    cols: &[u32],
+    sides: &[u32],
+    modes: &[u32],
     source: &[u16],
     work: &mut [u16],
     residuals: &mut [i32],
 ) -> Stepped
-    requires { ⌜ count (now plan) ≤ 512 ⌝ }
-    ensures { λ r. ⌜ Walked (record { still = still; plan = planOf (now (plan .entry)); source = now (source .entry) }) (record { work = now (work .entry); residuals = now (residuals .entry) }) (record { work = now (work .exit); residuals = now (residuals .exit) }) r ⌝ }
+    requires { ⌜ count (now rows) ≤ 512 ⌝ }
+    ensures { λ r. ⌜ WholeWalk (record {
+      still = still;
+      plan = planOf (now (rows .entry)) (now (cols .entry)) (now
+          (sides .entry)) (now (modes .entry));
+      source = now (source .entry);
+    }) (world (now (work .entry)) (now
+        (residuals .entry))) (world (now (work .exit)) (now (residuals .exit))) r ⌝ }
 {
     let mut refs = [0u16; 193];
     let mut indices = [0u32; 32];
     let mut fractions = [0u32; 32];
     Progress::fresh().walk_numbers(
         still,
-        plan,
+        rows,
+        cols,
+        sides,
+        modes,
         source,
         &mut *work,
         &mut *residuals,
         &mut refs,
         &mut indices,
         &mut fractions,
-        plan.len() as u32,
+        rows.len() as u32,
     )
 }
 
 // The whole replay.
-fn replay_all(still: Still, plan: &[[u32; 4]], residuals: &[i32], plane: &mut [u16])
-    requires { ⌜ count (now plan) ≤ 512 ⌝ }
-    ensures { λ _. ⌜ now (plane .exit) ≡ replayAfter still (planOf (now (plan .entry))) tables 0 (count (now (plan .entry))) (now (residuals .entry)) (now (plane .entry)) ⌝ }
+fn replay_all(
+    still: Still,
+    rows: &[u32],
+    cols: &[u32],
+    sides: &[u32],
+    modes: &[u32],
+    residuals: &[i32],
+    plane: &mut [u16],
+)
+    requires { ⌜ count (now rows) ≤ 512 ⌝ }
+    ensures { λ _. ⌜ now (plane .exit) ≡ replayAfter still (planOf (now (rows .entry)) (now (cols .entry)) (now (sides
+        .entry)) (now (modes .entry))) scratchTables 0 (count (now (rows .entry))) (now (residuals .entry)) (now
+        (plane .entry)) ⌝ }
 {
     let mut refs = [0u16; 193];
     let mut indices = [0u32; 32];
     let mut fractions = [0u32; 32];
     Progress::fresh().replay_numbers(
         still,
-        plan,
+        rows,
+        cols,
+        sides,
+        modes,
         residuals,
         &mut *plane,
         &mut refs,
         &mut indices,
         &mut fractions,
-        plan.len() as u32,
+        rows.len() as u32,
     );
 }
 
@@ -129,23 +151,41 @@ fn replay_all(still: Still, plan: &[[u32; 4]], residuals: &[i32], plane: &mut [u
 fn tell(
     out: &mut [u8],
     still: Still,
-    plan: &[[u32; 4]],
+    rows: &[u32],
+    cols: &[u32],
+    sides: &[u32],
+    modes: &[u32],
     source: &[u16],
     work: &mut [u16],
     residuals: &mut [i32],
     plane: &mut [u16],
 ) -> usize
-    requires { ⌜ Blank still (count (now plan)) (record { work = now work; residuals = now residuals }) (now plane) (count (now out)) ⌝ }
-    ensures { λ r. ⌜ Laid 0 (told (record { still = still; plan = planOf (now (plan .entry)); source = now (source .entry) })) (now (out .entry)) (now (out .exit)) r 65536 ⌝ }
+    requires { ⌜ Blank still (count (now rows)) (world (now work) (now residuals)) (now plane) (count (now out)) ⌝ }
+    ensures { λ r. ⌜ Laid 0 (told (record {
+      still = still;
+      plan = planOf (now (rows .entry)) (now (cols .entry)) (now
+          (sides .entry)) (now (modes .entry));
+      source = now (source .entry);
+    })) (now (out .entry)) (now (out .exit)) r
+        65536 ⌝ }
 {
-    let walked = walk_all(still, plan, source, &mut *work, &mut *residuals);
+    let walked = walk_all(
+        still,
+        rows,
+        cols,
+        sides,
+        modes,
+        source,
+        &mut *work,
+        &mut *residuals,
+    );
     if walked.no != 0 {
         return text::lay_refusal(&mut *out, walked.no, walked.block);
     }
-    replay_all(still, plan, residuals, &mut *plane);
-    let same = spans::agrees(plane, source);
-    let lines = lay_lines(&mut *out, plan, residuals);
-    text::lay_ending(&mut *out, lines, plan.len(), same)
+    replay_all(still, rows, cols, sides, modes, residuals, &mut *plane);
+    let same = sums::agrees(plane, source);
+    let lines = lay_lines(&mut *out, rows, cols, sides, modes, residuals);
+    text::lay_ending(&mut *out, lines, rows.len(), same)
 }
 
 fn still_of(t: Trailer) -> Still
@@ -170,14 +210,21 @@ fn tell_file(out: &mut [u8], b: &[u8], t: Trailer) -> usize
     let samples = file::area_of(t);
     let blocks = t.blocks as usize;
     let source = file::read_samples(b, t.samples, samples);
-    let plan = file::read_plan(b, t.plan, blocks);
+    let at = t.plan as usize;
+    let rows = file::read_twos(b, at, blocks);
+    let cols = file::read_twos(b, at + 2, blocks);
+    let sides = file::read_ones(b, at + 4, blocks);
+    let modes = file::read_ones(b, at + 5, blocks);
     let mut work = blank_plane();
     let mut residuals = blank_residuals();
     let mut plane = blank_plane();
     tell(
         &mut *out,
         still_of(t),
-        &plan[..blocks],
+        &rows[..blocks],
+        &cols[..blocks],
+        &sides[..blocks],
+        &modes[..blocks],
         &source[..samples],
         &mut work[..samples],
         &mut residuals[..samples],

@@ -1,12 +1,12 @@
-// The lines that intrawalk prints (document 01, 'The program'), laid over a lent buffer where it has room for them. Total. Rests on the kit's contract for
-// decimal numbers.
+// The lines that intrawalk prints (document 01, 'The program'), laid over a lent buffer where it has room for them. Total. Rests on
+// the kit's contract for decimal numbers.
 ghost use mathlib.Core.Path.{_≡_};
 ghost use Prim.Native.Nat.{_+_, _≤_};
+ghost use lib.Dec.{leb};
 ghost use lib.ListN.{length};
 ghost use Rattle.report.specs.text.Text.{number, line, refusal, ending, laidIn, endIn};
 ghost use Rattle.report.specs.text.Laws.{Laid};
 use plan::tiling::Block;
-use walk::spans;
 
 // Lays a text over a buffer from `at` on, and tells where it ends.
 fn lay(out: &mut [u8], at: usize, s: &[u8]) -> usize
@@ -65,31 +65,44 @@ fn ending_at(out: &mut [u8], at: usize, blocks: usize, same: bool) -> usize
     lay(&mut *out, next, b"differs\n")
 }
 
-// A line for a block from `at` on. Each of these tells where its text ends; where there is no room it writes nothing and gives `at` back.
-pub fn lay_line(out: &mut [u8], at: usize, b: Block, sum: u64) -> usize
-    ensures { λ r. ⌜ (now (out .exit) ≡ laidIn 105 at (line b sum) (now (out .entry))) × (r ≡ endIn 105 at (line b sum) (now (out .entry))) ⌝ }
+// Whether k entries from `at` on lie among so many.
+fn lies(at: usize, k: usize, len: usize) -> bool
+    ensures { λ r. ⌜ r ≡ leb (at + k) len ⌝ }
 {
-    if !spans::lies(at, 105, out.len()) {
+    if at > len {
+        return false;
+    }
+    k <= len - at
+}
+
+// A line for a block from `at` on. Each of these tells where its text ends; where there is no room it writes nothing and gives `at` back.
+pub(crate) fn lay_line(out: &mut [u8], at: usize, b: Block, sum: u64) -> usize
+    ensures { λ r. ⌜ (now (out .exit) ≡ laidIn 105 at (line b sum) (now (out .entry))) × (r ≡ endIn 105 at (line b
+        sum) (now (out .entry))) ⌝ }
+{
+    if !lies(at, 105, out.len()) {
         return at;
     }
     line_at(&mut *out, at, b, sum)
 }
 
 // `refused N B` at the front.
-pub fn lay_refusal(out: &mut [u8], number: u32, block: u32) -> usize
-    ensures { λ r. ⌜ (now (out .exit) ≡ laidIn 50 0 (refusal number block) (now (out .entry))) × (r ≡ endIn 50 0 (refusal number block) (now (out .entry))) ⌝ }
+pub(crate) fn lay_refusal(out: &mut [u8], number: u32, block: u32) -> usize
+    ensures { λ r. ⌜ (now (out .exit) ≡ laidIn 50 0 (refusal number block) (now (out .entry))) × (r ≡ endIn 50 0
+        (refusal number block) (now (out .entry))) ⌝ }
 {
-    if !spans::lies(0, 50, out.len()) {
+    if !lies(0, 50, out.len()) {
         return 0;
     }
     refusal_at(&mut *out, number, block)
 }
 
 // `end COUNT same` or `end COUNT differs` from `at` on.
-pub fn lay_ending(out: &mut [u8], at: usize, blocks: usize, same: bool) -> usize
-    ensures { λ r. ⌜ (now (out .exit) ≡ laidIn 33 at (ending blocks same) (now (out .entry))) × (r ≡ endIn 33 at (ending blocks same) (now (out .entry))) ⌝ }
+pub(crate) fn lay_ending(out: &mut [u8], at: usize, blocks: usize, same: bool) -> usize
+    ensures { λ r. ⌜ (now (out .exit) ≡ laidIn 33 at (ending blocks same) (now (out .entry))) × (r ≡ endIn 33 at
+        (ending blocks same) (now (out .entry))) ⌝ }
 {
-    if !spans::lies(at, 33, out.len()) {
+    if !lies(at, 33, out.len()) {
         return at;
     }
     ending_at(&mut *out, at, blocks, same)

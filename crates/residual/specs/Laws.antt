@@ -17,8 +17,7 @@ use Rattle.laws.specs.FillLaws.{fill-at, fill-run}
 use Rattle.laws.specs.Choose.{Check, _unless_, firstFail, passed, both-true}
 use Rattle.domain.specs.Domain.{depthOk, sizeOk}
 use Rattle.domain.specs.Facts.{Depth, Size, depth-of, size-of}
-use Rattle.samples.specs.deltas.Deltas.{inRange}
-use Rattle.samples.specs.deltas.Laws.{small}
+use Rattle.samples.specs.deltas.Deltas.{residualOk}
 use Rattle.residual.specs.Residual.{allInRange, blockChecks, residualNo, reconstructNo}
 
 -- nothing laid over nothing
@@ -30,7 +29,7 @@ pub none-in : (rs : List ℤ) → true ≡ allInRange rs 0
 unfolding allInRange
 none-in rs = refl
 
-pub one-more : (rs : List ℤ) (i : ℕ) {a b : Bool} → a ≡ allInRange rs i → b ≡ inRange (getD rs i (pos 0)) → (a && b) ≡ allInRange rs (i + 1)
+pub one-more : (rs : List ℤ) (i : ℕ) {a b : Bool} → a ≡ allInRange rs i → b ≡ residualOk (getD rs i (pos 0)) → (a && b) ≡ allInRange rs (i + 1)
 unfolding allInRange
 one-more rs i p q = rw (add-one, p, q)
 
@@ -38,8 +37,8 @@ pub each-small : (rs : List ℤ) (k : ℕ) → allInRange rs k ≡ true → (i :
 unfolding allInRange
 each-small rs zero e i h = absurd (not-suc-le-zero h)
 each-small rs (suc k) e i h =
-    let o = both-true (allInRange rs k) (inRange (getD rs k (pos 0))) e in
-    ⊎-elim (λ q. rw q (small (getD rs k (pos 0)) (o .1))) (λ l. each-small rs k (o .0) i l) (eq-or-lt-of-le (le-of-suc-le-suc h))
+    let o = both-true (allInRange rs k) (residualOk (getD rs k (pos 0))) e in
+    ⊎-elim (λ q. rw q (leb-true (natAbs (getD rs k (pos 0))) 65535 (o .1))) (λ l. each-small rs k (o .0) i l) (eq-or-lt-of-le (le-of-suc-le-suc h))
 
 -- three buffers hold so many runs of 16
 pub record Fits (runs a b c : ℕ) : Type 0 where

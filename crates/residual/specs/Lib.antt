@@ -1,4 +1,6 @@
 -- Residual: what the two calls give.
 pub mod Residual
--- Laws: the round trip, the range of a residual, and how the tests are taken apart.
+-- Narrow: residuals that fit an i16, which is sooner told than their range.
+pub mod Narrow
+-- Laws: the range of the residuals, and how the tests are taken apart.
 pub mod Laws

@@ -9,7 +9,7 @@ use Rattle.laws.specs.Fill.{fill}
 use Rattle.laws.specs.Choose.{Check, _unless_, firstFail, served}
 use Rattle.h265.specs.Notation.{clipTo}
 use Rattle.domain.specs.Domain.{depthOk, sizeOk}
-use Rattle.samples.specs.deltas.Deltas.{inRange}
+use Rattle.samples.specs.deltas.Deltas.{residualOk}
 
 -- original less prediction, at entry i
 abbrev pub residualAt : List ℕ → List ℕ → ℕ → ℤ
@@ -22,7 +22,7 @@ rebuiltTo largest pred residual i = clipTo largest (pos (getD pred i 0) +ℤ get
 -- the first k are in range
 unfoldable pub allInRange : List ℤ → ℕ → Bool
 allInRange rs zero = true
-allInRange rs (suc k) = allInRange rs k && inRange (getD rs k (pos 0))
+allInRange rs (suc k) = allInRange rs k && residualOk (getD rs k (pos 0))
 
 -- numbers 2 and 5 of three block buffers with so many entries, then more
 abbrev pub blockChecks : ℕ → ℕ → ℕ → ℕ → List Check → List Check

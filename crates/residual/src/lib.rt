@@ -1,4 +1,5 @@
-// Residual and reconstruction. Rests on the standard's clip, the domain's tests, the largest sample of a depth (taps), the arithmetic of one residual (deltas) and the helpers.
+// Residual and reconstruction. Rests on the standard's clip, the domain's tests, the depths, the arithmetic of one residual
+// (deltas) and the helpers.
 ghost use mathlib.Core.Path.{_≡_};
 ghost use mathlib.Core.Bool.{true};
 ghost use Prim.Native.Nat.{ℕ, _+_, _*_, _≤_, _<_};
@@ -7,11 +8,13 @@ ghost use lib.IntN.{pos, natAbs, _+ℤ_};
 ghost use Rattle.laws.specs.Fill.{fill, run};
 ghost use Rattle.h265.specs.Notation.{clipTo};
 ghost use Rattle.domain.specs.Facts.{Size};
-ghost use Rattle.residual.specs.Residual.{residualAt, rebuiltTo, allInRange, residualNo, reconstructNo, residualsAfter, reconstructed};
+ghost use Rattle.residual.specs.Residual.{residualAt, rebuiltTo, allInRange, residualNo, reconstructNo, residualsAfter};
+ghost use Rattle.residual.specs.Residual.{reconstructed};
 ghost use Rattle.residual.specs.Laws.{Fits};
+ghost use Rattle.residual.specs.Narrow.{raise, highPart};
 use domain::helpers;
+use fmt::depth;
 use samples::deltas;
-use samples::taps;
 
 // How many runs of 16 samples a block of side n has.
 fn runs_of(n: usize) -> usize
@@ -52,7 +55,8 @@ fn residual_no(n: usize, orig: usize, pred: usize, residual: usize) -> u32
 // A run of 16 residuals goes by way of an array of its own, so that every sample is read before the first is written.
 fn residual_run(orig: &[u16], pred: &[u16], at: usize) -> [i32; 16]
     requires { ⌜ (at + 16 ≤ length (now orig)) × (at + 16 ≤ length (now pred)) ⌝ }
-    ensures { λ r. ⌜ r ≡ fill (λ (j : ℕ). residualAt (now (orig .entry)) (now (pred .entry)) (at + j)) 16 (replicate 16 (pos 0)) ⌝ }
+    ensures { λ r. ⌜ r ≡ fill (λ (j : ℕ). residualAt (now (orig .entry)) (now (pred .entry)) (at + j)) 16 (replicate
+        16 (pos 0)) ⌝ }
 {
     let mut to = [0i32; 16];
     for j in 0..16 {
@@ -72,7 +76,8 @@ fn store_residuals(from: [i32; 16], at: usize, residual: &mut [i32])
 
 fn residuals(orig: &[u16], pred: &[u16], runs: usize, residual: &mut [i32])
     requires { ⌜ Fits runs (length (now orig)) (length (now pred)) (length (now residual)) ⌝ }
-    ensures { λ _. ⌜ now (residual .exit) ≡ fill (residualAt (now (orig .entry)) (now (pred .entry))) (runs * 16) (now (residual .entry)) ⌝ }
+    ensures { λ _. ⌜ now (residual .exit) ≡ fill (residualAt (now (orig .entry)) (now (pred .entry))) (runs * 16) (now
+        (residual .entry)) ⌝ }
 {
     for r in 0..runs {
         let t = residual_run(orig, pred, r * 16);
@@ -82,7 +87,9 @@ fn residuals(orig: &[u16], pred: &[u16], runs: usize, residual: &mut [i32])
 
 // Original less prediction, into the first n×n entries.
 pub fn compute_residual_i32_into(orig: &[u16], pred: &[u16], n: usize, residual: &mut [i32]) -> u32
-    ensures { λ r. ⌜ (r ≡ residualNo n (length (now (orig .entry))) (length (now (pred .entry))) (length (now (residual .entry)))) × (now (residual .exit) ≡ residualsAfter n (now (orig .entry)) (now (pred .entry)) (now (residual .entry))) ⌝ }
+    ensures { λ r. ⌜ (r ≡ residualNo n (length (now (orig .entry))) (length (now (pred .entry))) (length (now
+        (residual .entry)))) × (now (residual .exit) ≡ residualsAfter n (now (orig .entry)) (now (pred .entry)) (now
+        (residual .entry))) ⌝ }
 {
     let no = residual_no(n, orig.len(), pred.len(), residual.len());
     if no != 0 {
@@ -99,9 +106,23 @@ fn all_in_range(residual: &[i32], runs: usize) -> bool
 {
     let mut ok = true;
     for i in 0..runs * 16 {
-        ok = ok & deltas::in_range(residual[i]);
+        ok = ok & deltas::residual_ok(residual[i]);
     }
     ok
+}
+
+// A number raised by 2^31, after which it is not below 0.
+fn raised(r: i32) -> u32
+    ensures { λ u. ⌜ u ≡ raise r ⌝ }
+{
+    ((r as i64) + 2147483648) as u32
+}
+
+// What r + 32768 has above its 16 low bits: 0 where r fits an i16, and then it is in range.
+fn high_part(r: i32) -> u16
+    ensures { λ h. ⌜ h ≡ highPart r ⌝ }
+{
+    (std::num::wrapping_add_u32(raised(r), 2147516416) / 65536) as u16
 }
 
 // The high parts of so many runs of residuals, one laid over the other.
@@ -111,7 +132,7 @@ fn high_parts(residual: &[i32], runs: usize) -> u16
 {
     let mut parts = 0u16;
     for i in 0..runs * 16 {
-        parts = parts | deltas::high_part(residual[i]);
+        parts = parts | high_part(residual[i]);
     }
     parts
 }
@@ -145,8 +166,10 @@ fn reconstruct_no(bits: u32, n: usize, pred: usize, residual: &[i32], out: usize
 }
 
 fn rebuilt_run(pred: &[u16], residual: &[i32], at: usize, largest: u16) -> [u16; 16]
-    requires { ⌜ (at + 16 ≤ length (now pred)) × ((at + 16 ≤ length (now residual)) × ((i : ℕ) → i < at + 16 → natAbs (getD (now residual) i (pos 0)) ≤ 65535)) ⌝ }
-    ensures { λ r. ⌜ r ≡ fill (λ (j : ℕ). rebuiltTo largest (now (pred .entry)) (now (residual .entry)) (at + j)) 16 (replicate 16 0) ⌝ }
+    requires { ⌜ (at + 16 ≤ length (now pred)) × ((at + 16 ≤ length (now residual)) × ((i : ℕ) → i < at + 16 → natAbs
+        (getD (now residual) i (pos 0)) ≤ 65535)) ⌝ }
+    ensures { λ r. ⌜ r ≡ fill (λ (j : ℕ). rebuiltTo largest (now (pred .entry)) (now (residual .entry)) (at + j)) 16
+        (replicate 16 0) ⌝ }
 {
     let mut to = [0u16; 16];
     for j in 0..16 {
@@ -165,8 +188,10 @@ fn store_samples(from: [u16; 16], at: usize, out: &mut [u16])
 }
 
 fn rebuild(pred: &[u16], residual: &[i32], runs: usize, largest: u16, out: &mut [u16])
-    requires { ⌜ Fits runs (length (now pred)) (length (now residual)) (length (now out)) × ((i : ℕ) → i < runs * 16 → natAbs (getD (now residual) i (pos 0)) ≤ 65535) ⌝ }
-    ensures { λ _. ⌜ now (out .exit) ≡ fill (rebuiltTo largest (now (pred .entry)) (now (residual .entry))) (runs * 16) (now (out .entry)) ⌝ }
+    requires { ⌜ Fits runs (length (now pred)) (length (now residual)) (length (now out)) × ((i : ℕ) → i < runs * 16 →
+        natAbs (getD (now residual) i (pos 0)) ≤ 65535) ⌝ }
+    ensures { λ _. ⌜ now (out .exit) ≡ fill (rebuiltTo largest (now (pred .entry)) (now (residual .entry))) (runs *
+        16) (now (out .entry)) ⌝ }
 {
     for r in 0..runs {
         let t = rebuilt_run(pred, residual, r * 16, largest);
@@ -176,7 +201,9 @@ fn rebuild(pred: &[u16], residual: &[i32], runs: usize, largest: u16, out: &mut 
 
 // Prediction plus residual, brought to the depth's samples, into the first n×n entries.
 pub fn reconstruct_into(pred: &[u16], residual: &[i32], n: usize, bits: u32, out: &mut [u16]) -> u32
-    ensures { λ r. ⌜ (r ≡ reconstructNo bits n (length (now (pred .entry))) (now (residual .entry)) (length (now (out .entry)))) × (now (out .exit) ≡ reconstructed bits n (now (pred .entry)) (now (residual .entry)) (now (out .entry))) ⌝ }
+    ensures { λ r. ⌜ (r ≡ reconstructNo bits n (length (now (pred .entry))) (now (residual .entry)) (length (now (out
+        .entry)))) × (now (out .exit) ≡ reconstructed bits n (now (pred .entry)) (now (residual .entry)) (now (out
+        .entry))) ⌝ }
 {
     let no = reconstruct_no(bits, n, pred.len(), residual, out.len());
     if no != 0 {
@@ -186,7 +213,7 @@ pub fn reconstruct_into(pred: &[u16], residual: &[i32], n: usize, bits: u32, out
         pred,
         residual,
         runs_of(n),
-        taps::largest_of(bits),
+        depth::largest_of(bits),
         &mut *out,
     );
     0

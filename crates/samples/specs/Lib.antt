@@ -1,6 +1,4 @@
--- samples: a folder for each module.
-pub mod lines
+-- A folder for each module: taps, a predicted sample; filters, a smoothed reference; deltas, a residual.
 pub mod taps
 pub mod filters
 pub mod deltas
-pub mod numbers

@@ -1,9 +1,9 @@
-// The arithmetic of one residual: the difference of two samples, its sum with a prediction, and its range. Rests on the standard's clip and the helpers.
-// Each is a door of its own, so that a wrong number in one is found in seconds.
+// The arithmetic of one residual: the difference of two samples, its sum with a prediction, and its range. Rests on the standard's
+// clip and the helpers. Each is a door of its own, so that a wrong number in one is found in seconds.
 ghost use mathlib.Core.Path.{_≡_};
 ghost use lib.IntN.{pos, _+ℤ_, _-ℤ_};
 ghost use Rattle.h265.specs.Notation.{clipTo};
-ghost use Rattle.samples.specs.deltas.Deltas.{inRange, raise, highPart};
+ghost use Rattle.samples.specs.deltas.Deltas.{residualOk};
 ghost use Rattle.samples.specs.deltas.Laws.{Brought};
 use domain::helpers;
 
@@ -31,22 +31,9 @@ pub fn restored(p: u16, r: i32, largest: u16) -> u16
     helpers::clamp((p as i32) + brought(r), largest)
 }
 
-pub fn in_range(r: i32) -> bool
-    ensures { λ b. ⌜ b ≡ inRange r ⌝ }
+// Number 8: whether a residual is in its range.
+pub fn residual_ok(r: i32) -> bool
+    ensures { λ b. ⌜ b ≡ residualOk r ⌝ }
 {
     (r >= -65535) & (r <= 65535)
-}
-
-// A number raised by 2^31, after which it is not below 0.
-fn raised(r: i32) -> u32
-    ensures { λ u. ⌜ u ≡ raise r ⌝ }
-{
-    ((r as i64) + 2147483648) as u32
-}
-
-// What r + 32768 has above its 16 low bits: 0 where r fits an i16, and then it is in range.
-pub fn high_part(r: i32) -> u16
-    ensures { λ h. ⌜ h ≡ highPart r ⌝ }
-{
-    (std::num::wrapping_add_u32(raised(r), 2147516416) / 65536) as u16
 }

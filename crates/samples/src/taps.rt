@@ -1,22 +1,9 @@
-// The arithmetic of one predicted sample: between two references, the mean of 2n samples, the edge filters of the pure modes and of DC, and the largest sample of a depth.
-// Rests on the laws, the standard's clip and the domain's tests. Each is a door of its own, so that a wrong number in one is found in seconds.
-ghost use mathlib.Core.Bool.{_&&_};
+// The arithmetic of one predicted sample: between two references, the mean of 2n samples, the edge filters of the pure modes and of
+// DC. Rests on the laws, the standard's clip and the domain's tests. Each is a door of its own, so that a wrong number in one is
+// found in seconds.
 ghost use mathlib.Core.Path.{_≡_};
 ghost use Prim.Native.Nat.{_%_};
-ghost use lib.Dec.{ltb};
-ghost use Rattle.samples.specs.taps.Taps.{largestAt, interpOf, meanOf, edgeOf, blended, cornered};
-
-// The largest sample of a depth, and 0 where there is no such depth.
-pub fn largest_of(bits: u32) -> u16
-    ensures { λ r. ⌜ r ≡ largestAt bits ⌝ }
-{
-    match bits {
-        8 => 255,
-        10 => 1023,
-        12 => 4095,
-        _ => 0,
-    }
-}
+ghost use Rattle.samples.specs.taps.Taps.{interpOf, meanOf, edgeOf, blended, cornered};
 
 // Between two references: 32 - f parts of x and f of y. A fraction is below 32, so that taking it by 32 changes nothing.
 pub fn interp(f: u32, x: u16, y: u16) -> u16
@@ -26,8 +13,8 @@ pub fn interp(f: u32, x: u16, y: u16) -> u16
     (((32 - g) * (x as u32) + g * (y as u32) + 16) >> 5) as u16
 }
 
-// The mean of 2n samples by their sum, which planar and DC end with, and 0 where n is no side. Such a sum is below 2^22, so that neither the wrap nor
-// the remainder changes anything.
+// The mean of 2n samples by their sum, which planar and DC end with, and 0 where n is no side. Such a sum is below 2^22, so that
+// neither the wrap nor the remainder changes anything.
 pub fn mean(all: u32, n: usize) -> u16
     ensures { λ r. ⌜ r ≡ meanOf n all ⌝ }
 {
@@ -38,7 +25,8 @@ pub fn mean(all: u32, n: usize) -> u16
     ((std::num::wrapping_add_u32(all, side) / (2 * side)) % 65536) as u16
 }
 
-// The edge filter of the pure modes: a and half of l less c, rounded down and clipped. The half stands 32768 higher, so that no number is below 0.
+// The edge filter of the pure modes: a and half of l less c, rounded down and clipped. The half stands 32768 higher, so that no
+// number is below 0.
 pub fn edge(a: u16, l: u16, c: u16, max: u16) -> u16
     ensures { λ r. ⌜ r ≡ edgeOf max a l c ⌝ }
 {
@@ -51,13 +39,6 @@ pub fn edge(a: u16, l: u16, c: u16, max: u16) -> u16
         return (v - 32768) as u16;
     }
     max
-}
-
-// Whether that filter is on.
-pub fn filtered(edge: bool, n: usize) -> bool
-    ensures { λ r. ⌜ r ≡ (edge && ltb n 32) ⌝ }
-{
-    edge & (n < 32)
 }
 
 // The edge of DC: a neighbour and the value three to one, and at the corner both neighbours and the value twice.

@@ -39,22 +39,22 @@ ruleNo mode n = firstFail ((2 unless sizeOk n) ∷ (3 unless modeOk mode) ∷ []
 abbrev pub filterNo : ℕ → ℕ → ℕ → ℕ
 filterNo n above left = firstFail (rowChecks n above left)
 
-abbrev pub lumaNo : ℕ → ℕ → ℕ → ℕ → ℕ
-lumaNo bits n above left = firstFail ((1 unless depthOk bits) ∷ rowChecks n above left)
+abbrev pub filterLumaNo : ℕ → ℕ → ℕ → ℕ → ℕ
+filterLumaNo bits n above left = firstFail ((1 unless depthOk bits) ∷ rowChecks n above left)
 
 -- whether a block's references are smoothed
-unfoldable pub ruleDoor : ℕ → ℕ → Rule
-ruleDoor mode n = let no = ruleNo mode n in record { no = no; yes = served no (filterFlag n mode) false }
+unfoldable pub shouldFilterRefs : ℕ → ℕ → Rule
+shouldFilterRefs mode n = let no = ruleNo mode n in record { no = no; yes = served no (filterFlag n mode) false }
 
 -- the [1 2 1] form alone: the strong one is not allowed, so the depth plays no part
-unfoldable pub filterDoor : ℕ → List ℕ → List ℕ → ℕ → FilteredRows
-filterDoor corner above left n =
+unfoldable pub filterReferences : ℕ → List ℕ → List ℕ → ℕ → FilteredRows
+filterReferences corner above left n =
     let no = filterNo n (length above) (length left) in
     let rows = served no (smoothed false 0 n corner above left) zeroRows in
     record { no = no; above = rows .above; left = rows .left }
 
 -- either form
-unfoldable pub lumaDoor : Bool → ℕ → List ℕ → List ℕ → ℕ → ℕ → Smoothed
-lumaDoor allowed corner above left n bits =
-    let no = lumaNo bits n (length above) (length left) in
+unfoldable pub filterLumaRefs : Bool → ℕ → List ℕ → List ℕ → ℕ → ℕ → Smoothed
+filterLumaRefs allowed corner above left n bits =
+    let no = filterLumaNo bits n (length above) (length left) in
     record { no = no; rows = served no (smoothed allowed bits n corner above left) zeroRows }

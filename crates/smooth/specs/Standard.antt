@@ -15,7 +15,7 @@ use Rattle.h265.specs.Mean.{Agree}
 use Rattle.h265.specs.Notation.{Neighbours, fromRows}
 use Rattle.h265.specs.Filtering.{biIntFlag, strongAt, weakAt, filtered}
 use Rattle.domain.specs.rows.Neighbours.{neighboursOf}
-use Rattle.smooth.specs.Smoothing.{rowEntry, rowOf, smoothed, lumaNo, lumaDoor}
+use Rattle.smooth.specs.Smoothing.{rowEntry, rowOf, smoothed, filterLumaNo, filterLumaRefs}
 use Rattle.smooth.specs.Steps.{luma-ready}
 use Rattle.smooth.specs.Forms.{line, weakRow, strong-side, strong-is, weak-is}
 
@@ -48,9 +48,9 @@ is-standard allowed bits n corner above left h =
     record { corner = refl; above = row-at n (pF .above) above h; left = row-at n (pF .left) left h }
 
 -- at the door: a call that is served
-pub door-is-standard : (allowed : Bool) (corner : ℕ) (above left : List ℕ) (n bits : ℕ) → lumaNo bits n (length above) (length left) ≡ 0
-    → Agree n (neighboursOf (lumaDoor allowed corner above left n bits .rows)) (filtered allowed bits n (fromRows corner above left))
-unfolding lumaDoor
+pub door-is-standard : (allowed : Bool) (corner : ℕ) (above left : List ℕ) (n bits : ℕ) → filterLumaNo bits n (length above) (length left) ≡ 0
+    → Agree n (neighboursOf (filterLumaRefs allowed corner above left n bits .rows)) (filtered allowed bits n (fromRows corner above left))
+unfolding filterLumaRefs
 door-is-standard allowed corner above left n bits e =
     rw e (is-standard allowed bits n corner above left (luma-ready bits n (length above) (length left) e .1 .high))
 

@@ -16,7 +16,7 @@ use Rattle.h265.specs.Notation.{fromRows}
 use Rattle.h265.specs.Filtering.{biIntFlag, strongAt, weakAt}
 use Rattle.domain.specs.declared.rows.Rows.{Rows}
 use Rattle.smooth.specs.declared.FilteredRows.{FilteredRows}
-use Rattle.smooth.specs.Smoothing.{rowEntry, rowOf, smoothed, filterNo, lumaNo, filterDoor}
+use Rattle.smooth.specs.Smoothing.{rowEntry, rowOf, smoothed, filterNo, filterLumaNo, filterReferences}
 use Rattle.smooth.specs.Forms.{weakRow, strong-side, strong-is, weak-is, never-strong}
 
 -- entry x of a row that comes out, in the one form and the other
@@ -76,13 +76,13 @@ module _ (allowed : Bool) (bits n corner : ℕ) (above left : List ℕ) where
   unfolding smoothed
   give-weak f u p q = rw (weak-is allowed bits n (fromRows corner above left) f, u, p, q)
 
-pub luma-ready : (bits n above left : ℕ) → lumaNo bits n above left ≡ 0 → Depth bits × Ready n above left
+pub luma-ready : (bits n above left : ℕ) → filterLumaNo bits n above left ≡ 0 → Depth bits × Ready n above left
 luma-ready bits n above left e =
     let p = passed (depthOk bits) (filterNo n above left) 1 (omega arith) e in (depth-of bits (p .0), ready n above left (p .1))
 
 -- the door of the two rows, where it is served
-pub filter-served : (n corner : ℕ) (above left : List ℕ) {a l : List ℕ} → filterNo n (length above) (length left) ≡ 0 → a ≡ rowOf n (weakRow n corner (λ x. getD above x 0)) above → l ≡ rowOf n (weakRow n corner (λ x. getD left x 0)) left → _≡_ {A = FilteredRows} (record { no = 0; above = a; left = l }) (filterDoor corner above left n)
-unfolding filterDoor
+pub filter-served : (n corner : ℕ) (above left : List ℕ) {a l : List ℕ} → filterNo n (length above) (length left) ≡ 0 → a ≡ rowOf n (weakRow n corner (λ x. getD above x 0)) above → l ≡ rowOf n (weakRow n corner (λ x. getD left x 0)) left → _≡_ {A = FilteredRows} (record { no = 0; above = a; left = l }) (filterReferences corner above left n)
+unfolding filterReferences
 filter-served n corner above left e p q =
     rw e
     (ap (λ (r : Rows). record { no = 0; above = r .above; left = r .left })

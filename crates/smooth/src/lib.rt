@@ -1,4 +1,5 @@
-// Smoothing of a block's references, H.265 8.4.4.2.3. Rests on the standard's definitions, the domain's tests, the rows and the arithmetic of one reference (filters).
+// Smoothing of a block's references, H.265 8.4.4.2.3. Rests on the standard's definitions, the domain's tests, the rows and the
+// arithmetic of one reference (filters).
 ghost use mathlib.Core.Path.{_≡_};
 ghost use mathlib.Core.Bool.{true};
 ghost use Prim.Native.Nat.{ℕ, _≤_};
@@ -6,7 +7,8 @@ ghost use lib.ListN.{length, getD};
 ghost use Rattle.h265.specs.Notation.{fromRows};
 ghost use Rattle.h265.specs.Filtering.{biIntFlag, strongAt};
 ghost use Rattle.domain.specs.Facts.{Depth};
-ghost use Rattle.smooth.specs.Smoothing.{ruleNo, filterNo, lumaNo, ruleDoor, filterDoor, lumaDoor, rowOf, smoothed};
+ghost use Rattle.smooth.specs.Smoothing.{ruleNo, filterNo, filterLumaNo, shouldFilterRefs, filterReferences, filterLumaRefs};
+ghost use Rattle.smooth.specs.Smoothing.{rowOf, smoothed};
 ghost use Rattle.smooth.specs.Forms.{weakRow};
 ghost use Rattle.smooth.specs.Steps.{Ready};
 use domain::rows;
@@ -38,7 +40,7 @@ fn rule_no(mode: u8, n: usize) -> u32
     if !domain::size_ok(n) {
         return 2;
     }
-    if !domain::mode_ok(mode) {
+    if !domain::mode_ok(mode as u32) {
         return 3;
     }
     0
@@ -46,7 +48,7 @@ fn rule_no(mode: u8, n: usize) -> u32
 
 // Whether the references of a block of side n are smoothed for a mode.
 pub fn should_filter_refs(mode: u8, n: usize) -> Rule
-    ensures { λ r. ⌜ r ≡ ruleDoor mode n ⌝ }
+    ensures { λ r. ⌜ r ≡ shouldFilterRefs mode n ⌝ }
 {
     let no = rule_no(mode, n);
     if no == 0 {
@@ -74,7 +76,7 @@ fn filter_no(n: usize, above: usize, left: usize) -> u32
 
 // Number 1 before them.
 fn luma_no(bits: u32, n: usize, above: usize, left: usize) -> u32
-    ensures { λ r. ⌜ r ≡ lumaNo bits n above left ⌝ }
+    ensures { λ r. ⌜ r ≡ filterLumaNo bits n above left ⌝ }
 {
     if !domain::depth_ok(bits) {
         return 1;
@@ -157,7 +159,7 @@ fn smooth_rows(
 
 // The two rows in the [1 2 1] form, whatever the depth.
 pub fn filter_references(corner: u16, above: &[u16], left: &[u16], n: usize) -> FilteredRows
-    ensures { λ r. ⌜ r ≡ filterDoor corner (now (above .entry)) (now (left .entry)) n ⌝ }
+    ensures { λ r. ⌜ r ≡ filterReferences corner (now (above .entry)) (now (left .entry)) n ⌝ }
 {
     let no = filter_no(n, above.len(), left.len());
     if no == 0 {
@@ -178,7 +180,7 @@ pub fn filter_references(corner: u16, above: &[u16], left: &[u16], n: usize) -> 
 
 // The corner and the two rows; at n = 32 in the strong form where both rows are nearly straight.
 pub fn filter_luma_refs(corner: u16, above: &[u16], left: &[u16], n: usize, bits: u32) -> Smoothed
-    ensures { λ r. ⌜ r ≡ lumaDoor true corner (now (above .entry)) (now (left .entry)) n bits ⌝ }
+    ensures { λ r. ⌜ r ≡ filterLumaRefs true corner (now (above .entry)) (now (left .entry)) n bits ⌝ }
 {
     let no = luma_no(bits, n, above.len(), left.len());
     if no == 0 {
@@ -189,6 +191,6 @@ pub fn filter_luma_refs(corner: u16, above: &[u16], left: &[u16], n: usize, bits
     }
     Smoothed {
         no: no,
-        rows: rows::zero_rows(),
+        rows: rows::level_rows(0),
     }
 }

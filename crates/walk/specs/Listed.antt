@@ -1,5 +1,6 @@
 -- What a call of walk or replay comes to before the first write. Rests on the laws of calls and of how far one goes.
 use mathlib.Core.Path.{_≡_, sym, ap, ap₂, _∙_}
+use mathlib.Core.Bool.{true}
 use mathlib.Core.List.{List}
 use Prim.Native.Nat.{ℕ, _-_}
 use native.Mathlib.Decide.{ℕ-discrete}
@@ -10,12 +11,12 @@ use Rattle.laws.specs.Choose.{worked, unserved}
 use Rattle.plan.specs.declared.tiling.Verdict.{Verdict}
 use Rattle.plan.specs.tiling.Plan.{Plan, noBlock}
 use Rattle.plan.specs.tiling.PlanCheck.{planVerdict}
-use Rattle.walk.specs.declared.still.Still.{Still}
-use Rattle.walk.specs.still.Checks.{Tables, replayNo, walkNo, settle}
-use Rattle.walk.specs.rebuilt.Block.{replayUnit}
-use Rattle.walk.specs.walked.Block.{World, walkUnit}
-use Rattle.walk.specs.declared.steps.Step.{Step}
-use Rattle.walk.specs.steps.Steps.{stepBy}
+use Rattle.walk.specs.declared.checks.Still.{Still}
+use Rattle.walk.specs.checks.Checks.{Tables, replayNo, walkNo, settle}
+use Rattle.walk.specs.block.Rebuilt.{replayUnit}
+use Rattle.walk.specs.block.Walked.{World, walkUnit}
+use Rattle.walk.specs.declared.calls.Step.{Step}
+use Rattle.walk.specs.calls.Steps.{stepBy}
 use Rattle.walk.specs.calls.Door.{replayVerdict, replayAfter, walkVerdict, walkAfter}
 use Rattle.walk.specs.calls.Ready.{ReplayReady, WalkReady}
 use Rattle.walk.specs.calls.Laws as calls
@@ -24,13 +25,9 @@ use Rattle.walk.specs.declared.Stepped.{Stepped}
 use Rattle.walk.specs.declared.Call.{Call}
 use Rattle.walk.specs.Door.{steppedBy}
 
--- the tables of the scratch struct
-abbrev pub scratchTables : Tables
-scratchTables = record { refs = 193; indices = 32; fractions = 32 }
-
 -- a plan of which only the count counts
 abbrev pub bare : ℕ → Plan
-bare count = record { count = count; block = λ _. noBlock }
+bare count = record { whole = true; count = count; block = λ _. noBlock }
 
 -- what a call comes to
 unfoldable pub callOf : Verdict → Plan → Progress → ℕ → Call
@@ -72,7 +69,7 @@ module _ (v : Verdict) (plan : Plan) (p : Progress) (grant : ℕ) (c : Call) (is
 
 -- replay: what its loop may ask, and what the call gives and leaves
 module _ (s : Still) (plan : Plan) (t : Tables) (p : Progress) (grant : ℕ) (v : List ℤ) (d : List ℕ) (found : Verdict) (q : found ≡ planVerdict (s .frame) plan) (c : Call)
-    (is : c ≡ callOf (settle found (plan .count) (p .done) (replayNo s t (length d) v)) (bare (plan .count)) p grant) where
+    (is : c ≡ callOf (settle found (plan .count) (p .done) (replayNo s (plan .whole) t (length d) v)) (bare (plan .count)) p grant) where
   abbrev replayCall : Verdict
   replayCall = replayVerdict s plan t (p .done) (length d) v
 
@@ -92,7 +89,7 @@ module _ (s : Still) (plan : Plan) (t : Tables) (p : Progress) (grant : ℕ) (v 
 
 -- the same of the walk
 module _ (s : Still) (plan : Plan) (t : Tables) (p : Progress) (grant : ℕ) (source : List ℕ) (w : World) (found : Verdict) (q : found ≡ planVerdict (s .frame) plan) (c : Call)
-    (is : c ≡ callOf (settle found (plan .count) (p .done) (walkNo s t source (length (w .work)) (length (w .residuals)))) (bare (plan .count)) p grant) where
+    (is : c ≡ callOf (settle found (plan .count) (p .done) (walkNo s (plan .whole) t source (length (w .work)) (length (w .residuals)))) (bare (plan .count)) p grant) where
   abbrev walkCall : Verdict
   walkCall = walkVerdict s plan t (p .done) source w
 

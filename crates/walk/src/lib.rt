@@ -1,32 +1,27 @@
 // Walk and replay of a luma still, block by block, in any number of calls (document 01, 'Plan, walk, replay').
 // Rests on the contracts of a still's checks, of the plan check and of the work on one block alone.
 pub mod block;
-pub mod block_door;
-pub mod block_rows;
-pub mod coded;
-pub mod rebuild;
-pub mod spans;
-pub mod steps;
-pub mod still;
+mod block_rows;
+pub mod calls;
+pub mod checks;
 
 ghost use mathlib.Core.Path.{_≡_};
-ghost use mathlib.Core.Bool.{cond};
-ghost use Prim.Native.Nat.{_+_, _-_, _*_, _≤_, _<_};
+ghost use mathlib.Core.Bool.{true, cond};
+ghost use Prim.Native.Nat.{_+_, _*_, _≤_};
 ghost use lib.Dec.{leb};
 ghost use lib.ListN.{length};
-ghost use Rattle.laws.specs.Chain.{units};
 ghost use Rattle.plan.specs.tiling.Plan.{planOf, listed};
-ghost use Rattle.walk.specs.still.Checks.{replayNo, walkNo, settle};
-ghost use Rattle.walk.specs.rebuilt.Block.{rebuilt, replayUnit};
-ghost use Rattle.walk.specs.walked.Block.{walked, walkUnit};
-ghost use Rattle.walk.specs.block.Ready.{Ready};
-ghost use Rattle.walk.specs.rebuilt.Ready.{Lies};
-ghost use Rattle.walk.specs.calls.Door.{replayVerdict, replayAfter, walkVerdict, walkAfter};
-ghost use Rattle.walk.specs.calls.Ready.{ReplayReady, WalkReady};
-ghost use Rattle.walk.specs.Door.{steppedBy};
-ghost use Rattle.walk.specs.Listed.{scratchTables, bare, callOf};
-use crate::steps::Step;
-use crate::still::Still;
+ghost use Rattle.walk.specs.checks.Checks.{replayNo, walkNo, settle};
+ghost use Rattle.walk.specs.block.Rebuilt.{rebuilt};
+ghost use Rattle.walk.specs.block.Walked.{walked};
+ghost use Rattle.walk.specs.block.Ready.{Ready, Lies};
+ghost use Rattle.walk.specs.calls.Ready.{ReplayReady, WalkReady, ReplayBlocks, WalkBlocks};
+ghost use Rattle.walk.specs.Door.{ReplayGives, ReplayLent, WalkGives, WalkLent};
+ghost use Rattle.predict.specs.Lent.{Untouched};
+ghost use Rattle.walk.specs.Lent.{tables, scratchTables, lentPlan, world, worldBefore, worldAfter};
+ghost use Rattle.walk.specs.Listed.{bare, callOf};
+use crate::calls::Step;
+use crate::checks::Still;
 use plan::tiling::Block;
 use plan::tiling::Verdict;
 use predict::scratch::AngularScratch;
@@ -52,7 +47,11 @@ struct Call {
 
 // A step's numbers with the record that the call hands back.
 fn call_by(t: Step, next: Progress) -> Call
-    ensures { λ r. ⌜ r ≡ record { answer = record { no = t .no; block = t .block; did = t .did; next = next }; upto = t .upto } ⌝ }
+    ensures { λ r. ⌜ r ≡ record {
+      answer = record { no = t .no; block = t .block; did = t .did; next = next };
+      upto =
+          t .upto;
+    } ⌝ }
 {
     let answer = Stepped {
         no: t.no,
@@ -71,7 +70,7 @@ fn call_of(p: Progress, v: Verdict, count: usize, grant: u32) -> Call
     requires { ⌜ (v .no ≡ 0 → (p .done ≤ count) × (count ≤ 16777216)) ⌝ }
     ensures { λ r. ⌜ r ≡ callOf v (bare count) p grant ⌝ }
 {
-    let t = steps::step_of(p.done, v, count, grant);
+    let t = calls::step_of(p.done, v, count, grant);
     if v.no != 0 {
         return call_by(t, p);
     }
@@ -89,10 +88,16 @@ fn replay_call(
     grant: u32,
 ) -> Call
     requires { ⌜ (found .no ≡ 0 → count ≤ 16777216) ⌝ }
-    ensures { λ r. ⌜ r ≡ callOf (settle found count (p .done) (replayNo s scratchTables plane (now (residuals .entry)))) (bare count) p grant ⌝ }
+    ensures { λ r. ⌜ r ≡ callOf (settle found count (p .done) (replayNo s true scratchTables plane (now (residuals
+        .entry)))) (bare count) p grant ⌝ }
 {
-    let early = still::replay_no(s, residuals, plane, 193, 32, 32);
-    call_of(p, still::settled(p.done, count, found, early), count, grant)
+    let early = checks::replay_no(s, true, residuals, plane, 193, 32, 32);
+    call_of(
+        p,
+        checks::settled(p.done, count, found, early),
+        count,
+        grant,
+    )
 }
 
 fn walk_call(
@@ -106,10 +111,16 @@ fn walk_call(
     grant: u32,
 ) -> Call
     requires { ⌜ (found .no ≡ 0 → count ≤ 16777216) ⌝ }
-    ensures { λ r. ⌜ r ≡ callOf (settle found count (p .done) (walkNo s scratchTables (now (source .entry)) work residuals)) (bare count) p grant ⌝ }
+    ensures { λ r. ⌜ r ≡ callOf (settle found count (p .done) (walkNo s true scratchTables (now (source .entry)) work
+        residuals)) (bare count) p grant ⌝ }
 {
-    let early = still::walk_no(s, source, work, residuals, 193, 32, 32);
-    call_of(p, still::settled(p.done, count, found, early), count, grant)
+    let early = checks::walk_no(s, true, source, work, residuals, 193, 32, 32);
+    call_of(
+        p,
+        checks::settled(p.done, count, found, early),
+        count,
+        grant,
+    )
 }
 
 // Block k, whose residuals begin at `at`: rebuilt unless it was done before. Gives the next block's place.
@@ -125,15 +136,17 @@ fn replay_turn(
     indices: &mut [u32],
     fractions: &mut [u32],
 ) -> usize
-    requires { ⌜ Ready s b (length (now plane)) (record { refs = length (now refs); indices = length (now indices); fractions = length (now fractions) }) × Lies b (length (now residuals)) at ⌝ }
-    ensures { λ r. ⌜ (r ≡ at + b .side * b .side) × (now (plane .exit) ≡ cond (leb from k) (rebuilt s b at (now (residuals .entry)) (now (plane .entry))) (now (plane .entry))) ⌝ }
+    requires { ⌜ Ready s b (length (now plane)) (tables (now refs) (now indices) (now fractions)) × Lies b (length
+        (now residuals)) at ⌝ }
+    ensures { λ r. ⌜ (r ≡ at + b .side * b .side) × (now (plane .exit) ≡ cond (leb from k) (rebuilt s b at (now
+        (residuals .entry)) (now (plane .entry))) (now (plane .entry))) ⌝ }
 {
     let n = b.side as usize;
     let next = at + n * n;
     if k < (from as usize) {
         return next;
     }
-    rebuild::rebuild_block(
+    block::rebuild_block(
         s,
         b,
         at,
@@ -160,15 +173,18 @@ fn walk_turn(
     indices: &mut [u32],
     fractions: &mut [u32],
 ) -> usize
-    requires { ⌜ Ready s b (length (now work)) (record { refs = length (now refs); indices = length (now indices); fractions = length (now fractions) }) × (Lies b (length (now residuals)) at × (length (now source) ≡ length (now work))) ⌝ }
-    ensures { λ r. ⌜ (r ≡ at + b .side * b .side) × (record { work = now (work .exit); residuals = now (residuals .exit) } ≡ cond (leb from k) (walked s (now (source .entry)) b at (record { work = now (work .entry); residuals = now (residuals .entry) })) (record { work = now (work .entry); residuals = now (residuals .entry) })) ⌝ }
+    requires { ⌜ Ready s b (length (now work)) (tables (now refs) (now indices) (now fractions)) × (Lies b (length
+        (now residuals)) at × (length (now source) ≡ length (now work))) ⌝ }
+    ensures { λ r. ⌜ (r ≡ at + b .side * b .side) × (world (now (work .exit)) (now (residuals .exit)) ≡ cond (leb from
+        k) (walked s (now (source .entry)) b at (world (now (work .entry)) (now (residuals .entry)))) (world (now
+        (work .entry)) (now (residuals .entry)))) ⌝ }
 {
     let n = b.side as usize;
     let next = at + n * n;
     if k < (from as usize) {
         return next;
     }
-    coded::walk_block(
+    block::walk_block(
         s,
         b,
         at,
@@ -182,23 +198,13 @@ fn walk_turn(
     next
 }
 
-// Block i of a plan of numbers.
-fn block_at(plan: &[[u32; 4]], i: usize) -> Block
-    requires { ⌜ i < length (now plan) ⌝ }
-    ensures { λ r. ⌜ r ≡ planOf (now (plan .entry)) .block i ⌝ }
-{
-    Block {
-        row: plan[i][0],
-        col: plan[i][1],
-        side: plan[i][2],
-        mode: plan[i][3],
-    }
-}
-
 // The blocks of a plan up to block `upto`: those from block `from` on are rebuilt.
 fn replay_blocks(
     s: Still,
-    plan: &[[u32; 4]],
+    rows: &[u32],
+    cols: &[u32],
+    sides: &[u32],
+    modes: &[u32],
     residuals: &[i32],
     plane: &mut [u16],
     refs: &mut [u16],
@@ -207,13 +213,15 @@ fn replay_blocks(
     from: u32,
     upto: usize,
 )
-    requires { ⌜ ReplayReady s (planOf (now plan)) (record { refs = length (now refs); indices = length (now indices); fractions = length (now fractions) }) (length (now plane)) (length (now residuals)) upto ⌝ }
-    ensures { λ _. ⌜ (now (plane .exit) ≡ units (replayUnit s (planOf (now (plan .entry)) .block) (now (residuals .entry))) from (upto - from) (now (plane .entry))) × (upto ≡ 0 → (now (refs .exit) ≡ now (refs .entry)) × ((now (indices .exit) ≡ now (indices .entry)) × (now (fractions .exit) ≡ now (fractions .entry)))) ⌝ }
+    requires { ⌜ ReplayReady s (planOf (now rows) (now cols) (now sides) (now modes)) (tables (now refs) (now indices)
+        (now fractions)) (length (now plane)) (length (now residuals)) upto ⌝ }
+    ensures { λ _. ⌜ ReplayBlocks s (lentPlan rows cols sides modes) (now (residuals .entry)) from upto
+        (now (plane .entry)) (now (plane .exit)) (Untouched refs indices fractions) ⌝ }
 {
     let mut at: usize = 0;
     let mut k: usize = 0;
     while k < upto {
-        let b = block_at(plan, k);
+        let b = plan::block_at(rows, cols, sides, modes, k);
         at = replay_turn(
             s,
             b,
@@ -233,7 +241,10 @@ fn replay_blocks(
 // The same of the walk.
 fn walk_blocks(
     s: Still,
-    plan: &[[u32; 4]],
+    rows: &[u32],
+    cols: &[u32],
+    sides: &[u32],
+    modes: &[u32],
     source: &[u16],
     work: &mut [u16],
     residuals: &mut [i32],
@@ -243,13 +254,15 @@ fn walk_blocks(
     from: u32,
     upto: usize,
 )
-    requires { ⌜ WalkReady s (planOf (now plan)) (record { refs = length (now refs); indices = length (now indices); fractions = length (now fractions) }) (length (now source)) (length (now work)) (length (now residuals)) upto ⌝ }
-    ensures { λ _. ⌜ (record { work = now (work .exit); residuals = now (residuals .exit) } ≡ units (walkUnit s (planOf (now (plan .entry)) .block) (now (source .entry))) from (upto - from) (record { work = now (work .entry); residuals = now (residuals .entry) })) × (upto ≡ 0 → (now (refs .exit) ≡ now (refs .entry)) × ((now (indices .exit) ≡ now (indices .entry)) × (now (fractions .exit) ≡ now (fractions .entry)))) ⌝ }
+    requires { ⌜ WalkReady s (planOf (now rows) (now cols) (now sides) (now modes)) (tables (now refs) (now indices)
+        (now fractions)) (length (now source)) (length (now work)) (length (now residuals)) upto ⌝ }
+    ensures { λ _. ⌜ WalkBlocks s (lentPlan rows cols sides modes) (now (source .entry)) from upto
+        (worldBefore work residuals) (worldAfter work residuals) (Untouched refs indices fractions) ⌝ }
 {
     let mut at: usize = 0;
     let mut k: usize = 0;
     while k < upto {
-        let b = block_at(plan, k);
+        let b = plan::block_at(rows, cols, sides, modes, k);
         at = walk_turn(
             s,
             b,
@@ -278,7 +291,8 @@ fn replay_listed(
     upto: usize,
 ) -> usize
     requires { ⌜ ReplayReady s (listed (now plan)) scratchTables (length (now plane)) (length (now residuals)) upto ⌝ }
-    ensures { λ _. ⌜ (now (plane .exit) ≡ units (replayUnit s (listed (now (plan .entry)) .block) (now (residuals .entry))) from (upto - from) (now (plane .entry))) × (upto ≡ 0 → now (scratch .exit) ≡ now (scratch .entry)) ⌝ }
+    ensures { λ _. ⌜ ReplayBlocks s (listed (now (plan .entry))) (now (residuals .entry)) from upto (now (plane
+        .entry)) (now (plane .exit)) (now (scratch .exit) ≡ now (scratch .entry)) ⌝ }
 {
     let mut at: usize = 0;
     let mut k: usize = 0;
@@ -311,8 +325,10 @@ fn walk_listed(
     from: u32,
     upto: usize,
 ) -> usize
-    requires { ⌜ WalkReady s (listed (now plan)) scratchTables (length (now source)) (length (now work)) (length (now residuals)) upto ⌝ }
-    ensures { λ _. ⌜ (record { work = now (work .exit); residuals = now (residuals .exit) } ≡ units (walkUnit s (listed (now (plan .entry)) .block) (now (source .entry))) from (upto - from) (record { work = now (work .entry); residuals = now (residuals .entry) })) × (upto ≡ 0 → now (scratch .exit) ≡ now (scratch .entry)) ⌝ }
+    requires { ⌜ WalkReady s (listed (now plan)) scratchTables (length (now source)) (length (now work)) (length (now
+        residuals)) upto ⌝ }
+    ensures { λ _. ⌜ WalkBlocks s (listed (now (plan .entry))) (now (source .entry)) from upto
+        (worldBefore work residuals) (worldAfter work residuals) (now (scratch .exit) ≡ now (scratch .entry)) ⌝ }
 {
     let mut at: usize = 0;
     let mut k: usize = 0;
@@ -347,7 +363,10 @@ impl Progress {
     pub fn replay_numbers(
         self,
         still: Still,
-        plan: &[[u32; 4]],
+        rows: &[u32],
+        cols: &[u32],
+        sides: &[u32],
+        modes: &[u32],
         residuals: &[i32],
         plane: &mut [u16],
         refs: &mut [u16],
@@ -355,22 +374,27 @@ impl Progress {
         fractions: &mut [u32],
         grant: u32,
     ) -> Stepped
-        ensures { λ r. ⌜ (r ≡ steppedBy (replayVerdict still (planOf (now (plan .entry))) (record { refs = length (now (refs .entry)); indices = length (now (indices .entry)); fractions = length (now (fractions .entry)) }) (self .done) (length (now (plane .entry))) (now (residuals .entry))) (planOf (now (plan .entry))) self grant) × ((now (plane .exit) ≡ replayAfter still (planOf (now (plan .entry))) (record { refs = length (now (refs .entry)); indices = length (now (indices .entry)); fractions = length (now (fractions .entry)) }) (self .done) grant (now (residuals .entry)) (now (plane .entry))) × ((r .no ≡ 0 → ⊥) → (now (refs .exit) ≡ now (refs .entry)) × ((now (indices .exit) ≡ now (indices .entry)) × (now (fractions .exit) ≡ now (fractions .entry))))) ⌝ }
+        ensures { λ r. ⌜ ReplayLent still (lentPlan rows cols sides modes) self grant residuals plane
+            refs indices fractions r ⌝ }
     {
-        let found = plan::check_plan_numbers(still.frame, plan);
-        let early = still::replay_no(
+        let found = plan::check_plan_numbers(still.frame, rows, cols, sides, modes);
+        let early = checks::replay_no(
             still,
+            plan::is_whole(rows, cols, sides, modes),
             residuals,
             plane.len(),
             refs.len(),
             indices.len(),
             fractions.len(),
         );
-        let v = still::settled(self.done, plan.len(), found, early);
-        let call = call_of(self, v, plan.len(), grant);
+        let v = checks::settled(self.done, rows.len(), found, early);
+        let call = call_of(self, v, rows.len(), grant);
         replay_blocks(
             still,
-            plan,
+            rows,
+            cols,
+            sides,
+            modes,
             residuals,
             &mut *plane,
             &mut *refs,
@@ -386,7 +410,10 @@ impl Progress {
     pub fn walk_numbers(
         self,
         still: Still,
-        plan: &[[u32; 4]],
+        rows: &[u32],
+        cols: &[u32],
+        sides: &[u32],
+        modes: &[u32],
         source: &[u16],
         work: &mut [u16],
         residuals: &mut [i32],
@@ -395,11 +422,13 @@ impl Progress {
         fractions: &mut [u32],
         grant: u32,
     ) -> Stepped
-        ensures { λ r. ⌜ (r ≡ steppedBy (walkVerdict still (planOf (now (plan .entry))) (record { refs = length (now (refs .entry)); indices = length (now (indices .entry)); fractions = length (now (fractions .entry)) }) (self .done) (now (source .entry)) (record { work = now (work .entry); residuals = now (residuals .entry) })) (planOf (now (plan .entry))) self grant) × ((record { work = now (work .exit); residuals = now (residuals .exit) } ≡ walkAfter still (planOf (now (plan .entry))) (record { refs = length (now (refs .entry)); indices = length (now (indices .entry)); fractions = length (now (fractions .entry)) }) (self .done) grant (now (source .entry)) (record { work = now (work .entry); residuals = now (residuals .entry) })) × ((r .no ≡ 0 → ⊥) → (now (refs .exit) ≡ now (refs .entry)) × ((now (indices .exit) ≡ now (indices .entry)) × (now (fractions .exit) ≡ now (fractions .entry))))) ⌝ }
+        ensures { λ r. ⌜ WalkLent still (lentPlan rows cols sides modes) self grant source work residuals
+            refs indices fractions r ⌝ }
     {
-        let found = plan::check_plan_numbers(still.frame, plan);
-        let early = still::walk_no(
+        let found = plan::check_plan_numbers(still.frame, rows, cols, sides, modes);
+        let early = checks::walk_no(
             still,
+            plan::is_whole(rows, cols, sides, modes),
             source,
             work.len(),
             residuals.len(),
@@ -407,11 +436,14 @@ impl Progress {
             indices.len(),
             fractions.len(),
         );
-        let v = still::settled(self.done, plan.len(), found, early);
-        let call = call_of(self, v, plan.len(), grant);
+        let v = checks::settled(self.done, rows.len(), found, early);
+        let call = call_of(self, v, rows.len(), grant);
         walk_blocks(
             still,
-            plan,
+            rows,
+            cols,
+            sides,
+            modes,
             source,
             &mut *work,
             &mut *residuals,
@@ -434,7 +466,8 @@ impl Progress {
         scratch: &mut AngularScratch,
         grant: u32,
     ) -> Stepped
-        ensures { λ r. ⌜ (r ≡ steppedBy (replayVerdict still (listed (now (plan .entry))) scratchTables (self .done) (length (now (plane .entry))) (now (residuals .entry))) (listed (now (plan .entry))) self grant) × ((now (plane .exit) ≡ replayAfter still (listed (now (plan .entry))) scratchTables (self .done) grant (now (residuals .entry)) (now (plane .entry))) × ((r .no ≡ 0 → ⊥) → now (scratch .exit) ≡ now (scratch .entry))) ⌝ }
+        ensures { λ r. ⌜ ReplayGives still (listed (now (plan .entry))) scratchTables self grant (now (residuals
+            .entry)) (now (plane .entry)) (now (plane .exit)) r (now (scratch .exit) ≡ now (scratch .entry)) ⌝ }
     {
         let found = plan::check_plan(still.frame, plan);
         let call = replay_call(
@@ -461,7 +494,8 @@ impl Progress {
         scratch: &mut AngularScratch,
         grant: u32,
     ) -> Stepped
-        ensures { λ r. ⌜ (r ≡ steppedBy (walkVerdict still (listed (now (plan .entry))) scratchTables (self .done) (now (source .entry)) (record { work = now (work .entry); residuals = now (residuals .entry) })) (listed (now (plan .entry))) self grant) × ((record { work = now (work .exit); residuals = now (residuals .exit) } ≡ walkAfter still (listed (now (plan .entry))) scratchTables (self .done) grant (now (source .entry)) (record { work = now (work .entry); residuals = now (residuals .entry) })) × ((r .no ≡ 0 → ⊥) → now (scratch .exit) ≡ now (scratch .entry))) ⌝ }
+        ensures { λ r. ⌜ WalkGives still (listed (now (plan .entry))) scratchTables self grant (now (source .entry))
+            (worldBefore work residuals) (worldAfter work residuals) r (now (scratch .exit) ≡ now (scratch .entry)) ⌝ }
     {
         let found = plan::check_plan(still.frame, plan);
         let call = walk_call(

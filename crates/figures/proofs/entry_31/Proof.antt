@@ -5,7 +5,7 @@ use Prim.Native.Nat.{ℕ}
 use mathlib.Core.Bool.{true}
 use lib.ListN.{getD}
 use Rattle.smooth.specs.declared.Smoothed.{Smoothed}
-use Rattle.smooth.specs.Smoothing.{lumaDoor}
+use Rattle.smooth.specs.Smoothing.{filterLumaRefs}
 use borrow.Author.Needs.{needs}
 use Rattle.figures.proofs.entry_31.Statement.{statement}
 use Rattle.figures.proofs.entry_31.Tie as tie
@@ -26,7 +26,7 @@ array-read-result : tie.Need-array-read-result
 array-read-result c = search needs
 
 returns : tie.Need-returns
-returns c = ap (λ (a : Smoothed). getD (a .rows .above) 31 0) (c .before .filter-luma-refs .ensures ∙ ap (λ (row : List ℕ). lumaDoor true 100 row row 32 8) (c .before .before .before .before .bent-row .ensures))
+returns c = ap (λ (a : Smoothed). getD (a .rows .above) 31 0) (c .before .filter-luma-refs .ensures ∙ ap (λ (row : List ℕ). filterLumaRefs true 100 row row 32 8) (c .before .before .before .before .bent-row .ensures))
 
 pub entry-31-spec : {M : Type 1} → statement M
 entry-31-spec =

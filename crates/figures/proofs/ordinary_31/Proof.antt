@@ -4,7 +4,7 @@ use mathlib.Core.List.{List}
 use Prim.Native.Nat.{ℕ}
 use lib.ListN.{getD}
 use Rattle.smooth.specs.declared.FilteredRows.{FilteredRows}
-use Rattle.smooth.specs.Smoothing.{filterDoor}
+use Rattle.smooth.specs.Smoothing.{filterReferences}
 use borrow.Author.Needs.{needs}
 use Rattle.figures.proofs.ordinary_31.Statement.{statement}
 use Rattle.figures.proofs.ordinary_31.Tie as tie
@@ -25,7 +25,7 @@ array-read-result : tie.Need-array-read-result
 array-read-result c = search needs
 
 returns : tie.Need-returns
-returns c = ap (λ (a : FilteredRows). getD (a .above) 31 0) (c .before .filter-references .ensures ∙ ap (λ (row : List ℕ). filterDoor 100 row row 32) (c .before .before .before .before .bent-row .ensures))
+returns c = ap (λ (a : FilteredRows). getD (a .above) 31 0) (c .before .filter-references .ensures ∙ ap (λ (row : List ℕ). filterReferences 100 row row 32) (c .before .before .before .before .bent-row .ensures))
 
 pub ordinary-31-spec : {M : Type 1} → statement M
 ordinary-31-spec =

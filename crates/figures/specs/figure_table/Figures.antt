@@ -17,10 +17,10 @@ use Rattle.h265.specs.Planar.{planar}
 use Rattle.h265.specs.Dc.{sum, dcVal, dc}
 use Rattle.h265.specs.Angular.{ref, project, angular}
 use Rattle.order.specs.declared.Picture.{Picture}
-use Rattle.order.specs.Order.{numberAt, orderNo, orderDoor}
+use Rattle.order.specs.Order.{numberAt, orderNo, decodeOrder}
 use Rattle.smooth.specs.declared.Rule.{Rule}
-use Rattle.smooth.specs.Smoothing.{rowOf, smoothed, ruleDoor, filterDoor, lumaDoor}
-use Rattle.samples.specs.numbers.Numbers.{flatNo, angularNo}
+use Rattle.smooth.specs.Smoothing.{rowOf, smoothed, shouldFilterRefs, filterReferences, filterLumaRefs}
+use Rattle.predict.specs.refusals.Refusals.{flatNo, angularNo}
 use Rattle.residual.specs.Residual.{allInRange, reconstructNo, reconstructed}
 
 -- a row of 65 entries of one value, one of 0, 1, 2, .., 64, and one that opens with an entry and goes on with 0
@@ -69,7 +69,7 @@ abbrev sixtyFour : Picture
 sixtyFour = record { width = 64; height = 64; ctu = 64; unit = 4 }
 
 abbrev pub orderAt : Picture → ℕ → ℕ → ℕ
-orderAt p row col = orderDoor p (record { 0 = row }) (record { 0 = col }) .value
+orderAt p row col = decodeOrder p (record { 0 = row }) (record { 0 = col }) .value
 
 -- 1 for yes, 0 for no
 abbrev pub bit : Bool → ℕ
@@ -78,23 +78,23 @@ bit false = 0
 
 -- whether a mode is smoothed; 2 would be a refused call
 abbrev pub smoothsAt : ℕ → ℕ → ℕ
-smoothsAt n mode = served (ruleDoor mode n .no) (bit (ruleDoor mode n .yes)) 2
+smoothsAt n mode = served (shouldFilterRefs mode n .no) (bit (shouldFilterRefs mode n .yes)) 2
 
-pub smooths-refused : {a : Rule} (n mode : ℕ) → a ≡ ruleDoor mode n → ¬ (a .no ≡ 0) → 2 ≡ smoothsAt n mode
-smooths-refused n mode e h = unserved (ruleDoor mode n .no) _ 2 (λ z. h (ap (λ (r : Rule). r .no) e ∙ z))
+pub smooths-refused : {a : Rule} (n mode : ℕ) → a ≡ shouldFilterRefs mode n → ¬ (a .no ≡ 0) → 2 ≡ smoothsAt n mode
+smooths-refused n mode e h = unserved (shouldFilterRefs mode n .no) _ 2 (λ z. h (ap (λ (r : Rule). r .no) e ∙ z))
 
-pub smooths-told : {a : Rule} (n mode : ℕ) → a ≡ ruleDoor mode n → a .no ≡ 0 → bit (a .yes) ≡ smoothsAt n mode
-smooths-told n mode e z = ap (λ (r : Rule). bit (r .yes)) e ∙ worked (ruleDoor mode n .no) _ 2 (sym (ap (λ (r : Rule). r .no) e) ∙ z)
+pub smooths-told : {a : Rule} (n mode : ℕ) → a ≡ shouldFilterRefs mode n → a .no ≡ 0 → bit (a .yes) ≡ smoothsAt n mode
+smooths-told n mode e z = ap (λ (r : Rule). bit (r .yes)) e ∙ worked (shouldFilterRefs mode n .no) _ 2 (sym (ap (λ (r : Rule). r .no) e) ∙ z)
 
 -- P8's row: 100 up to entry 62, then the entry given; entry 31 of the smoothed row above, and whether it is another than the ordinary form gives
 abbrev pub bent : ℕ → List ℕ
 bent end = set (level 100) 63 end
 
 abbrev pub entry31 : ℕ → ℕ
-entry31 end = getD (lumaDoor true 100 (bent end) (bent end) 32 8 .rows .above) 31 0
+entry31 end = getD (filterLumaRefs true 100 (bent end) (bent end) 32 8 .rows .above) 31 0
 
 abbrev pub ordinary31 : ℕ → ℕ
-ordinary31 end = getD (filterDoor 100 (bent end) (bent end) 32 .above) 31 0
+ordinary31 end = getD (filterReferences 100 (bent end) (bent end) 32 .above) 31 0
 
 abbrev pub strongAt : ℕ → ℕ
 strongAt end = bit (not (eqb (entry31 end) (ordinary31 end)))
@@ -108,7 +108,7 @@ abbrev bump : List ℕ
 bump = set (level 0) 1 4
 
 abbrev pub smoothedTwo : ℕ → List ℕ
-smoothedTwo n = let row = filterDoor 0 bump bump n .above in getD row 0 0 ∷ getD row 1 0 ∷ []
+smoothedTwo n = let row = filterReferences 0 bump bump n .above in getD row 0 0 ∷ getD row 1 0 ∷ []
 
 -- a figure: what the calls give, and what document 01 says
 pub record Figure : Type 0 where
@@ -170,5 +170,5 @@ table corner left0 above0 = p1 ∷ p2 ∷ p3 ∷ p4 ∷ p5 corner left0 above0 �
 
 -- the calls give what document 01 says
 pub figures : (corner left0 above0 : ℕ) → map (λ f. f .given) (table corner left0 above0) ≡ map (λ f. f .said) (table corner left0 above0)
-unfolding fill rows flatNo planar dc dcVal sum angular project ref halvings orderDoor orderNo numberAt minTbAddrZs zScan interleaved ruleDoor filterFlag filterDoor lumaDoor smoothed rowOf filtered biIntFlag straight filtering.strongAt weakAt reconstructed reconstructNo allInRange
+unfolding fill rows flatNo planar dc dcVal sum angular project ref halvings decodeOrder orderNo numberAt minTbAddrZs zScan interleaved shouldFilterRefs filterFlag filterReferences filterLumaRefs smoothed rowOf filtered biIntFlag straight filtering.strongAt weakAt reconstructed reconstructNo allInRange
 figures corner left0 above0 = refl

@@ -1,6 +1,5 @@
 -- Document 01, module 1: depth. Assumes nothing.
-use mathlib.Core.Path.{_≡_, refl}
-use Prim.Native.Nat.{ℕ, _-_, _^_}
+use Prim.Native.Nat.{ℕ}
 use mathlib.Core.Bool.{cond}
 use lib.Dec.{eqb}
 use Rattle.fmt.specs.declared.depth.BitDepth.{BitDepth}
@@ -15,26 +14,15 @@ bitsOf Ten = 10
 bitsOf Twelve = 12
 
 -- largest sample 255, 1023, 4095; neutral 128, 512, 2048
-abbrev pub largest : BitDepth → ℕ
-largest Eight = 255
-largest Ten = 1023
-largest Twelve = 4095
+abbrev pub maxVal : BitDepth → ℕ
+maxVal Eight = 255
+maxVal Ten = 1023
+maxVal Twelve = 4095
 
-abbrev pub neutralOf : BitDepth → ℕ
-neutralOf Eight = 128
-neutralOf Ten = 512
-neutralOf Twelve = 2048
-
--- all ones, and half of the range
-pub largest-is : (d : BitDepth) → largest d ≡ 2 ^ bitsOf d - 1
-largest-is Eight = refl
-largest-is Ten = refl
-largest-is Twelve = refl
-
-pub neutral-is : (d : BitDepth) → neutralOf d ≡ 2 ^ (bitsOf d - 1)
-neutral-is Eight = refl
-neutral-is Ten = refl
-neutral-is Twelve = refl
+abbrev pub neutral : BitDepth → ℕ
+neutral Eight = 128
+neutral Ten = 512
+neutral Twelve = 2048
 
 -- the depth that a number of bits names
 abbrev pub depthFrom : ℕ → DepthFrom
@@ -44,3 +32,15 @@ depthFrom bits = cond (eqb bits 8) (Depth Eight) (cond (eqb bits 10) (Depth Ten)
 abbrev pub depthNumber : DepthFrom → ℕ
 depthNumber (Depth d) = 0
 depthNumber Refused = 1
+
+-- a depth's figure, 0 where there is no depth
+abbrev pub figureIn : (BitDepth → ℕ) → DepthFrom → ℕ
+figureIn figure (Depth d) = figure d
+figureIn figure Refused = 0
+
+-- the figures of a number of bits
+abbrev pub largestOf : ℕ → ℕ
+largestOf bits = figureIn maxVal (depthFrom bits)
+
+abbrev pub neutralOf : ℕ → ℕ
+neutralOf bits = figureIn neutral (depthFrom bits)

@@ -17,8 +17,8 @@ cast-result c = search needs
 returns : tie.Need-returns
 returns c = rw (c .if1 .taken) refl
 
-lesser-requires : tie.Need-lesser-requires
-lesser-requires c κs = search needs
+min-requires : tie.Need-min-requires
+min-requires c κs = search needs
 
 add-result : tie.Need-add-result
 add-result c = search needs
@@ -27,10 +27,10 @@ rem-result : tie.Need-rem-result
 rem-result c = search needs
 
 cast-result-2 : tie.Need-cast-result-2
-cast-result-2 c = record { fits = omega (arith, mod-lt (c .before .before .args .x) (let h : 0 < c .lesser .result + 1 = omega arith in h), c .lesser .ensures) }
+cast-result-2 c = record { fits = omega (arith, mod-lt (c .before .before .args .x) (let h : 0 < c .min .result + 1 = omega arith in h), c .min .ensures) }
 
 returns-2 : tie.Need-returns-2
-returns-2 c = ap (λ (m : ℕ). c .before .before .args .x % (m + 1)) (c .lesser .ensures) ∙ sample-ordinary _ _ (c .before .if1 .left)
+returns-2 c = ap (λ (m : ℕ). c .before .before .args .x % (m + 1)) (c .min .ensures) ∙ sample-ordinary _ _ (c .before .if1 .left)
 
 pub sample-spec : {M : Type 1} → statement M
 sample-spec =
@@ -39,7 +39,7 @@ sample-spec =
     mul-result
     cast-result
     returns
-    lesser-requires
+    min-requires
     add-result
     rem-result
     cast-result-2

@@ -1,40 +1,45 @@
 -- `order::chroma_block_ok` meets its contract.
-use mathlib.Core.Path.{sym, subst}
-use Rattle.order.specs.Edges.{Step}
-use Rattle.order.specs.Blocks.{step-width, step-height, block-is}
+use mathlib.Core.Path.{ap}
+use Rattle.fmt.specs.declared.ChromaRow.{ChromaRow}
+use Rattle.fmt.specs.declared.ChromaCol.{ChromaCol}
+use Rattle.order.specs.Blocks.{block-is}
 use borrow.Author.Needs.{needs}
 use Rattle.order.proofs.chroma_block_ok.Statement.{statement}
 use Rattle.order.proofs.chroma_block_ok.Tie as tie
 
-sub-w-requires : tie.Need-sub-w-requires
-sub-w-requires c κs = search needs
+chroma-row-requires : tie.Need-chroma-row-requires
+chroma-row-requires c κs = search needs
 
-sub-h-requires : tie.Need-sub-h-requires
-sub-h-requires c κs = search needs
+chroma-col-requires : tie.Need-chroma-col-requires
+chroma-col-requires c κs = search needs
 
-over-requires : tie.Need-over-requires
-over-requires c κs = subst Step (sym (c .sub-h .ensures)) (step-height (c .before .before .args .f))
+chroma-col-requires-2 : tie.Need-chroma-col-requires-2
+chroma-col-requires-2 c κs = search needs
 
-over-requires-2 : tie.Need-over-requires-2
-over-requires-2 c κs = subst Step (sym (c .before .before .sub-w .ensures)) (step-width (c .before .before .before .args .f))
+cast-in-plane : tie.Need-cast-in-plane
+cast-in-plane c = search needs
+
+cast-in-plane-2 : tie.Need-cast-in-plane-2
+cast-in-plane-2 c = search needs
 
 in-plane-requires : tie.Need-in-plane-requires
 in-plane-requires c κs = search needs
 
-over-requires-3 : tie.Need-over-requires-3
-over-requires-3 c κs = subst Step (sym (c .before .before .before .before .sub-w .ensures)) (step-width (c .before .before .before .before .before .args .f))
+cast-result : tie.Need-cast-result
+cast-result c = search needs
 
 returns : tie.Need-returns
-returns c = block-is (c .before .before .before .before .before .before .args .p) (c .before .before .before .before .before .before .args .f) (c .before .before .before .before .before .before .args .row .0) (c .before .before .before .before .before .before .args .col .0) (c .before .before .before .before .before .before .args .n) _ _ _ _ _ _ (c .before .before .before .before .sub-h .ensures) (c .before .before .before .before .before .sub-w .ensures) (c .before .before .before .over .ensures) (c .before .before .over2 .ensures) (c .over3 .ensures) (c .before .in-plane .ensures)
+returns c = let a = c .before .before .before .before .before .before .before .args in block-is (a .p) (a .f) (a .row .0) (a .col .0) (a .n) _ _ _ _ (ap (λ (r : ChromaRow). r .0) (c .before .before .before .before .before .before .chroma-row .ensures)) (ap (λ (r : ChromaCol). r .0) (c .before .before .before .before .before .chroma-col .ensures)) (ap (λ (r : ChromaCol). r .0) (c .before .before .before .before .chroma-col2 .ensures)) (c .before .in-plane .ensures)
 
 pub chroma-block-ok-spec : {M : Type 1} → statement M
 chroma-block-ok-spec =
     tie.close
     (tie.spec
-    sub-w-requires
-    sub-h-requires
-    over-requires
-    over-requires-2
+    chroma-row-requires
+    chroma-col-requires
+    chroma-col-requires-2
+    cast-in-plane
+    cast-in-plane-2
     in-plane-requires
-    over-requires-3
+    cast-result
     returns)

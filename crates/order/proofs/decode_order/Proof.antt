@@ -2,7 +2,7 @@
 use mathlib.Core.Path.{sym, _∙_}
 use native.Mathlib.Omega.{arith}
 use borrow.Author.Tests.{ne-eqb}
-use Rattle.order.specs.Order.{orderDoor}
+use Rattle.order.specs.Order.{decodeOrder}
 use Rattle.order.specs.Good.{good-of, small-of, number-of, number-small}
 use borrow.Author.Needs.{needs}
 use Rattle.order.proofs.decode_order.Statement.{statement}
@@ -12,7 +12,7 @@ order-no-requires : tie.Need-order-no-requires
 order-no-requires c κs = search needs
 
 returns : tie.Need-returns
-unfolding orderDoor
+unfolding decodeOrder
 returns c = simp (← c .before .order-no .ensures, ne-eqb _ _ (c .if1 .taken))
 
 shifts-of-requires : tie.Need-shifts-of-requires
@@ -35,7 +35,7 @@ cast-t10 c =
     record { fits = omega (arith, number-of (c .before .before .before .before .before .before .args .picture) _ _ (c .before .before .before .before .before .before .args .r .0) (c .before .before .before .before .before .before .args .c .0) (c .before .before .before .shifts-of .ensures) (c .number .ensures), number-small (g .0) (g .1 .0) (g .1 .1)) }
 
 returns-2 : tie.Need-returns-2
-unfolding orderDoor
+unfolding decodeOrder
 returns-2 c = simp (number-of (c .before .before .before .before .before .before .args .picture) _ _ (c .before .before .before .before .before .before .args .r .0) (c .before .before .before .before .before .before .args .c .0) (c .before .before .before .shifts-of .ensures) (c .number .ensures), ← c .before .before .before .before .before .order-no .ensures, c .before .before .before .before .if1 .left)
 
 pub decode-order-spec : {M : Type 1} → statement M

@@ -12,20 +12,20 @@ add-group-of c = record { fits = ⊎-elim (λ q. omega arith) (λ q. omega arith
 group-of-requires : tie.Need-group-of-requires
 group-of-requires c κs = c .pre .step
 
-mul-lesser : tie.Need-mul-lesser
-mul-lesser c = record { fits = omega (arith, size-small _ (c .before .pre .size)) }
+mul-min-len : tie.Need-mul-min-len
+mul-min-len c = record { fits = omega (arith, size-small _ (c .before .pre .size)) }
 
-add-lesser : tie.Need-add-lesser
-add-lesser c = record { fits = omega (arith, size-small _ (c .before .pre .size)) }
+add-min-len : tie.Need-add-min-len
+add-min-len c = record { fits = omega (arith, size-small _ (c .before .pre .size)) }
 
-lesser-requires : tie.Need-lesser-requires
-lesser-requires c κs = search needs
+min-len-requires : tie.Need-min-len-requires
+min-len-requires c κs = search needs
 
 leads-requires : tie.Need-leads-requires
-leads-requires c κs = rw (c .before .group-of .ensures, c .lesser .ensures) (c .before .before .pre .line)
+leads-requires c κs = rw (c .before .group-of .ensures, c .min-len .ensures) (c .before .before .pre .line)
 
 returns : tie.Need-returns
-returns c = rw (← c .before .lesser .ensures) (c .leads .ensures)
+returns c = rw (← c .before .min-len .ensures) (c .leads .ensures)
 
 pub edge-reach-spec : {M : Type 1} → statement M
 edge-reach-spec =
@@ -33,8 +33,8 @@ edge-reach-spec =
     (tie.spec
     add-group-of
     group-of-requires
-    mul-lesser
-    add-lesser
-    lesser-requires
+    mul-min-len
+    add-min-len
+    min-len-requires
     leads-requires
     returns)

@@ -5,7 +5,7 @@ use Rattle.order.specs.Signs.{avail-is}
 use mathlib.Core.Path.{sym, _∙_}
 use native.Mathlib.Omega.{arith}
 use borrow.Author.Tests.{ne-eqb}
-use Rattle.order.specs.Order.{availDoor}
+use Rattle.order.specs.Order.{isAvailable}
 use Rattle.order.specs.Good.{good-of, small-of, number-of}
 use borrow.Author.Needs.{needs}
 use Rattle.order.proofs.is_available.Statement.{statement}
@@ -15,7 +15,7 @@ order-no-requires : tie.Need-order-no-requires
 order-no-requires c κs = search needs
 
 returns : tie.Need-returns
-unfolding availDoor
+unfolding isAvailable
 returns c = simp (← c .before .order-no .ensures, ne-eqb _ _ (c .if1 .taken))
 
 shifts-of-requires : tie.Need-shifts-of-requires

@@ -7,37 +7,29 @@ use borrow.Author.Needs.{needs}
 use Rattle.order.proofs.order_no.Statement.{statement}
 use Rattle.order.proofs.order_no.Tie as tie
 
-side-ok-requires : tie.Need-side-ok-requires
-side-ok-requires c κs = search needs
-
-side-ok-requires-2 : tie.Need-side-ok-requires-2
-side-ok-requires-2 c κs = search needs
-
-ctu-ok-requires : tie.Need-ctu-ok-requires
-ctu-ok-requires c κs = search needs
+picture-ok-requires : tie.Need-picture-ok-requires
+picture-ok-requires c κs = search needs
 
 returns : tie.Need-returns
 unfolding orderNo
-returns c = if-no (pictureOk (c .before .before .before .before .args .p)) _ 4 4 (sym (both-same (both-same (c .before .before .before .side-ok .ensures) (c .before .before .side-ok2 .ensures)) (c .before .ctu-ok .ensures)) ∙ not-true _ (c .if1 .taken)) refl
+returns c = if-no (pictureOk (c .before .before .args .p)) _ 4 4 (sym (c .before .picture-ok .ensures) ∙ not-true _ (c .if1 .taken)) refl
 
 unit-ok-requires : tie.Need-unit-ok-requires
 unit-ok-requires c κs = search needs
 
 returns-2 : tie.Need-returns-2
 unfolding orderNo
-returns-2 c = if-yes (pictureOk (c .before .before .before .before .before .before .before .before .before .before .args .p)) _ 4 6 (sym (both-same (both-same (c .before .before .before .before .before .before .before .before .before .side-ok .ensures) (c .before .before .before .before .before .before .before .before .side-ok2 .ensures)) (c .before .before .before .before .before .before .before .ctu-ok .ensures)) ∙ not-false _ (c .before .before .before .before .before .before .if1 .left)) (if-no (placeOk (c .before .before .before .before .before .before .before .before .before .before .args .p) (c .before .before .before .before .before .before .before .before .before .before .args .row .0) (c .before .before .before .before .before .before .before .before .before .before .args .col .0)) 0 6 6 (sym (both-same (both-same (c .before .before .before .before .before .unit-ok .ensures) refl) refl) ∙ not-true _ (c .if2 .taken)) refl)
+returns-2 c = if-yes (pictureOk (c .before .before .before .before .before .before .before .before .args .p)) _ 4 6 (sym (c .before .before .before .before .before .before .before .picture-ok .ensures) ∙ not-false _ (c .before .before .before .before .before .before .if1 .left)) (if-no (placeOk (c .before .before .before .before .before .before .before .before .args .p) (c .before .before .before .before .before .before .before .before .args .row .0) (c .before .before .before .before .before .before .before .before .args .col .0)) 0 6 6 (sym (both-same (both-same (c .before .before .before .before .before .unit-ok .ensures) refl) refl) ∙ not-true _ (c .if2 .taken)) refl)
 
 returns-3 : tie.Need-returns-3
 unfolding orderNo
-returns-3 c = if-yes (pictureOk (c .before .before .before .before .before .before .before .before .before .before .args .p)) _ 4 0 (sym (both-same (both-same (c .before .before .before .before .before .before .before .before .before .side-ok .ensures) (c .before .before .before .before .before .before .before .before .side-ok2 .ensures)) (c .before .before .before .before .before .before .before .ctu-ok .ensures)) ∙ not-false _ (c .before .before .before .before .before .before .if1 .left)) (if-yes (placeOk (c .before .before .before .before .before .before .before .before .before .before .args .p) (c .before .before .before .before .before .before .before .before .before .before .args .row .0) (c .before .before .before .before .before .before .before .before .before .before .args .col .0)) 0 6 0 (sym (both-same (both-same (c .before .before .before .before .before .unit-ok .ensures) refl) refl) ∙ not-false _ (c .if2 .left)) refl)
+returns-3 c = if-yes (pictureOk (c .before .before .before .before .before .before .before .before .args .p)) _ 4 0 (sym (c .before .before .before .before .before .before .before .picture-ok .ensures) ∙ not-false _ (c .before .before .before .before .before .before .if1 .left)) (if-yes (placeOk (c .before .before .before .before .before .before .before .before .args .p) (c .before .before .before .before .before .before .before .before .args .row .0) (c .before .before .before .before .before .before .before .before .args .col .0)) 0 6 0 (sym (both-same (both-same (c .before .before .before .before .before .unit-ok .ensures) refl) refl) ∙ not-false _ (c .if2 .left)) refl)
 
 pub order-no-spec : {M : Type 1} → statement M
 order-no-spec =
     tie.close
     (tie.spec
-    side-ok-requires
-    side-ok-requires-2
-    ctu-ok-requires
+    picture-ok-requires
     returns
     unit-ok-requires
     returns-2

@@ -1,38 +1,46 @@
--- `plan::check_plan_bytes` meets its contract.
-use mathlib.Core.Path.{refl, sym, _∙_}
-use borrow.Author.Tests.{not-true, not-false, eq-eqb, ne-eqb}
-use Rattle.laws.specs.Choose.{if-yes, if-no}
-use Rattle.order.specs.Order.{pictureOk}
-use Rattle.plan.specs.tiling.Tiling.{pictureOf}
-use Rattle.plan.specs.RecordPlan.{wholeRecords, bytesVerdict}
-use Rattle.plan.specs.tiling.PlanCheck.{planVerdict}
+-- `plan::check_plan_bytes` meets its contract: each turn is a step of the check. Rests on `check_step`.
+use mathlib.Core.Path.{_∙_, sym, subst}
+use Prim.Native.Nat.{_-_, _≤_, _/_}
+use lib.ListN.{length}
 use borrow.Author.Needs.{needs}
+use Rattle.plan.specs.RecordPlan.{recordsOf}
+use Rattle.plan.specs.verdict.Standing.{Standing, standing-asks, standing-none, standing-more, standing-end}
 use Rattle.plan.proofs.check_plan_bytes.Statement.{statement}
 use Rattle.plan.proofs.check_plan_bytes.Tie as tie
 
-picture-ok-requires : tie.Need-picture-ok-requires
-picture-ok-requires c κs = search needs
+abbrev Inv-loop : tie.InvT-loop
+Inv-loop frame plan count t₀ i₀ t i = (i ≤ length plan / 6) × Standing frame (recordsOf plan) i t
 
-returns : tie.Need-returns
-unfolding bytesVerdict
-returns c = if-no (pictureOk (pictureOf (c .before .before .before .args .frame))) _ _ _ (sym (c .before .picture-ok .ensures) ∙ not-true _ (c .if1 .taken)) refl
+abbrev μ-loop : tie.MeasureT-loop
+μ-loop frame plan count t₀ i₀ t i = length plan / 6 - i
 
-returns-2 : tie.Need-returns-2
-unfolding bytesVerdict
-returns-2 c =
-    let a = c .before .before .before .before .args in
-    if-yes (pictureOk (pictureOf (a .frame))) _ _ _ (sym (c .before .before .picture-ok .ensures) ∙ not-false _ (c .before .if1 .left)) (if-no (wholeRecords (a .plan .now)) _ _ _ (ne-eqb _ 0 (c .if2 .taken)) refl)
+check-start-requires : tie.Need-check-start-requires Inv-loop μ-loop
+check-start-requires c κs = search needs
 
-check-records-requires : tie.Need-check-records-requires
-check-records-requires c κs = search needs
+loop-holds : tie.Need-loop-holds Inv-loop μ-loop
+loop-holds c = (search needs, subst (Standing _ _ 0) (sym (c .check-start .ensures)) (standing-none _ _))
 
-returns-3 : tie.Need-returns-3
-unfolding bytesVerdict planVerdict
-returns-3 c =
-    let a = c .before .before .before .before .before .args in
-    let good = sym (c .before .before .before .picture-ok .ensures) ∙ not-false _ (c .before .before .if1 .left) in
-    if-yes (pictureOk (pictureOf (a .frame))) _ _ _ good (if-yes (wholeRecords (a .plan .now)) _ _ _ (eq-eqb _ 0 (c .before .if2 .left)) (c .check-records .ensures ∙ sym (if-yes _ _ _ _ good refl)))
+record-at-requires : tie.Need-record-at-requires Inv-loop μ-loop
+record-at-requires c κs = search needs
+
+check-step-requires : tie.Need-check-step-requires Inv-loop μ-loop
+check-step-requires c κs = standing-asks (c .before .before .loop .inv .1)
+
+add-i : tie.Need-add-i Inv-loop μ-loop
+add-i c = search needs
+
+loop-less : tie.Need-loop-less Inv-loop μ-loop
+loop-less c = search needs
+
+loop-again : tie.Need-loop-again Inv-loop μ-loop
+loop-again c = (search needs, subst (Standing _ _ _) (sym (c .check-step .ensures)) (standing-more (c .before .before .before .loop .inv .1) (c .before .before .loop-test .taken) (c .before .record-at .result) (c .before .record-at .ensures)))
+
+check-end-requires : tie.Need-check-end-requires Inv-loop μ-loop
+check-end-requires c κs = search needs
+
+returns : tie.Need-returns Inv-loop μ-loop
+returns c = c .check-end .ensures ∙ standing-end (c .before .before .loop .inv .1) (c .before .loop-test .left)
 
 pub check-plan-bytes-spec : {M : Type 1} → statement M
 check-plan-bytes-spec =
-    tie.close (tie.spec picture-ok-requires returns returns-2 check-records-requires returns-3)
+    tie.close (tie.spec Inv-loop μ-loop check-start-requires loop-holds record-at-requires check-step-requires add-i loop-less loop-again check-end-requires returns)

@@ -1,30 +1,33 @@
 -- `plan::check_plan_numbers` meets its contract: each turn is a step of the check. Rests on `check_step`.
-use mathlib.Core.Path.{_∙_, sym, subst}
+use mathlib.Core.Path.{_∙_, sym, ap, subst}
 use Prim.Native.Nat.{_-_, _≤_}
 use lib.ListN.{length}
 use borrow.Author.Needs.{needs}
 use Rattle.plan.specs.tiling.Plan.{planOf}
-use Rattle.plan.specs.verdict.Standing.{Standing, standing-none, standing-more, standing-end}
+use Rattle.plan.specs.verdict.Standing.{checkStart, Standing, standing-asks, standing-none, standing-more, standing-end}
 use Rattle.plan.proofs.check_plan_numbers.Statement.{statement}
 use Rattle.plan.proofs.check_plan_numbers.Tie as tie
 
 abbrev Inv-loop : tie.InvT-loop
-Inv-loop frame plan count t₀ i₀ t i = (i ≤ length plan) × Standing frame (planOf plan) i t
+Inv-loop frame rows cols sides modes count t₀ i₀ t i = (i ≤ length rows) × Standing frame (planOf rows cols sides modes) i t
 
 abbrev μ-loop : tie.MeasureT-loop
-μ-loop frame plan count t₀ i₀ t i = length plan - i
+μ-loop frame rows cols sides modes count t₀ i₀ t i = length rows - i
+
+is-whole-requires : tie.Need-is-whole-requires Inv-loop μ-loop
+is-whole-requires c κs = search needs
 
 check-start-requires : tie.Need-check-start-requires Inv-loop μ-loop
 check-start-requires c κs = search needs
 
 loop-holds : tie.Need-loop-holds Inv-loop μ-loop
-loop-holds c = (search needs, subst (Standing _ _ 0) (sym (c .check-start .ensures)) (standing-none _ _))
+loop-holds c = (search needs, subst (Standing _ _ 0) (sym (c .check-start .ensures ∙ ap (checkStart _) (c .before .is-whole .ensures))) (standing-none _ _))
 
 block-at-requires : tie.Need-block-at-requires Inv-loop μ-loop
 block-at-requires c κs = search needs
 
 check-step-requires : tie.Need-check-step-requires Inv-loop μ-loop
-check-step-requires c κs = search needs
+check-step-requires c κs = standing-asks (c .before .before .loop .inv .1)
 
 add-i : tie.Need-add-i Inv-loop μ-loop
 add-i c = search needs
@@ -43,4 +46,4 @@ returns c = c .check-end .ensures ∙ standing-end (c .before .before .loop .inv
 
 pub check-plan-numbers-spec : {M : Type 1} → statement M
 check-plan-numbers-spec =
-    tie.close (tie.spec Inv-loop μ-loop check-start-requires loop-holds block-at-requires check-step-requires add-i loop-less loop-again check-end-requires returns)
+    tie.close (tie.spec Inv-loop μ-loop is-whole-requires check-start-requires loop-holds block-at-requires check-step-requires add-i loop-less loop-again check-end-requires returns)

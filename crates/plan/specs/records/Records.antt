@@ -6,6 +6,7 @@ use lib.Dec.{ltb}
 use lib.ListN.{length, getD}
 use Rattle.bytes.specs.Bytes.{le2}
 use Rattle.plan.specs.declared.tiling.Block.{Block}
+use Rattle.plan.specs.tiling.Plan.{noBlock}
 
 -- the record that begins at a byte
 abbrev pub recordOf : List ℕ → ℕ → Block
@@ -19,4 +20,4 @@ recordOf b at =
 
 -- block k of a plan of bytes; zeros where there is none
 unfoldable pub recordAt : List ℕ → ℕ → Block
-recordAt b k = cond (ltb k (length b / 6)) (recordOf b (6 * k)) (record { row = 0; col = 0; side = 0; mode = 0 })
+recordAt b k = cond (ltb k (length b / 6)) (recordOf b (6 * k)) noBlock

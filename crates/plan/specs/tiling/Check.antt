@@ -1,16 +1,14 @@
 -- Document 01: what refuses a block, 2, 3, 6, 9. Number 9 goes by a running count of the samples that are covered; that this decides
 -- 'next uncovered cell' exactly is proved in Cover. Assumes nothing.
 use Prim.Native.Nat.{ℕ, zero, suc, _+_, _-_, _*_, _/_, _%_, min}
-use mathlib.Core.Bool.{Bool, cond, _&&_}
+use mathlib.Core.Bool.{Bool, _&&_}
 use mathlib.Core.List.{[], _∷_}
 use lib.Dec.{leb, eqb}
 use Rattle.laws.specs.Choose.{_unless_, firstFail}
 use Rattle.h265.specs.Notation.{log2}
 use Rattle.domain.specs.Domain.{sizeOk, modeOk}
-use Rattle.order.specs.Order.{pictureOk}
 use Rattle.plan.specs.declared.tiling.Frame.{Frame}
 use Rattle.plan.specs.declared.tiling.Block.{Block}
-use Rattle.plan.specs.tiling.Tiling.{pictureOf}
 
 -- The picture's cells that come before the cell (y, x), counted by the bits of y and x: m halvings below the CTU, a block of s by s
 -- cells at (y, x) in blocks; h and w are the picture's sides in cells.
@@ -34,7 +32,3 @@ unfoldable pub blockNo : Frame → Block → ℕ → ℕ
 blockNo f b covered =
     firstFail
     ((2 unless sizeOk (b .side)) ∷ (3 unless modeOk (b .mode)) ∷ (6 unless placedOk f b) ∷ (9 unless eqb (ahead f (b .row) (b .col)) covered) ∷ [])
-
--- the same in any picture: number 4 comes first
-unfoldable pub blockDoor : Frame → Block → ℕ → ℕ
-blockDoor f b covered = cond (pictureOk (pictureOf f)) (blockNo f b covered) 4

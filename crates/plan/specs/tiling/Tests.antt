@@ -15,7 +15,7 @@ use Rattle.order.specs.Blocks.{picture-of, in-plane}
 use Rattle.plan.specs.declared.tiling.Frame.{Frame}
 use Rattle.plan.specs.declared.tiling.Block.{Block}
 use Rattle.plan.specs.tiling.Tiling.{pictureOf, Placed}
-use Rattle.plan.specs.tiling.Check.{ahead, placedOk, blockNo, blockDoor}
+use Rattle.plan.specs.tiling.Check.{ahead, placedOk, blockNo}
 
 -- the picture
 pub picture-good : (f : Frame) → pictureOk (pictureOf f) ≡ true → Good (pictureOf f)
@@ -73,19 +73,14 @@ module _ (f : Frame) (b : Block) (covered : ℕ) where
   unfolding blockNo
   no-2 s = simp s
 
-  pub no-3 : sizeOk (b .side) ≡ true → 34 < b .mode → 3 ≡ blockNo f b covered
+  pub no-3 : sizeOk (b .side) ≡ true → modeOk (b .mode) ≡ false → 3 ≡ blockNo f b covered
   unfolding blockNo
-  no-3 s m = simp (s, lt-leb (b .mode) 34 m)
+  no-3 s m = simp (s, m)
 
-  pub no-6 : sizeOk (b .side) ≡ true → b .mode ≤ 34 → placedOk f b ≡ false → 6 ≡ blockNo f b covered
+  pub no-6 : sizeOk (b .side) ≡ true → modeOk (b .mode) ≡ true → placedOk f b ≡ false → 6 ≡ blockNo f b covered
   unfolding blockNo
-  no-6 s m p = if-yes (sizeOk (b .side)) _ 2 6 s (if-yes (modeOk (b .mode)) _ 3 6 (le-leb (b .mode) 34 m) (if-no (placedOk f b) _ 6 6 p refl))
+  no-6 s m p = if-yes (sizeOk (b .side)) _ 2 6 s (if-yes (modeOk (b .mode)) _ 3 6 m (if-no (placedOk f b) _ 6 6 p refl))
 
-  pub no-last : sizeOk (b .side) ≡ true → b .mode ≤ 34 → placedOk f b ≡ true → (a : Bool) → eqb (ahead f (b .row) (b .col)) covered ≡ a → cond a 0 9 ≡ blockNo f b covered
+  pub no-last : sizeOk (b .side) ≡ true → modeOk (b .mode) ≡ true → placedOk f b ≡ true → (a : Bool) → eqb (ahead f (b .row) (b .col)) covered ≡ a → cond a 0 9 ≡ blockNo f b covered
   unfolding blockNo
-  no-last s m p a e = if-yes (sizeOk (b .side)) _ 2 _ s (if-yes (modeOk (b .mode)) _ 3 _ (le-leb (b .mode) 34 m) (if-yes (placedOk f b) _ 6 _ p (ap (λ (x : Bool). cond x 0 9) (sym e))))
-
-  -- in a good picture number 4 is not given
-  pub door-good : Good (pictureOf f) → blockDoor f b covered ≡ blockNo f b covered
-  unfolding blockDoor
-  door-good g = rw (good-picture f g)
+  no-last s m p a e = if-yes (sizeOk (b .side)) _ 2 _ s (if-yes (modeOk (b .mode)) _ 3 _ m (if-yes (placedOk f b) _ 6 _ p (ap (λ (x : Bool). cond x 0 9) (sym e))))

@@ -58,13 +58,20 @@ pub record Accepted (f : Frame) (plan : ℕ → Block) (count : ℕ) : Type 0 wh
   pub modes : Modes plan count
 
 -- what a verdict tells
-pub data Told (f : Frame) (plan : ℕ → Block) (count : ℕ) (v : Verdict) : Type 0 where
-  is-good : v ≡ record { no = 0; block = 0 } → Accepted f plan count → Told f plan count v
-  bad-picture : v ≡ record { no = 4; block = 0 } → (Good (pictureOf f) → ⊥) → Told f plan count v
-  bad-block : (n k : ℕ) → v ≡ record { no = n; block = k } → Good (pictureOf f) → Refused f plan count n k → Told f plan count v
-  bad-cover : v ≡ record { no = 10; block = 0 } → Good (pictureOf f) → Gap f plan count → Told f plan count v
+pub data Told (f : Frame) (l : Plan) (v : Verdict) : Type 0 where
+  is-good : v ≡ record { no = 0; block = 0 } → l .whole ≡ true → Accepted f (l .block) (l .count) → Told f l v
+  bad-picture : v ≡ record { no = 4; block = 0 } → (Good (pictureOf f) → ⊥) → Told f l v
+  not-whole : v ≡ record { no = 5; block = 0 } → Good (pictureOf f) → l .whole ≡ false → Told f l v
+  bad-block : (n k : ℕ) → v ≡ record { no = n; block = k } → Good (pictureOf f) → l .whole ≡ true → Refused f (l .block) (l .count) n k → Told f l v
+  bad-cover : v ≡ record { no = 10; block = 0 } → Good (pictureOf f) → l .whole ≡ true → Gap f (l .block) (l .count) → Told f l v
 
-module _ (f : Frame) (plan : ℕ → Block) (g : Good (pictureOf f)) where
+module _ (f : Frame) (l : Plan) (g : Good (pictureOf f)) (w : l .whole ≡ true) where
+  abbrev plan : ℕ → Block
+  plan = l .block
+
+  abbrev count : ℕ
+  count = l .count
+
   -- what the loop has found
   abbrev Found : ℕ → Type 0
   Found k = Checked g plan k × Modes plan k
@@ -79,34 +86,34 @@ module _ (f : Frame) (plan : ℕ → Block) (g : Good (pictureOf f)) where
   )
 
   -- block k has number x, which is n and not 0
-  stops : (count k n x : ℕ) → k < count → Found k → Broken f plan k n → 0 < n → (w : Verdict) → x ≡ n → Told f plan count (cond (eqb x 0) w (record { no = x; block = k }))
-  stops count k n x l h b pos w e =
-      subst (λ (u : ℕ). Told f plan count (cond (eqb u 0) w (record { no = u; block = k }))) (sym e)
-      (bad-block n k (sym (if-no (eqb n 0) w at at (ne-eqb n 0 (λ z. omega (arith, z))) refl)) g (record { listed = l; before = fine k h; broken = b }))
+  stops : (k n x : ℕ) → k < count → Found k → Broken f plan k n → 0 < n → (v : Verdict) → x ≡ n → Told f l (cond (eqb x 0) v (record { no = x; block = k }))
+  stops k n x m h b pos v e =
+      subst (λ (u : ℕ). Told f l (cond (eqb u 0) v (record { no = u; block = k }))) (sym e)
+      (bad-block n k (sym (if-no (eqb n 0) v at at (ne-eqb n 0 (λ z. omega (arith, z))) refl)) g w (record { listed = m; before = fine k h; broken = b }))
     where
       at : Verdict
       at = record { no = n; block = k }
 
   -- the verdict on m blocks from block k on, where those before it are found fine
-  told-from : (count m k : ℕ) → k + m ≡ count → Found k → Told f plan count (verdictFrom f plan m k (place plan k))
+  told-from : (m k : ℕ) → k + m ≡ count → Found k → Told f l (verdictFrom f plan m k (place plan k))
   unfolding verdictFrom place
-  told-from count zero k e h = go (ℕ-discrete (place plan k) (f .height * f .width))
+  told-from zero k e h = go (ℕ-discrete (place plan k) (f .height * f .width))
     where
       q : k ≡ count
       q = omega arith
 
-      go : Dec (place plan k ≡ f .height * f .width) → Told f plan count (record { no = cond (eqb (place plan k) (f .height * f .width)) 0 10; block = 0 })
+      go : Dec (place plan k ≡ f .height * f .width) → Told f l (record { no = cond (eqb (place plan k) (f .height * f .width)) 0 10; block = 0 })
       go (yes a) =
-          is-good (ap (λ (b : Bool). record { no = cond b 0 10; block = 0 }) (eq-eqb (place plan k) (f .height * f .width) a))
+          is-good (ap (λ (b : Bool). record { no = cond b 0 10; block = 0 }) (eq-eqb (place plan k) (f .height * f .width) a)) w
           (record { picture = g; plan-good = subst (GoodPlan f plan) q (good-plan g plan k .0 (h .0, a)); modes = subst (Modes plan) q (h .1) })
       go (no a) =
           let s = gap g plan k (h .0) a in
-          bad-cover (ap (λ (b : Bool). record { no = cond b 0 10; block = 0 }) (ne-eqb (place plan k) (f .height * f .width) a)) g
+          bad-cover (ap (λ (b : Bool). record { no = cond b 0 10; block = 0 }) (ne-eqb (place plan k) (f .height * f .width) a)) g w
           (subst (Gap f plan) q (record { before = fine k h; row = s .0; col = s .1; inside = s .2; bare = s .3 }))
-  told-from count (suc m) k e h = go (told-from count m (suc k) (omega arith)) (numbered f (plan k) (place plan k))
+  told-from (suc m) k e h = go (told-from m (suc k) (omega arith)) (numbered f (plan k) (place plan k))
     where
-      l : k < count
-      l = omega arith
+      less : k < count
+      less = omega arith
 
       x : ℕ
       x = blockNo f (plan k) (place plan k)
@@ -114,30 +121,41 @@ module _ (f : Frame) (plan : ℕ → Block) (g : Good (pictureOf f)) where
       rest : Verdict
       rest = verdictFrom f plan m (suc k) (place plan k + plan k .side * plan k .side)
 
-      go : (Found (suc k) → Told f plan count (verdictFrom f plan m (suc k) (place plan (suc k)))) → Numbered f (plan k) (place plan k) x
-          → Told f plan count (cond (eqb x 0) rest (record { no = x; block = k }))
+      go : (Found (suc k) → Told f l (verdictFrom f plan m (suc k) (place plan (suc k)))) → Numbered f (plan k) (place plan k) x
+          → Told f l (cond (eqb x 0) rest (record { no = x; block = k }))
       go ih (is-fine z p md a) =
-          subst (Told f plan count) (if-yes (eqb x 0) rest (record { no = x; block = k }) rest (eq-eqb x 0 z) refl) (ih (more k h p md a))
-      go ih (not-size z p) = stops count k 2 x l h (bad-size refl p) (omega arith) rest z
-      go ih (not-mode z p md) = stops count k 3 x l h (bad-mode refl p md) (omega arith) rest z
-      go ih (not-placed z p md a) = stops count k 6 x l h (bad-place refl p md a) (omega arith) rest z
-      go ih (not-next z p md a) = stops count k 9 x l h (bad-order refl p md (λ x. a (refusal-9 g plan k (h .0) p .1 x))) (omega arith) rest z
+          subst (Told f l) (if-yes (eqb x 0) rest (record { no = x; block = k }) rest (eq-eqb x 0 z) refl) (ih (more k h p md a))
+      go ih (not-size z p) = stops k 2 x less h (bad-size refl p) (omega arith) rest z
+      go ih (not-mode z p md) = stops k 3 x less h (bad-mode refl p md) (omega arith) rest z
+      go ih (not-placed z p md a) = stops k 6 x less h (bad-place refl p md a) (omega arith) rest z
+      go ih (not-next z p md a) = stops k 9 x less h (bad-order refl p md (λ y. a (refusal-9 g plan k (h .0) p .1 y))) (omega arith) rest z
 
 -- the whole of it
-pub told : (f : Frame) (l : Plan) → Told f (l .block) (l .count) (planVerdict f l)
+pub told : (f : Frame) (l : Plan) → Told f l (planVerdict f l)
 unfolding planVerdict place
-told f l = go (pictureOk (pictureOf f)) refl
+told f l = go (pictureOk (pictureOf f)) (l .whole) refl refl
   where
-    go : (b : Bool) → pictureOk (pictureOf f) ≡ b → Told f (l .block) (l .count) (cond b (verdictFrom f (l .block) (l .count) 0 0) (record { no = 4; block = 0 }))
-    go true e = told-from f (l .block) (picture-good f e) (l .count) (l .count) 0 (omega arith) (λ i m. absurd (omega arith), λ i m. absurd (omega arith))
-    go false e = bad-picture refl (λ g. true≢false (sym (good-picture f g) ∙ e))
+    go : (b w : Bool) → pictureOk (pictureOf f) ≡ b → l .whole ≡ w
+        → Told f l (cond b (cond w (verdictFrom f (l .block) (l .count) 0 0) (record { no = 5; block = 0 })) (record { no = 4; block = 0 }))
+    go true true e q = told-from f l (picture-good f e) q (l .count) 0 (omega arith) (λ i m. absurd (omega arith), λ i m. absurd (omega arith))
+    go true false e q = not-whole refl (picture-good f e) q
+    go false w e q = bad-picture refl (λ g. true≢false (sym (good-picture f g) ∙ e))
 
 -- a block's number is none of the others
-block-no : {f : Frame} {plan : ℕ → Block} {k n : ℕ} → Broken f plan k n → (n ≡ 0 → ⊥) × ((n ≡ 4 → ⊥) × (n ≡ 10 → ⊥))
-block-no (bad-size z p) = (λ y. omega (arith, z, y), (λ y. omega (arith, z, y), λ y. omega (arith, z, y)))
-block-no (bad-mode z p a) = (λ y. omega (arith, z, y), (λ y. omega (arith, z, y), λ y. omega (arith, z, y)))
-block-no (bad-place z p a b) = (λ y. omega (arith, z, y), (λ y. omega (arith, z, y), λ y. omega (arith, z, y)))
-block-no (bad-order z p a b) = (λ y. omega (arith, z, y), (λ y. omega (arith, z, y), λ y. omega (arith, z, y)))
+abbrev Other : ℕ → Type 0
+Other n = (n ≡ 0 → ⊥) × ((n ≡ 4 → ⊥) × ((n ≡ 5 → ⊥) × (n ≡ 10 → ⊥)))
+
+block-no : {f : Frame} {plan : ℕ → Block} {k n : ℕ} → Broken f plan k n → Other n
+block-no {n = n} b = go b
+  where
+    other : (m : ℕ) → n ≡ m → Other m → Other n
+    other m e o = subst Other (sym e) o
+
+    go : {f : Frame} {plan : ℕ → Block} {k : ℕ} → Broken f plan k n → Other n
+    go (bad-size z p) = other 2 z (λ y. omega (arith, y), (λ y. omega (arith, y), (λ y. omega (arith, y), λ y. omega (arith, y))))
+    go (bad-mode z p a) = other 3 z (λ y. omega (arith, y), (λ y. omega (arith, y), (λ y. omega (arith, y), λ y. omega (arith, y))))
+    go (bad-place z p a b) = other 6 z (λ y. omega (arith, y), (λ y. omega (arith, y), (λ y. omega (arith, y), λ y. omega (arith, y))))
+    go (bad-order z p a b) = other 9 z (λ y. omega (arith, y), (λ y. omega (arith, y), (λ y. omega (arith, y), λ y. omega (arith, y))))
 
 no-of : {v w : Verdict} → v ≡ w → v .no ≡ w .no
 no-of q = ap (λ (v : Verdict). v .no) q
@@ -147,22 +165,24 @@ module _ (f : Frame) (l : Plan) where
   v = planVerdict f l
 
   -- the number is 0 exactly when the plan is good
-  pub verdict-good : v .no ≡ 0 → Accepted f (l .block) (l .count)
+  pub verdict-good : v .no ≡ 0 → (l .whole ≡ true) × Accepted f (l .block) (l .count)
   verdict-good e = go (told f l)
     where
-      go : Told f (l .block) (l .count) v → Accepted f (l .block) (l .count)
-      go (is-good q a) = a
+      go : Told f l v → (l .whole ≡ true) × Accepted f (l .block) (l .count)
+      go (is-good q w a) = (w, a)
       go (bad-picture q a) = absurd (omega (arith, e, no-of q))
-      go (bad-block n k q g r) = absurd (block-no (r .broken) .0 (sym (no-of q) ∙ e))
-      go (bad-cover q g a) = absurd (omega (arith, e, no-of q))
+      go (not-whole q g w) = absurd (omega (arith, e, no-of q))
+      go (bad-block n k q g w r) = absurd (block-no (r .broken) .0 (sym (no-of q) ∙ e))
+      go (bad-cover q g w a) = absurd (omega (arith, e, no-of q))
 
-  pub good-verdict : Accepted f (l .block) (l .count) → v ≡ record { no = 0; block = 0 }
-  good-verdict x = go (told f l)
+  pub good-verdict : l .whole ≡ true → Accepted f (l .block) (l .count) → v ≡ record { no = 0; block = 0 }
+  good-verdict t x = go (told f l)
     where
-      go : Told f (l .block) (l .count) v → v ≡ record { no = 0; block = 0 }
-      go (is-good q a) = q
+      go : Told f l v → v ≡ record { no = 0; block = 0 }
+      go (is-good q w a) = q
       go (bad-picture q a) = absurd (a (x .picture))
-      go (bad-block n k q g r) = absurd (kept (r .broken))
+      go (not-whole q g w) = absurd (true≢false (sym t ∙ w))
+      go (bad-block n k q g w r) = absurd (kept (r .broken))
         where
           p : Placed f ((l .block) k)
           p = x .plan-good .placed k (r .listed)
@@ -172,23 +192,25 @@ module _ (f : Frame) (l : Plan) where
           kept (bad-mode z a b) = omega (arith, b, x .modes k (r .listed))
           kept (bad-place z a b d) = d p
           kept (bad-order z a b d) = d (x .plan-good .next k (r .listed))
-      go (bad-cover q g a) = absurd (a .bare (x .plan-good .all (a .row) (a .col) (a .inside)))
+      go (bad-cover q g w a) = absurd (a .bare (x .plan-good .all (a .row) (a .col) (a .inside)))
 
-  -- every number but 0, 4 and 10 is about the block it names, and 10 about a sample
-  pub verdict-block : (v .no ≡ 0 → ⊥) → (v .no ≡ 4 → ⊥) → (v .no ≡ 10 → ⊥) → Refused f (l .block) (l .count) (v .no) (v .block)
-  verdict-block good picture cover = go (told f l)
+  -- every number but 0, 4, 5 and 10 is about the block it names, and 10 about a sample
+  pub verdict-block : (v .no ≡ 0 → ⊥) → (v .no ≡ 4 → ⊥) → (v .no ≡ 5 → ⊥) → (v .no ≡ 10 → ⊥) → Refused f (l .block) (l .count) (v .no) (v .block)
+  verdict-block good picture whole cover = go (told f l)
     where
-      go : Told f (l .block) (l .count) v → Refused f (l .block) (l .count) (v .no) (v .block)
-      go (is-good q a) = absurd (good (no-of q))
+      go : Told f l v → Refused f (l .block) (l .count) (v .no) (v .block)
+      go (is-good q w a) = absurd (good (no-of q))
       go (bad-picture q a) = absurd (picture (no-of q))
-      go (bad-block n k q g r) = subst (λ (u : Verdict). Refused f (l .block) (l .count) (u .no) (u .block)) (sym q) r
-      go (bad-cover q g a) = absurd (cover (no-of q))
+      go (not-whole q g w) = absurd (whole (no-of q))
+      go (bad-block n k q g w r) = subst (λ (u : Verdict). Refused f (l .block) (l .count) (u .no) (u .block)) (sym q) r
+      go (bad-cover q g w a) = absurd (cover (no-of q))
 
   pub verdict-cover : v .no ≡ 10 → Gap f (l .block) (l .count)
   verdict-cover e = go (told f l)
     where
-      go : Told f (l .block) (l .count) v → Gap f (l .block) (l .count)
-      go (is-good q a) = absurd (omega (arith, e, no-of q))
+      go : Told f l v → Gap f (l .block) (l .count)
+      go (is-good q w a) = absurd (omega (arith, e, no-of q))
       go (bad-picture q a) = absurd (omega (arith, e, no-of q))
-      go (bad-block n k q g r) = absurd (block-no (r .broken) .1 .1 (sym (no-of q) ∙ e))
-      go (bad-cover q g a) = a
+      go (not-whole q g w) = absurd (omega (arith, e, no-of q))
+      go (bad-block n k q g w r) = absurd (block-no (r .broken) .1 .1 .1 (sym (no-of q) ∙ e))
+      go (bad-cover q g w a) = a

@@ -1,15 +1,26 @@
--- `predict::predict_chroma_tb_slices` meets its contract. The block of the mode with nothing filtered is chroma's. Rests on `predict_by_mode`.
-use mathlib.Core.Path.{_∙_}
+-- `predict::predict_chroma_tb_slices` meets its contract. The block of the mode with nothing filtered is chroma's. Rests on `by_mode`.
+use mathlib.Core.Path.{refl, sym, _∙_}
 use lib.ListN.{length}
+use Rattle.laws.specs.Choose.{worked, unserved}
 use Rattle.h265.specs.Notation.{fromRows}
-use Rattle.samples.specs.numbers.Numbers.{Lent}
-use Rattle.predict.specs.Contents.{chroma-left}
+use Rattle.predict.specs.refusals.Refusals.{Lent, lengths}
+use Rattle.predict.specs.by_mode.Door.{Given, given, side}
+use Rattle.predict.specs.Contents.{chroma-block}
 use borrow.Author.Needs.{needs}
 use Rattle.predict.proofs.predict_chroma_tb_slices.Statement.{statement}
 use Rattle.predict.proofs.predict_chroma_tb_slices.Tie as tie
 
-predict-by-mode-requires : tie.Need-predict-by-mode-requires
-predict-by-mode-requires c κs = search needs
+-- what a call that is served has
+abbrev lentBy : tie.Start → Lent
+lentBy s =
+    let a = s .args in
+    lengths (length (a .above .now)) (length (a .left .now)) (length (a .pred .now)) (length (a .refs .now)) (length (a .indices .now)) (length (a .fractions .now))
+
+predict-no-requires : tie.Need-predict-no-requires
+predict-no-requires c κs = search needs
+
+by-mode-requires : tie.Need-by-mode-requires
+by-mode-requires c κs = given _ _ _ (lentBy (c .before .before .before .before .before .before .before .before .before .before)) (sym (c .before .before .before .predict-no .ensures) ∙ c .before .before .if1 .taken)
 
 same-length : tie.Need-same-length
 same-length c = search needs
@@ -17,19 +28,16 @@ same-length c = search needs
 same-length-2 : tie.Need-same-length-2
 same-length-2 c = search needs
 
-same-length-3 : tie.Need-same-length-3
-same-length-3 c = search needs
-
-same-length-4 : tie.Need-same-length-4
-same-length-4 c = search needs
-
 returns : tie.Need-returns
 returns c =
-    let a = c .before .before .before .before .before .before .before .before .before .before .before .before .before .before .before .before .before .before .before .args in
-    let l : Lent = record { above = length (a .above .now); left = length (a .left .now); pred = length (a .pred .now); refs = length (a .refs .now); indices = length (a .indices .now); fractions = length (a .fractions .now) } in
-    let p = c .before .before .before .before .before .before .before .before .predict-by-mode in
-    let e = p .ensures in
-    (e .0, (e .1 .0 ∙ chroma-left (a .bits) (a .n) (a .mode) l (p .result) (e .0) (a .pred .now) (fromRows (a .corner) (a .above .now) (a .left .now)), e .1 .1))
+    let s = c .before .before .before .before .before .before .before .before .before .before .before .before .before .before .before in
+    let a = s .args in
+    let z = c .before .before .before .before .before .before .before .if1 .taken in
+    let g = given (a .bits) (a .n) (a .mode) (lentBy s) (sym (c .before .before .before .before .before .before .before .before .predict-no .ensures) ∙ z) in
+    (c .before .before .before .before .before .before .before .before .predict-no .ensures, (c .before .before .before .before .by-mode .ensures ∙ chroma-block (a .bits) (a .n) (a .mode) (side (g .block)) (a .pred .now) (fromRows (a .corner) (a .above .now) (a .left .now)) ∙ worked _ _ _ z, λ q. absurd (q z)))
+
+returns-2 : tie.Need-returns-2
+returns-2 c = (c .before .predict-no .ensures, (unserved _ _ _ (c .if1 .left), λ z. (refl, (refl, refl))))
 
 pub predict-chroma-tb-slices-spec : {M : Type 1} → statement M
-predict-chroma-tb-slices-spec = tie.close (tie.spec predict-by-mode-requires same-length same-length-2 same-length-3 same-length-4 returns)
+predict-chroma-tb-slices-spec = tie.close (tie.spec predict-no-requires by-mode-requires same-length same-length-2 returns returns-2)

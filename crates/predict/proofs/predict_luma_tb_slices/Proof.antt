@@ -1,24 +1,46 @@
--- `predict::predict_luma_tb_slices` meets its contract. The used rows are what the standard prepares, as far as a sample reads. Rests on `luma_rows` and `predict_by_mode`.
-use mathlib.Core.Path.{_≡_, ap₂, _∙_}
+-- `predict::predict_luma_tb_slices` meets its contract. The used rows are what the standard prepares, as far as a sample reads. Rests on `luma_rows` and `by_mode`.
+use mathlib.Core.Path.{_≡_, refl, sym, ap, _∙_}
 use Prim.Native.Nat.{ℕ}
+use mathlib.Core.Bool.{true}
+use native.Mathlib.Omega.{arith}
 use lib.ListN.{length}
-use Rattle.samples.specs.numbers.Numbers.{Lent, predictNo}
-use Rattle.predict.specs.Contents.{luma-left}
+use Rattle.laws.specs.Fill.{block}
+use Rattle.laws.specs.Choose.{worked, unserved}
+use Rattle.domain.specs.declared.rows.Rows.{Rows}
+use Rattle.domain.specs.rows.Neighbours.{neighboursOf}
+use Rattle.predict.specs.refusals.Refusals.{Lent, lengths}
+use Rattle.predict.specs.modes.Modes.{byMode}
+use Rattle.predict.specs.by_mode.Door.{Given, given, side, highest}
+use Rattle.predict.specs.Contents.{luma-block}
 use borrow.Author.Needs.{needs}
 use Rattle.predict.proofs.predict_luma_tb_slices.Statement.{statement}
 use Rattle.predict.proofs.predict_luma_tb_slices.Tie as tie
 
+-- what the call lends, and what it has where it is served
+abbrev lentBy : tie.Start → Lent
+lentBy s =
+    let a = s .args in
+    lengths 65 65 (length (a .pred .now)) (length (a .refs .now)) (length (a .indices .now)) (length (a .fractions .now))
+
+predict-no-requires : tie.Need-predict-no-requires
+predict-no-requires c κs = search needs
+
 luma-rows-requires : tie.Need-luma-rows-requires
-luma-rows-requires c κs = search needs
+luma-rows-requires c κs = given _ _ _ (lentBy (c .before .before .before .before .before .before)) (sym (c .before .predict-no .ensures) ∙ c .if1 .taken) .block
 
-slice-aggregate-predict-by-mode : tie.Need-slice-aggregate-predict-by-mode
-slice-aggregate-predict-by-mode c = search needs
+slice-aggregate-by-mode : tie.Need-slice-aggregate-by-mode
+slice-aggregate-by-mode c = search needs
 
-slice-aggregate-predict-by-mode-2 : tie.Need-slice-aggregate-predict-by-mode-2
-slice-aggregate-predict-by-mode-2 c = search needs
+slice-aggregate-by-mode-2 : tie.Need-slice-aggregate-by-mode-2
+slice-aggregate-by-mode-2 c = search needs
 
-predict-by-mode-requires : tie.Need-predict-by-mode-requires
-predict-by-mode-requires c κs = search needs
+by-mode-requires : tie.Need-by-mode-requires
+by-mode-requires c κs =
+    let g = given _ _ _ (lentBy (c .before .before .before .before .before .before .before .before .before .before .before .before .before)) (sym (c .before .before .before .before .before .before .before .before .predict-no .ensures) ∙ c .before .before .before .before .before .before .before .if1 .taken) in
+    let used = c .before .before .before .before .before .before .luma-rows .result in
+    let up : length (used .above) ≡ 65 = search needs in
+    let down : length (used .left) ≡ 65 = search needs in
+    record { block = g .block; above-long = omega arith; left-long = omega arith; room = g .room; refs-long = g .refs-long }
 
 same-length : tie.Need-same-length
 same-length c = search needs
@@ -26,30 +48,34 @@ same-length c = search needs
 same-length-2 : tie.Need-same-length-2
 same-length-2 c = search needs
 
-same-length-3 : tie.Need-same-length-3
-same-length-3 c = search needs
-
-same-length-4 : tie.Need-same-length-4
-same-length-4 c = search needs
-
--- the rows that the call is given
-rows-long : (s : tie.Start) → (length (s .args .rows .above) ≡ 65) × (length (s .args .rows .left) ≡ 65)
-rows-long s = search needs
-
 returns : tie.Need-returns
 returns c =
-    let s = c .before .before .before .before .before .before .before .before .before .before .before .before .before .before .before .before .before .before .before .before .before .before in
+    let s = c .before .before .before .before .before .before .before .before .before .before .before .before .before .before .before .before .before .before in
     let a = s .args in
-    let lent : ℕ → ℕ → Lent = λ u v. record { above = u; left = v; pred = length (a .pred .now); refs = length (a .refs .now); indices = length (a .indices .now); fractions = length (a .fractions .now) } in
-    let used = c .before .before .before .before .before .before .before .before .before .before .before .before .before .before .before .before .before .luma-rows in
-    let p = c .before .before .before .before .before .before .before .before .predict-by-mode in
-    let e = p .ensures in
-    let up : length (used .result .above) ≡ 65 = search needs in
-    let down : length (used .result .left) ≡ 65 = search needs in
-    let told = e .0 ∙ ap₂ (λ (u v : ℕ). predictNo (a .bits) (a .n) (a .mode) (lent u v)) up down in
-    (told, (e .1 .0 ∙ luma-left (a .bits) (a .n) (a .mode) (lent 65 65) (p .result) told (a .pred .now) (a .rows) (used .result) (used .ensures) (rows-long s .0) (rows-long s .1), e .1 .1))
+    let z = c .before .before .before .before .before .before .before .before .before .before .before .before .if1 .taken in
+    let g = given (a .bits) (a .n) (a .mode) (lentBy s) (sym (c .before .before .before .before .before .before .before .before .before .before .before .before .before .predict-no .ensures) ∙ z) in (
+      c .before .before .before .before .before .before .before .before .before .before .before .before .before .predict-no .ensures,
+      (
+        c .before .before .before .before .by-mode .ensures
+            ∙ ap (λ (u : Rows). block (λ (y x : ℕ). byMode (a .bits) true true (a .n) (a .mode) (neighboursOf u) x y) (a .n) (a .pred .now)) (c .before .before .before .before .before .before .before .before .before .before .before .luma-rows .ensures)
+            ∙ luma-block (a .bits) (a .n) (a .mode) (side (g .block)) (a .pred .now) (highest (g .block)) (a .rows) ∙ worked _ _ _ z,
+        λ q. absurd (q z),
+      ),
+    )
+
+returns-2 : tie.Need-returns-2
+returns-2 c = (c .before .predict-no .ensures, (unserved _ _ _ (c .if1 .left), λ z. (refl, (refl, refl))))
 
 pub predict-luma-tb-slices-spec : {M : Type 1} → statement M
 predict-luma-tb-slices-spec =
     tie.close
-    (tie.spec luma-rows-requires slice-aggregate-predict-by-mode slice-aggregate-predict-by-mode-2 predict-by-mode-requires same-length same-length-2 same-length-3 same-length-4 returns)
+    (tie.spec
+    predict-no-requires
+    luma-rows-requires
+    slice-aggregate-by-mode
+    slice-aggregate-by-mode-2
+    by-mode-requires
+    same-length
+    same-length-2
+    returns
+    returns-2)

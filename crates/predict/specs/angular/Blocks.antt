@@ -16,8 +16,8 @@ use Rattle.h265.specs.Angular.{angular}
 use Rattle.samples.specs.taps.Taps.{interpOf, edgeOf}
 use Rattle.predict.specs.angular.Unsigned.{angles, inverses, startOf, refAt, sampleAt, angularAt}
 use Rattle.predict.specs.angular.Bridge.{angular-same}
-use Rattle.samples.specs.lines.Starts.{lineStart, fractionOf, firstOf}
-use Rattle.samples.specs.lines.Angles.{turns, bends}
+use Rattle.predict.specs.angles.Starts.{lineStart, fractionOf, firstOf}
+use Rattle.predict.specs.angles.Angles.{turns, bends}
 use Rattle.predict.specs.angular.Lines.{lineAt, first-le}
 use Rattle.predict.specs.angular.Tables.{turn-angle, bend-inverse}
 use Rattle.predict.specs.angular.Grid.{column, column-block, row-block}

@@ -14,7 +14,7 @@ use lib.IntN.{ℤ, pos, negsuc, negℤ, subℕ, _+ℤ_, _*ℤ_}
 use lib.Signed.{shrZ, ltZ, leZ}
 use Rattle.h265.specs.Notation.{Neighbours, near, _>>_, low5}
 use Rattle.h265.specs.Angular.{intraPredAngle, invAngle, ref, project, angular}
-use Rattle.samples.specs.lines.Starts.{fractionOf}
+use Rattle.predict.specs.angles.Starts.{fractionOf}
 use Rattle.predict.specs.angular.Lines.{first-le}
 use Rattle.samples.specs.taps.Taps.{interpOf}
 use Rattle.predict.specs.angular.Unsigned.{angles, inverses, startOf, sideOf, refAt, sampleAt, mirror, angularAt}

@@ -8,7 +8,7 @@ use borrow.Author.Tests.{leb-true}
 use Rattle.laws.specs.Choose.{passed, both-true}
 use Rattle.domain.specs.Domain.{depthOk, sizeOk, modeOk, predictorRow}
 use Rattle.domain.specs.Facts.{Depth, Size, at-size, depth-of, size-of, size-small}
-use Rattle.samples.specs.numbers.Numbers.{Lent, enough, angularNo}
+use Rattle.predict.specs.refusals.Refusals.{Lent, enough, angularNo}
 
 -- what a call that is served has
 pub record Fit (bits n mode : ℕ) (l : Lent) : Type 0 where

@@ -7,7 +7,7 @@ use native.Mathlib.Nat.{mul-le-mul-left, add-mul}
 use native.Mathlib.Omega.{arith}
 use lib.Dec.{leb}
 use lib.ListN.{getD}
-use Rattle.samples.specs.lines.Starts.{lineStart, fractionOf, firstOf}
+use Rattle.predict.specs.angles.Starts.{lineStart, fractionOf, firstOf}
 use Rattle.samples.specs.taps.Taps.{interpOf}
 use Rattle.predict.specs.angular.Unsigned.{startOf}
 

@@ -14,7 +14,7 @@ use Rattle.domain.specs.Facts.{Size, at-size}
 use Rattle.h265.specs.Notation.{Neighbours}
 use Rattle.samples.specs.taps.Taps.{interpOf}
 use Rattle.predict.specs.angular.Unsigned.{sideOf, refAt}
-use Rattle.samples.specs.lines.Starts.{lineStart, fractionOf, firstOf}
+use Rattle.predict.specs.angles.Starts.{lineStart, fractionOf, firstOf}
 use Rattle.predict.specs.angular.Lines.{reachOf}
 use Rattle.predict.specs.angular.Grid.{column}
 

@@ -9,8 +9,8 @@ use borrow.Author.Tests.{le-ltb}
 use Rattle.laws.specs.Table.{at}
 use Rattle.domain.specs.Facts.{Size, at-size}
 use Rattle.predict.specs.angular.Unsigned.{angles, inverses, sideOf}
-use Rattle.samples.specs.lines.Starts.{firstOf}
-use Rattle.samples.specs.lines.Angles.{turns, bends}
+use Rattle.predict.specs.angles.Starts.{firstOf}
+use Rattle.predict.specs.angles.Angles.{turns, bends}
 
 pub turn-angle : (mode : ℕ) → 2 ≤ mode → mode < 35 → getD turns (mode - 18 + (18 - mode)) 0 ≡ getD angles mode 0
 turn-angle mode l h =

@@ -6,7 +6,7 @@ use lib.Dec.{leb, ltb, eqb}
 use lib.ListN.{getD}
 use Rattle.h265.specs.Notation.{Neighbours}
 use Rattle.samples.specs.taps.Taps.{interpOf, edgeOf}
-use Rattle.samples.specs.lines.Starts.{fractionOf}
+use Rattle.predict.specs.angles.Starts.{fractionOf}
 
 -- intraPredAngle plus 32, by mode
 abbrev pub angles : List ℕ

@@ -1,32 +1,21 @@
--- What a call with number 0 has, and that the predictors serve it. Rests on the domain and on the numbers.
-use mathlib.Core.Path.{_≡_, sym, _∙_}
-use mathlib.Core.Bool.{true, _&&_}
-use Prim.Native.Nat.{ℕ, _*_, _≤_}
+-- What a call with number 0 has, and what the work of each kind of mode asks of it. Rests on the domain and on the numbers.
+use mathlib.Core.Path.{_≡_}
+use mathlib.Core.Bool.{true}
+use Prim.Native.Nat.{ℕ, _+_, _*_, _≤_, _<_}
 use native.Mathlib.Omega.{arith}
 use lib.Dec.{leb}
-use borrow.Author.Tests.{leb-true, le-leb}
-use Rattle.laws.specs.Choose.{served, worked, passed, both-true, both-same}
+use borrow.Author.Tests.{leb-true}
+use Rattle.laws.specs.Choose.{passed, both-true}
 use Rattle.domain.specs.Domain.{depthOk, sizeOk, modeOk, predictorRow}
-use Rattle.domain.specs.Facts.{Size, size-of}
-use Rattle.samples.specs.numbers.Numbers.{Lent, enough, flatNo, angularNo, predictNo}
+use Rattle.domain.specs.Facts.{Depth, Size, depth-of, size-of, size-small}
+use Rattle.predict.specs.refusals.Refusals.{Lent, enough, predictNo}
+use Rattle.predict.specs.planar_dc.Flat.{Ready}
 
--- the tests of a block that hold where a call is served, and what is lent
+-- the tests of a block that hold where a call is served
 pub record Block (bits n mode : ℕ) : Type 0 where
   pub depth : depthOk bits ≡ true
   pub size : sizeOk n ≡ true
   pub inside : modeOk mode ≡ true
-
-pub fit : (bits n mode : ℕ) (l : Lent) → predictNo bits n mode l ≡ 0 → Block bits n mode × (enough n l ≡ true)
-fit bits n mode l e =
-    let p = passed (depthOk bits) _ 1 (omega arith) e in
-    let q = passed (sizeOk n) _ 2 (omega arith) (p .1) in
-    let r = passed (modeOk mode) _ 3 (omega arith) (q .1) in
-    let s = passed (enough n l) _ 5 (omega arith) (r .1) in
-    (record { depth = p .0; size = q .0; inside = r .0 }, s .0)
-
--- what a call with number 0 left behind is its work
-pub did : {A : Type 0} (k : ℕ) (work kept : A) {out : A} → k ≡ 0 → out ≡ served k work kept → out ≡ work
-did k work kept z e = e ∙ sym (worked k work kept z)
 
 module _ {bits n mode : ℕ} (b : Block bits n mode) where
   pub side : Size n
@@ -35,16 +24,47 @@ module _ {bits n mode : ℕ} (b : Block bits n mode) where
   pub highest : mode ≤ 34
   highest = leb-true mode 34 (b .inside)
 
-  module _ (l : Lent) (g : enough n l ≡ true) where
-    -- planar and DC ask for a part of what is lent
-    pub flat-serves : flatNo n (l .above) (l .left) (l .pred) ≡ 0
-    unfolding flatNo
-    flat-serves =
-        let block = leb (predictorRow n) (l .above) && leb (predictorRow n) (l .left) && leb (n * n) (l .pred) in
-        let x = both-true (block && leb 193 (l .refs) && leb 32 (l .indices)) (leb 32 (l .fractions)) g in
-        let y = both-true (block && leb 193 (l .refs)) (leb 32 (l .indices)) (x .0) in
-        let z = both-true block (leb 193 (l .refs)) (y .0) in
-        rw (b .size, z .0)
+-- and what it is lent: two rows, the block's buffer and the references of the scratch
+pub record Given (bits n mode above left pred refs : ℕ) : Type 0 where
+  pub block : Block bits n mode
+  pub above-long : 65 ≤ above
+  pub left-long : 65 ≤ left
+  pub room : n * n ≤ pred
+  pub refs-long : 193 ≤ refs
 
-    pub angular-serves : 2 ≤ mode → angularNo bits n mode l ≡ 0
-    angular-serves h = rw (b .depth, b .size, both-same (le-leb 2 mode h) (b .inside), g)
+pub given : (bits n mode : ℕ) (l : Lent) → predictNo bits n mode l ≡ 0 → Given bits n mode (l .above) (l .left) (l .pred) (l .refs)
+given bits n mode l e =
+    let p = passed (depthOk bits) _ 1 (omega arith) e in
+    let q = passed (sizeOk n) _ 2 (omega arith) (p .1) in
+    let r = passed (modeOk mode) _ 3 (omega arith) (q .1) in
+    let s = passed (enough n l) _ 5 (omega arith) (r .1) in
+    let a = both-true _ (leb 32 (l .fractions)) (s .0) in
+    let b = both-true _ (leb 32 (l .indices)) (a .0) in
+    let c = both-true _ (leb 193 (l .refs)) (b .0) in
+    let d = both-true _ (leb (n * n) (l .pred)) (c .0) in
+    let f = both-true (leb (predictorRow n) (l .above)) (leb (predictorRow n) (l .left)) (d .0) in
+    record {
+      block = record { depth = p .0; size = q .0; inside = r .0 };
+      above-long = leb-true _ _ (f .0);
+      left-long = leb-true _ _ (f .1);
+      room = leb-true _ _ (d .1);
+      refs-long = leb-true _ _ (c .1);
+    }
+
+module _ {bits n mode above left pred refs : ℕ} (g : Given bits n mode above left pred refs) where
+  pub flat-ready : Ready n above left × (n * n ≤ pred)
+  flat-ready =
+      let h = size-small n (side (g .block)) in
+      let a = g .above-long in
+      let l = g .left-long in
+      (record { size = side (g .block); some = h .0; most = h .1; above = omega arith; left = omega arith }, g .room)
+
+  pub angular-ready : 2 ≤ mode
+      → Depth bits × (Size n × ((2 ≤ mode) × ((mode < 35) × ((2 * n ≤ above) × ((2 * n ≤ left) × ((n * n ≤ pred) × (65 + n ≤ refs)))))))
+  angular-ready low =
+      let h = size-small n (side (g .block)) in
+      let top = highest (g .block) in
+      let a = g .above-long in
+      let l = g .left-long in
+      let r = g .refs-long in
+      (depth-of bits (g .block .depth), (side (g .block), (low, (omega arith, (omega arith, (omega arith, (g .room, omega arith)))))))

@@ -1,21 +1,29 @@
--- The rows that a luma block is predicted from: what smoothing's door gives where the rule's door says yes, and the rows as they are where it does not.
--- Rests on the definitions of both doors.
+-- The rows that a luma block is predicted from: smoothed where the rule says so, and as they are where it does not; the doors of rule and smoothing give
+-- them for a block that is served. Rests on the definitions of both doors.
 use mathlib.Core.Path.{_≡_, sym, ap, _∙_}
 use mathlib.Core.Bool.{true, false, cond}
 use Prim.Native.Nat.{ℕ}
+use lib.ListN.{length}
 use Rattle.domain.specs.declared.rows.Rows.{Rows}
+use Rattle.h265.specs.Filtering.{filterFlag}
 use Rattle.smooth.specs.declared.Rule.{Rule}
 use Rattle.smooth.specs.declared.Smoothed.{Smoothed}
-use Rattle.smooth.specs.Smoothing.{ruleDoor, lumaDoor}
+use Rattle.smooth.specs.Smoothing.{smoothed, shouldFilterRefs, filterLumaRefs}
+use Rattle.predict.specs.by_mode.Door.{Block}
 
-unfoldable pub usedRows : ℕ → ℕ → ℕ → Rows → Rows
-usedRows bits n mode rows = cond (ruleDoor mode n .yes) (lumaDoor true (rows .corner) (rows .above) (rows .left) n bits .rows) rows
+unfoldable pub lumaRows : ℕ → ℕ → ℕ → Rows → Rows
+lumaRows bits n mode rows = cond (filterFlag n mode) (smoothed true bits n (rows .corner) (rows .above) (rows .left)) rows
 
-module _ (bits n mode : ℕ) (rows : Rows) (r : Rule) (e : r ≡ ruleDoor mode n) where
-  pub rows-smoothed : r .yes ≡ true → (m : Smoothed) → m ≡ lumaDoor true (rows .corner) (rows .above) (rows .left) n bits → m .rows ≡ usedRows bits n mode rows
-  unfolding usedRows
-  rows-smoothed y m f = rw (sym (ap (λ (q : Rule). q .yes) e) ∙ y) (ap (λ (q : Smoothed). q .rows) f)
+module _ (bits n mode : ℕ) (b : Block bits n mode) (rows : Rows) (r : Rule) (e : r ≡ shouldFilterRefs mode n) where
+  flag : r .yes ≡ filterFlag n mode
+  unfolding shouldFilterRefs
+  flag = ap (λ (q : Rule). q .yes) e ∙ rw (b .size, b .inside)
 
-  pub rows-kept : r .yes ≡ false → rows ≡ usedRows bits n mode rows
-  unfolding usedRows
-  rows-kept y = rw (sym (ap (λ (q : Rule). q .yes) e) ∙ y)
+  pub rows-smoothed : length (rows .above) ≡ 65 → length (rows .left) ≡ 65 → r .yes ≡ true → (m : Smoothed)
+      → m ≡ filterLumaRefs true (rows .corner) (rows .above) (rows .left) n bits → m .rows ≡ lumaRows bits n mode rows
+  unfolding filterLumaRefs lumaRows
+  rows-smoothed ha hl y m f = rw (sym flag ∙ y) (ap (λ (q : Smoothed). q .rows) f ∙ rw (b .depth, b .size, ha, hl))
+
+  pub rows-kept : r .yes ≡ false → rows ≡ lumaRows bits n mode rows
+  unfolding lumaRows
+  rows-kept y = rw (sym flag ∙ y)

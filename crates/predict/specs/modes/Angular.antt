@@ -13,7 +13,7 @@ use Rattle.h265.specs.Notation.{Neighbours}
 use Rattle.h265.specs.Angular.{angular}
 use Rattle.samples.specs.taps.Taps.{interpOf}
 use Rattle.predict.specs.angular.Unsigned.{angles, inverses, startOf, sideOf, refAt, sampleAt, mirror, angularAt}
-use Rattle.samples.specs.lines.Starts.{fractionOf, firstOf}
+use Rattle.predict.specs.angles.Starts.{fractionOf, firstOf}
 use Rattle.predict.specs.angular.Lines.{first-le}
 use Rattle.predict.specs.angular.Tables.{side-reach}
 use Rattle.predict.specs.angular.Reach.{side-falls}

@@ -11,8 +11,8 @@ use Rattle.h265.specs.Notation.{Neighbours}
 use Rattle.h265.specs.Planar.{planar}
 use Rattle.h265.specs.Dc.{sum, dcVal, dc}
 use Rattle.samples.specs.taps.Taps.{blended, cornered}
-use Rattle.predict.specs.flat.Flat.{planarMix}
-use Rattle.predict.specs.flat.Text.{planar-mix, dc-quotient}
+use Rattle.predict.specs.planar_dc.Flat.{planarMix}
+use Rattle.predict.specs.planar_dc.Text.{planar-mix, dc-quotient}
 use Rattle.h265.specs.Mean.{Under, even, Mean, Agree, between, alone}
 
 -- a total weight w of one value

@@ -32,27 +32,27 @@ abbrev pub standardNeighbours : List ℕ → LumaRefGeometry → Neighbours
 standardNeighbours plane g =
     neighbours (gridOf (g .picture)) (lumaAt (g .bits)) (g .n) (g .«block_col» .0) (g .«block_row» .0) (λ x y. sampleOf plane (g .picture .width) y x)
 
-module _ (plane : List ℕ) (g : LumaRefGeometry) (served-call : gather.lumaDoor plane g .no ≡ 0) where
+module _ (plane : List ℕ) (g : LumaRefGeometry) (served-call : gather.getReferenceSamples plane g .no ≡ 0) where
   -- refs::get_reference_samples: the corner, and entries 0 .. 2n - 1 above and left
-  pub gathering : Agree (g .n) (neighboursOf (gather.lumaDoor plane g .rows)) (standardNeighbours plane g)
-  unfolding gather.lumaDoor
+  pub gathering : Agree (g .n) (neighboursOf (gather.getReferenceSamples plane g .rows)) (standardNeighbours plane g)
+  unfolding gather.getReferenceSamples
   gathering = rw served-call (luma-standard plane g served-call)
 
   size : Size (g .n)
-  unfolding gather.lumaDoor gather.lumaNo
+  unfolding gather.getReferenceSamples gather.lumaNo
   size = size-of (g .n) (passed (sizeOk (g .n)) _ 2 (omega arith) (passed (depthOk (g .bits)) _ 1 (omega arith) served-call .1) .0)
 
   -- and predict::predict_luma_tb_slices over what it gave: smoothing where the rule says, then the mode's clause, 8.4.4.2 whole
   pub luma-block : (mode x y : ℕ) → mode ≤ 34 → x < g .n → y < g .n
-      → predSamples (lumaAt (g .bits)) (first true) (g .n) mode (neighboursOf (gather.lumaDoor plane g .rows)) x y
+      → predSamples (lumaAt (g .bits)) (first true) (g .n) mode (neighboursOf (gather.getReferenceSamples plane g .rows)) x y
       ≡ predicted (gridOf (g .picture)) (lumaAt (g .bits)) (first true) (g .n) mode (g .«block_col» .0) (g .«block_row» .0) (λ x y. sampleOf plane (g .picture .width) y x) x y
   unfolding predicted
   luma-block mode x y known hx hy = pred-alone (lumaAt (g .bits)) (first true) (g .n) mode x y _ _ size known hx hy gathering
 
 -- smooth::filter_luma_refs, 8.4.4.2.3
-pub smoothed : (corner : ℕ) (above left : List ℕ) (n bits : ℕ) → smoothing.lumaDoor true corner above left n bits .no ≡ 0
-    → Agree n (neighboursOf (smoothing.lumaDoor true corner above left n bits .rows)) (filtered true bits n (fromRows corner above left))
-unfolding smoothing.lumaDoor
+pub smoothed : (corner : ℕ) (above left : List ℕ) (n bits : ℕ) → smoothing.filterLumaRefs true corner above left n bits .no ≡ 0
+    → Agree n (neighboursOf (smoothing.filterLumaRefs true corner above left n bits .rows)) (filtered true bits n (fromRows corner above left))
+unfolding smoothing.filterLumaRefs
 smoothed corner above left n bits e = door-is-standard true corner above left n bits e
 
 -- the planar, DC, angular and block doors: their contracts say `served r (block (λ y x. CLAUSE x y) n ..) ..`, with the standard's own clause. So of a call that

@@ -1,5 +1,5 @@
 -- A call of walk or of replay is served exactly when its facts hold, and what it leaves is served again: the lengths stay. Rests on the plan's verdict.
-use mathlib.Core.Path.{_≡_, refl, ap, _∙_}
+use mathlib.Core.Path.{_≡_, refl, sym, ap, _∙_}
 use mathlib.Core.Bool.{Bool, true, false, cond, _&&_}
 use mathlib.Core.List.{List}
 use Prim.Native.Nat.{ℕ, _+_, _-_, _*_, _≤_, min}
@@ -15,21 +15,22 @@ use Rattle.order.specs.Order.{pictureOk}
 use Rattle.plan.specs.declared.tiling.Verdict.{Verdict}
 use Rattle.plan.specs.tiling.Tiling.{pictureOf, place}
 use Rattle.plan.specs.tiling.Plan.{Plan}
-use Rattle.plan.specs.tiling.PlanCheck.{blocksVerdict, planVerdict}
+use Rattle.plan.specs.tiling.PlanCheck.{blocksVerdict, blocks-alone}
 use Rattle.plan.specs.tiling.Tests.{good-picture}
 use Rattle.plan.specs.tiling.Verdict.{Accepted, good-verdict}
-use Rattle.walk.specs.declared.still.Still.{Still}
+use Rattle.walk.specs.declared.checks.Still.{Still}
 use Rattle.walk.specs.declared.Stepped.{Stepped}
-use Rattle.walk.specs.still.Checks.{largestOf, every, whole, roomy, residualOk, settle}
-use Rattle.walk.specs.rebuilt.Block.{replayUnit}
-use Rattle.walk.specs.walked.Block.{World, walked, walkUnit}
+use Rattle.samples.specs.deltas.Deltas.{residualOk}
+use Rattle.walk.specs.checks.Checks.{largestIn, every, whole, roomy, settle}
+use Rattle.walk.specs.block.Rebuilt.{replayUnit}
+use Rattle.walk.specs.block.Walked.{World, walked, walkUnit}
 use Rattle.walk.specs.calls.Door.{verdictOf, replayVerdict, replayAfter, walkVerdict, walkAfter}
 use Rattle.walk.specs.calls.Laws.{blocks-accepted, verdict-zero}
-use Rattle.walk.specs.rebuilt.Laws.{rebuilt-length}
-use Rattle.walk.specs.walked.Laws.{stored-length}
+use Rattle.walk.specs.block.RebuiltLaws.{rebuilt-length}
+use Rattle.walk.specs.block.Stored.{stored-length}
 use Rattle.walk.specs.lossless.Picture.{Whole}
 use Rattle.walk.specs.lossless.Replay.{units-kept}
-use Rattle.promises.specs.demand3.Calls.{Job, Held, blocks, count, walkNo, walkCall, replayNo, replayCall}
+use Rattle.promises.specs.demand3.Calls.{Task, Held, blocks, count, walkVerdictAt, walkCall, replayVerdictAt, replayCall}
 use Rattle.promises.specs.demand3.Chains.{next, Steps}
 
 -- the verdict, where the checks before the blocks, the plan's and the record's all hold
@@ -38,31 +39,32 @@ module _ (s : Still) (plan : Plan) where
   unfolding verdictOf settle
   verdict-fine done early x y z = simp (eq-eqb early 0 x, eq-eqb (blocksVerdict (s .frame) plan .no) 0 y, le-leb done (plan .count) z)
 
-  blocks-fine : Accepted (s .frame) (plan .block) (plan .count) → blocksVerdict (s .frame) plan .no ≡ 0
-  unfolding planVerdict
-  blocks-fine a = ap (λ (v : Verdict). v .no) (rw (good-picture (s .frame) (a .picture)) at (good-verdict (s .frame) plan a))
+  blocks-fine : plan .whole ≡ true → Accepted (s .frame) (plan .block) (plan .count) → blocksVerdict (s .frame) plan .no ≡ 0
+  blocks-fine w a =
+      ap (λ (v : Verdict). v .no) (sym (blocks-alone (s .frame) plan (good-picture (s .frame) (a .picture)) w) ∙ good-verdict (s .frame) plan w a)
 
--- what every call asks for: the depth, the picture with its plan, the scratch, and a record of no more blocks than there are
-pub record Asked (j : Job) (done : ℕ) : Type 0 where
+-- what every call asks for: the depth, the picture with its plan of whole records, the scratch, and a record of no more blocks than there are
+pub record Asked (j : Task) (done : ℕ) : Type 0 where
   pub depth : Depth (j .still .bits)
+  pub records : j .plan .whole ≡ true
   pub plan-ok : Accepted (j .still .frame) (blocks j) (count j)
   pub room : roomy (j .tables) ≡ true
   pub few : done ≤ count j
 
-pub record Walking (j : Job) (source : List ℕ) (x : Held World) : Type 0 where
+pub record Walking (j : Task) (source : List ℕ) (x : Held World) : Type 0 where
   pub asked : Asked j (x .progress .done)
   pub source-whole : Whole (j .still) source
   pub work-whole : Whole (j .still) (x .world .work)
   pub residuals-whole : Whole (j .still) (x .world .residuals)
-  pub samples : every (λ v. leb v (largestOf (j .still))) source ≡ true
+  pub samples : every (λ v. leb v (largestIn (j .still))) source ≡ true
 
-pub record Replaying (j : Job) (residuals : List ℤ) (x : Held (List ℕ)) : Type 0 where
+pub record Replaying (j : Task) (residuals : List ℤ) (x : Held (List ℕ)) : Type 0 where
   pub asked : Asked j (x .progress .done)
   pub plane-whole : Whole (j .still) (x .world)
   pub residuals-whole : Whole (j .still) residuals
   pub in-range : every residualOk residuals ≡ true
 
-module _ (j : Job) where
+module _ (j : Task) where
   abbrev s : Still
   s = j .still
 
@@ -72,70 +74,74 @@ module _ (j : Job) where
   depth-fine : Depth (s .bits) → depthOk (s .bits) ≡ true
   depth-fine = at-depth (λ (k : ℕ). depthOk k ≡ true) refl refl refl (s .bits)
 
-  pub walk-told : (source : List ℕ) (x : Held World) → walkNo j source x .no ≡ 0 → Walking j source x
+  pub walk-told : (source : List ℕ) (x : Held World) → walkVerdictAt j source x .no ≡ 0 → Walking j source x
   unfolding walkVerdict
   walk-told source x e =
       let v = verdict-zero s (j .plan) (x .progress .done) _ e in
       let depth = passed (depthOk (s .bits)) _ 1 (omega arith) (v .0) in
       let picture = passed (pictureOk (pictureOf (s .frame))) _ 4 (omega arith) (depth .1) in
-      let long = passed (whole s (length source) && whole s (length (x .world .work)) && whole s (length (x .world .residuals)) && roomy (j .tables)) _ 5 (omega arith) (picture .1) in
-      let most = passed (every (λ v. leb v (largestOf s)) source) 0 7 (omega arith) (long .1) in
-      let c = both-true (whole s (length source) && whole s (length (x .world .work)) && whole s (length (x .world .residuals))) (roomy (j .tables)) (long .0) in
-      let b = both-true (whole s (length source) && whole s (length (x .world .work))) (whole s (length (x .world .residuals))) (c .0) in
-      let a = both-true (whole s (length source)) (whole s (length (x .world .work))) (b .0) in
+      let long = passed (j .plan .whole && whole s (length source) && whole s (length (x .world .work)) && whole s (length (x .world .residuals)) && roomy (j .tables)) _ 5 (omega arith) (picture .1) in
+      let most = passed (every (λ v. leb v (largestIn s)) source) 0 7 (omega arith) (long .1) in
+      let c = both-true (j .plan .whole && whole s (length source) && whole s (length (x .world .work)) && whole s (length (x .world .residuals))) (roomy (j .tables)) (long .0) in
+      let b = both-true (j .plan .whole && whole s (length source) && whole s (length (x .world .work))) (whole s (length (x .world .residuals))) (c .0) in
+      let a = both-true (j .plan .whole && whole s (length source)) (whole s (length (x .world .work))) (b .0) in
+      let p = both-true (j .plan .whole) (whole s (length source)) (a .0) in
       record {
-        asked = record { depth = depth-of (s .bits) (depth .0); plan-ok = blocks-accepted s (j .plan) (picture .0) (v .1 .0); room = c .1; few = v .1 .1 };
-        source-whole = eqb-true (length source) size (a .0);
+        asked = record { depth = depth-of (s .bits) (depth .0); records = p .0; plan-ok = blocks-accepted s (j .plan) (picture .0) (p .0) (v .1 .0); room = c .1; few = v .1 .1 };
+        source-whole = eqb-true (length source) size (p .1);
         work-whole = eqb-true (length (x .world .work)) size (a .1);
         residuals-whole = eqb-true (length (x .world .residuals)) size (b .1);
         samples = most .0;
       }
 
-  pub walk-fine : (source : List ℕ) (x : Held World) → Walking j source x → walkNo j source x .no ≡ 0
+  pub walk-fine : (source : List ℕ) (x : Held World) → Walking j source x → walkVerdictAt j source x .no ≡ 0
   unfolding walkVerdict
   walk-fine source x w =
       verdict-fine s (j .plan) (x .progress .done) _
       (simp (
         depth-fine (w .asked .depth),
         good-picture (s .frame) (w .asked .plan-ok .picture),
+        w .asked .records,
         eq-eqb (length source) size (w .source-whole),
         eq-eqb (length (x .world .work)) size (w .work-whole),
         eq-eqb (length (x .world .residuals)) size (w .residuals-whole),
         w .asked .room,
         w .samples,
       ))
-      (blocks-fine s (j .plan) (w .asked .plan-ok)) (w .asked .few)
+      (blocks-fine s (j .plan) (w .asked .records) (w .asked .plan-ok)) (w .asked .few)
 
-  pub replay-told : (residuals : List ℤ) (x : Held (List ℕ)) → replayNo j residuals x .no ≡ 0 → Replaying j residuals x
+  pub replay-told : (residuals : List ℤ) (x : Held (List ℕ)) → replayVerdictAt j residuals x .no ≡ 0 → Replaying j residuals x
   unfolding replayVerdict
   replay-told residuals x e =
       let v = verdict-zero s (j .plan) (x .progress .done) _ e in
       let depth = passed (depthOk (s .bits)) _ 1 (omega arith) (v .0) in
       let picture = passed (pictureOk (pictureOf (s .frame))) _ 4 (omega arith) (depth .1) in
-      let long = passed (whole s (length (x .world)) && whole s (length residuals) && roomy (j .tables)) _ 5 (omega arith) (picture .1) in
+      let long = passed (j .plan .whole && whole s (length (x .world)) && whole s (length residuals) && roomy (j .tables)) _ 5 (omega arith) (picture .1) in
       let most = passed (every residualOk residuals) 0 8 (omega arith) (long .1) in
-      let b = both-true (whole s (length (x .world)) && whole s (length residuals)) (roomy (j .tables)) (long .0) in
-      let a = both-true (whole s (length (x .world))) (whole s (length residuals)) (b .0) in
+      let b = both-true (j .plan .whole && whole s (length (x .world)) && whole s (length residuals)) (roomy (j .tables)) (long .0) in
+      let a = both-true (j .plan .whole && whole s (length (x .world))) (whole s (length residuals)) (b .0) in
+      let p = both-true (j .plan .whole) (whole s (length (x .world))) (a .0) in
       record {
-        asked = record { depth = depth-of (s .bits) (depth .0); plan-ok = blocks-accepted s (j .plan) (picture .0) (v .1 .0); room = b .1; few = v .1 .1 };
-        plane-whole = eqb-true (length (x .world)) size (a .0);
+        asked = record { depth = depth-of (s .bits) (depth .0); records = p .0; plan-ok = blocks-accepted s (j .plan) (picture .0) (p .0) (v .1 .0); room = b .1; few = v .1 .1 };
+        plane-whole = eqb-true (length (x .world)) size (p .1);
         residuals-whole = eqb-true (length residuals) size (a .1);
         in-range = most .0;
       }
 
-  pub replay-fine : (residuals : List ℤ) (x : Held (List ℕ)) → Replaying j residuals x → replayNo j residuals x .no ≡ 0
+  pub replay-fine : (residuals : List ℤ) (x : Held (List ℕ)) → Replaying j residuals x → replayVerdictAt j residuals x .no ≡ 0
   unfolding replayVerdict
   replay-fine residuals x w =
       verdict-fine s (j .plan) (x .progress .done) _
       (simp (
         depth-fine (w .asked .depth),
         good-picture (s .frame) (w .asked .plan-ok .picture),
+        w .asked .records,
         eq-eqb (length (x .world)) size (w .plane-whole),
         eq-eqb (length residuals) size (w .residuals-whole),
         w .asked .room,
         w .in-range,
       ))
-      (blocks-fine s (j .plan) (w .asked .plan-ok)) (w .asked .few)
+      (blocks-fine s (j .plan) (w .asked .records) (w .asked .plan-ok)) (w .asked .few)
 
   -- one call does blocks, keeps every length, and its successor is served
   joined : {W : Type 0} (b : Bool) (y z : Stepped) (w v : W)
@@ -144,12 +150,12 @@ module _ (j : Job) where
   joined false y z w v = refl
 
   further : {done : ℕ} → Asked j done → (grant : ℕ) → Asked j (done + min grant (count j - done))
-  further a grant = record { depth = a .depth; plan-ok = a .plan-ok; room = a .room; few = omega arith }
+  further a grant = record { depth = a .depth; records = a .records; plan-ok = a .plan-ok; room = a .room; few = omega arith }
 
-  pub walk-steps : (source : List ℕ) → Steps (λ (x : Held World). walkNo j source x .no) (walkUnit s (blocks j) source) (count j) (walkCall j source)
+  pub walk-steps : (source : List ℕ) → Steps (λ (x : Held World). walkVerdictAt j source x .no) (walkUnit s (blocks j) source) (count j) (walkCall j source)
   unfolding walkAfter walked
   walk-steps source = record {
-    call-is = λ x grant. joined (eqb (walkNo j source x .no) 0) _ _ _ _;
+    call-is = λ x grant. joined (eqb (walkVerdictAt j source x .no) 0) _ _ _ _;
     again = λ x grant e.
         let w = walk-told source x e in
         walk-fine source (next (walkUnit s (blocks j) source) (count j) x grant)
@@ -162,10 +168,10 @@ module _ (j : Job) where
         });
   }
 
-  pub replay-steps : (residuals : List ℤ) → Steps (λ (x : Held (List ℕ)). replayNo j residuals x .no) (replayUnit s (blocks j) residuals) (count j) (replayCall j residuals)
+  pub replay-steps : (residuals : List ℤ) → Steps (λ (x : Held (List ℕ)). replayVerdictAt j residuals x .no) (replayUnit s (blocks j) residuals) (count j) (replayCall j residuals)
   unfolding replayAfter
   replay-steps residuals = record {
-    call-is = λ x grant. joined (eqb (replayNo j residuals x .no) 0) _ _ _ _;
+    call-is = λ x grant. joined (eqb (replayVerdictAt j residuals x .no) 0) _ _ _ _;
     again = λ x grant e.
         let w = replay-told residuals x e in
         replay-fine residuals (next (replayUnit s (blocks j) residuals) (count j) x grant)

@@ -8,28 +8,28 @@ use Rattle.plan.specs.declared.tiling.Block.{Block}
 use Rattle.plan.specs.declared.tiling.Verdict.{Verdict}
 use Rattle.plan.specs.tiling.Tiling.{place}
 use Rattle.plan.specs.tiling.Plan.{Plan}
-use Rattle.walk.specs.declared.still.Still.{Still}
+use Rattle.walk.specs.declared.checks.Still.{Still}
 use Rattle.walk.specs.declared.Progress.{Progress}
-use Rattle.walk.specs.walked.Block.{World}
-use Rattle.walk.specs.still.Checks.{Tables}
+use Rattle.walk.specs.block.Walked.{World}
+use Rattle.walk.specs.checks.Checks.{Tables}
 use Rattle.walk.specs.calls.Door.{walkVerdict, walkAfter, replayVerdict, replayAfter}
 use Rattle.walk.specs.Door.{steppedBy}
 
 -- what all calls share: the still, its plan, and how long the lent scratch tables are
-pub record Job : Type 0 where
+pub record Task : Type 0 where
   pub still : Still
   pub plan : Plan
   pub tables : Tables
 
 -- the blocks of the plan, and their number
-abbrev pub blocks : Job → ℕ → Block
+abbrev pub blocks : Task → ℕ → Block
 blocks j = j .plan .block
 
-abbrev pub count : Job → ℕ
+abbrev pub count : Task → ℕ
 count j = j .plan .count
 
 -- residual (r, c) of block i: blocks consecutive in plan order, each in rows
-abbrev pub residualAt : Job → List ℤ → ℕ → ℕ → ℕ → ℤ
+abbrev pub residualAt : Task → List ℤ → ℕ → ℕ → ℕ → ℤ
 residualAt j residuals i r c = getD residuals (place (blocks j) i + r * blocks j i .side + c) (pos 0)
 
 -- between two calls: the progress record, and what the calls write
@@ -42,24 +42,24 @@ abbrev pub fresh : {W : Type 0} → W → Held W
 fresh w = record { progress = record { done = 0 }; world = w }
 
 -- a call of walk: the record that it hands back, the work plane and the residuals that it leaves
-abbrev pub walkNo : Job → List ℕ → Held World → Verdict
-walkNo j source x = walkVerdict (j .still) (j .plan) (j .tables) (x .progress .done) source (x .world)
+abbrev pub walkVerdictAt : Task → List ℕ → Held World → Verdict
+walkVerdictAt j source x = walkVerdict (j .still) (j .plan) (j .tables) (x .progress .done) source (x .world)
 
-abbrev pub walkCall : Job → List ℕ → Held World → ℕ → Held World
+abbrev pub walkCall : Task → List ℕ → Held World → ℕ → Held World
 walkCall j source x grant =
     record {
-      progress = steppedBy (walkNo j source x) (j .plan) (x .progress) grant .next;
+      progress = steppedBy (walkVerdictAt j source x) (j .plan) (x .progress) grant .next;
       world = walkAfter (j .still) (j .plan) (j .tables) (x .progress .done) grant source (x .world);
     }
 
 -- a call of replay: the record that it hands back, the plane that it leaves
-abbrev pub replayNo : Job → List ℤ → Held (List ℕ) → Verdict
-replayNo j residuals x = replayVerdict (j .still) (j .plan) (j .tables) (x .progress .done) (length (x .world)) residuals
+abbrev pub replayVerdictAt : Task → List ℤ → Held (List ℕ) → Verdict
+replayVerdictAt j residuals x = replayVerdict (j .still) (j .plan) (j .tables) (x .progress .done) (length (x .world)) residuals
 
-abbrev pub replayCall : Job → List ℤ → Held (List ℕ) → ℕ → Held (List ℕ)
+abbrev pub replayCall : Task → List ℤ → Held (List ℕ) → ℕ → Held (List ℕ)
 replayCall j residuals x grant =
     record {
-      progress = steppedBy (replayNo j residuals x) (j .plan) (x .progress) grant .next;
+      progress = steppedBy (replayVerdictAt j residuals x) (j .plan) (x .progress) grant .next;
       world = replayAfter (j .still) (j .plan) (j .tables) (x .progress .done) grant residuals (x .world);
     }
 

@@ -8,15 +8,15 @@ use Rattle.laws.specs.Chain.{sum}
 use Rattle.plan.specs.declared.tiling.Verdict.{Verdict}
 use Rattle.plan.specs.tiling.Tiling.{In, Of, Covered}
 use Rattle.walk.specs.declared.Progress.{Progress}
-use Rattle.walk.specs.block.Block.{sampleAt, predictedAt}
-use Rattle.walk.specs.walked.Block.{World}
+use Rattle.walk.specs.block.Predicted.{sampleAt, predictedAt}
+use Rattle.walk.specs.block.Walked.{World}
 use Rattle.walk.specs.Door.{steppedBy}
 use Rattle.walk.specs.lossless.Picture.{Whole}
-use Rattle.promises.specs.demand3.Calls.{Job, Held, Served, blocks, count, residualAt, fresh, calls, walkNo, walkCall, replayNo, replayCall}
+use Rattle.promises.specs.demand3.Calls.{Task, Held, Served, blocks, count, residualAt, fresh, calls, walkVerdictAt, walkCall, replayVerdictAt, replayCall}
 
 -- The whole picture is walked: the record says so, each block's residual is the source less H.265's prediction from the source itself, and the
 -- work plane holds the source.
-pub record Walked (j : Job) (source : List ℕ) (x : Held World) : Type 0 where
+pub record LosslessWalk (j : Task) (source : List ℕ) (x : Held World) : Type 0 where
   pub all-done : x .progress .done ≡ count j
   pub residuals : (i r c : ℕ) → i < count j → r < blocks j i .side → c < blocks j i .side
       → residualAt j (x .world .residuals) i r c
@@ -24,7 +24,7 @@ pub record Walked (j : Job) (source : List ℕ) (x : Held World) : Type 0 where
   pub reconstructed : (r c : ℕ) → In (j .still .frame) r c → sampleAt (j .still) (x .world .work) r c ≡ sampleAt (j .still) source r c
 
 -- k blocks are replayed: the record says k, the samples of the first k blocks are the source's, and every other sample is as it was.
-pub record Replayed (j : Job) (source plane : List ℕ) (k : ℕ) (x : Held (List ℕ)) : Type 0 where
+pub record Replayed (j : Task) (source plane : List ℕ) (k : ℕ) (x : Held (List ℕ)) : Type 0 where
   pub done : x .progress .done ≡ k
   pub source-back : (r c : ℕ) → Covered (blocks j) k r c → sampleAt (j .still) (x .world) r c ≡ sampleAt (j .still) source r c
   pub others-kept : (r c : ℕ) → In (j .still .frame) r c → (Covered (blocks j) k r c → ⊥) → sampleAt (j .still) (x .world) r c ≡ sampleAt (j .still) plane r c
@@ -35,50 +35,50 @@ Done x y i = (x .progress .done ≤ i) × (i < y .progress .done)
 
 -- From x to y with `grant` blocks granted: the record goes on by the lesser of that and what remains, and samples and residuals of blocks that are
 -- not done on the way stay.
-pub record WalkKeeps (j : Job) (x : Held World) (grant : ℕ) (y : Held World) : Type 0 where
+pub record WalkKeeps (j : Task) (x : Held World) (grant : ℕ) (y : Held World) : Type 0 where
   pub done : y .progress .done ≡ min (x .progress .done + grant) (count j)
   pub samples : (r c : ℕ) → In (j .still .frame) r c → ((i : ℕ) → Done x y i → Of (blocks j i) r c → ⊥)
       → sampleAt (j .still) (y .world .work) r c ≡ sampleAt (j .still) (x .world .work) r c
   pub residuals : (i r c : ℕ) → i < count j → r < blocks j i .side → c < blocks j i .side → (Done x y i → ⊥)
       → residualAt j (y .world .residuals) i r c ≡ residualAt j (x .world .residuals) i r c
 
-pub record ReplayKeeps (j : Job) (x : Held (List ℕ)) (grant : ℕ) (y : Held (List ℕ)) : Type 0 where
+pub record ReplayKeeps (j : Task) (x : Held (List ℕ)) (grant : ℕ) (y : Held (List ℕ)) : Type 0 where
   pub done : y .progress .done ≡ min (x .progress .done + grant) (count j)
   pub samples : (r c : ℕ) → In (j .still .frame) r c → ((i : ℕ) → Done x y i → Of (blocks j i) r c → ⊥)
       → sampleAt (j .still) (y .world) r c ≡ sampleAt (j .still) (x .world) r c
 
 pub record Demand3 : Type 0 where
   -- A source that the walk does not refuse, whatever the work plane and the residuals held, in any calls whose grants reach the count.
-  pub walk : (j : Job) (source : List ℕ) (w : World) (grants : List ℕ) → Served (walkNo j source (fresh w)) → count j ≤ sum grants
-      → Walked j source (calls (walkCall j source) (fresh w) grants)
+  pub walk : (j : Task) (source : List ℕ) (w : World) (grants : List ℕ) → Served (walkVerdictAt j source (fresh w)) → count j ≤ sum grants
+      → LosslessWalk j source (calls (walkCall j source) (fresh w) grants)
   -- The prediction of block k is made from samples of earlier blocks alone: another source that agrees there gives the same.
-  pub earlier-alone : (j : Job) (source other : List ℕ) (w : World) → Served (walkNo j source (fresh w)) → Whole (j .still) other
+  pub earlier-alone : (j : Task) (source other : List ℕ) (w : World) → Served (walkVerdictAt j source (fresh w)) → Whole (j .still) other
       → (k : ℕ) → k < count j → ((r c : ℕ) → Covered (blocks j) k r c → sampleAt (j .still) source r c ≡ sampleAt (j .still) other r c)
       → (r c : ℕ) → r < blocks j k .side → c < blocks j k .side
       → predictedAt (j .still) (blocks j k) source r c ≡ predictedAt (j .still) (blocks j k) other r c
   -- The walk's residuals, replayed in any calls over a plane of any contents, are not refused and give the source back, block by block.
-  pub replay : (j : Job) (source : List ℕ) (w : World) (grants : List ℕ) → Served (walkNo j source (fresh w)) → count j ≤ sum grants
+  pub replay : (j : Task) (source : List ℕ) (w : World) (grants : List ℕ) → Served (walkVerdictAt j source (fresh w)) → count j ≤ sum grants
       → (plane : List ℕ) → Whole (j .still) plane → (again : List ℕ)
       → let residuals = calls (walkCall j source) (fresh w) grants .world .residuals in
-      Served (replayNo j residuals (fresh plane)) × Replayed j source plane (min (sum again) (count j)) (calls (replayCall j residuals) (fresh plane) again)
+      Served (replayVerdictAt j residuals (fresh plane)) × Replayed j source plane (min (sum again) (count j)) (calls (replayCall j residuals) (fresh plane) again)
   -- Where the grants reach the count the plane is the source: the program never prints `differs`.
-  pub same : (j : Job) (source : List ℕ) (w : World) (grants : List ℕ) → Served (walkNo j source (fresh w)) → count j ≤ sum grants
+  pub same : (j : Task) (source : List ℕ) (w : World) (grants : List ℕ) → Served (walkVerdictAt j source (fresh w)) → count j ≤ sum grants
       → (plane : List ℕ) → Whole (j .still) plane → (again : List ℕ) → count j ≤ sum again
       → calls (replayCall j (calls (walkCall j source) (fresh w) grants .world .residuals)) (fresh plane) again .world ≡ source
   -- Any residuals in range: two replays of as many blocks agree on those blocks, however their planes began.
-  pub altered : (j : Job) (residuals : List ℤ) (a b : List ℕ) (grants others : List ℕ) → Served (replayNo j residuals (fresh a)) → Whole (j .still) b
+  pub altered : (j : Task) (residuals : List ℤ) (a b : List ℕ) (grants others : List ℕ) → Served (replayVerdictAt j residuals (fresh a)) → Whole (j .still) b
       → min (sum grants) (count j) ≡ min (sum others) (count j)
       → (r c : ℕ) → Covered (blocks j) (min (sum grants) (count j)) r c
       → sampleAt (j .still) (calls (replayCall j residuals) (fresh a) grants .world) r c ≡ sampleAt (j .still) (calls (replayCall j residuals) (fresh b) others .world) r c
   -- Any split into calls is one call with the sum of the grants, from any record, refused or not.
-  pub walk-split : (j : Job) (source : List ℕ) (x : Held World) (grants : List ℕ) → calls (walkCall j source) x grants ≡ walkCall j source x (sum grants)
-  pub replay-split : (j : Job) (residuals : List ℤ) (x : Held (List ℕ)) (grants : List ℕ) → calls (replayCall j residuals) x grants ≡ replayCall j residuals x (sum grants)
+  pub walk-split : (j : Task) (source : List ℕ) (x : Held World) (grants : List ℕ) → calls (walkCall j source) x grants ≡ walkCall j source x (sum grants)
+  pub replay-split : (j : Task) (residuals : List ℤ) (x : Held (List ℕ)) (grants : List ℕ) → calls (replayCall j residuals) x grants ≡ replayCall j residuals x (sum grants)
   -- What a call that is served counts.
-  pub counted : (j : Job) (v : Verdict) (p : Progress) (grant : ℕ) → Served v
+  pub counted : (j : Task) (v : Verdict) (p : Progress) (grant : ℕ) → Served v
       → let y = steppedBy v (j .plan) p grant in
       (y .did ≡ min grant (count j - p .done)) × (y .next .done ≡ p .done + y .did)
   -- Calls that are served keep what they do not do, and the next one is served too.
-  pub walk-keeps : (j : Job) (source : List ℕ) (x : Held World) (grants : List ℕ) → Served (walkNo j source x)
-      → let y = calls (walkCall j source) x grants in WalkKeeps j x (sum grants) y × Served (walkNo j source y)
-  pub replay-keeps : (j : Job) (residuals : List ℤ) (x : Held (List ℕ)) (grants : List ℕ) → Served (replayNo j residuals x)
-      → let y = calls (replayCall j residuals) x grants in ReplayKeeps j x (sum grants) y × Served (replayNo j residuals y)
+  pub walk-keeps : (j : Task) (source : List ℕ) (x : Held World) (grants : List ℕ) → Served (walkVerdictAt j source x)
+      → let y = calls (walkCall j source) x grants in WalkKeeps j x (sum grants) y × Served (walkVerdictAt j source y)
+  pub replay-keeps : (j : Task) (residuals : List ℤ) (x : Held (List ℕ)) (grants : List ℕ) → Served (replayVerdictAt j residuals x)
+      → let y = calls (replayCall j residuals) x grants in ReplayKeeps j x (sum grants) y × Served (replayVerdictAt j residuals y)

@@ -10,18 +10,18 @@ use Rattle.plan.specs.tiling.Plan.{planOf}
 use Rattle.plan.specs.tiling.Check.{aheadBy, ahead, blockNo}
 use Rattle.plan.specs.tiling.PlanCheck.{verdictFrom}
 use Rattle.h265.specs.Notation.{halvings}
-use Rattle.walk.specs.walked.Block.{World}
-use Rattle.walk.specs.still.Checks.{every, settle}
+use Rattle.walk.specs.block.Walked.{World}
+use Rattle.walk.specs.checks.Checks.{every, settle}
 use Rattle.walk.specs.calls.Door.{verdictOf, walkVerdict}
-use Rattle.promises.specs.demand3.Calls.{Job, Served, count, fresh, calls, walkNo, walkCall, replayCall}
+use Rattle.promises.specs.demand3.Calls.{Task, Served, count, fresh, calls, walkVerdictAt, walkCall, replayCall}
 use Rattle.promises.specs.demand3.Chains.{sum-none, sum-more}
 use Rattle.promises.specs.demand3.Proof3.{demand-3}
 
-abbrev two : Job
+abbrev two : Task
 two =
     record {
       still = record { bits = 8; frame = record { width = 16; height = 8; ctu = 16 } };
-      plan = planOf ((0 ∷ 0 ∷ 8 ∷ 1 ∷ []) ∷ (0 ∷ 8 ∷ 8 ∷ 1 ∷ []) ∷ []);
+      plan = planOf (0 ∷ 0 ∷ []) (0 ∷ 8 ∷ []) (8 ∷ 8 ∷ []) (1 ∷ 1 ∷ []);
       tables = record { refs = 193; indices = 32; fractions = 32 };
     }
 
@@ -31,7 +31,7 @@ source = replicate 128 130
 abbrev blank : World
 blank = record { work = replicate 128 0; residuals = replicate 128 (pos 0) }
 
-served : Served (walkNo two source (fresh blank))
+served : Served (walkVerdictAt two source (fresh blank))
 unfolding walkVerdict verdictOf settle every verdictFrom blockNo ahead aheadBy halvings
 served = refl
 

@@ -15,29 +15,30 @@ use Rattle.plan.specs.declared.tiling.Verdict.{Verdict}
 use Rattle.plan.specs.tiling.Tiling.{In, Covered, place}
 use Rattle.plan.specs.tiling.Cover.{area}
 use Rattle.plan.specs.tiling.Verdict.{Accepted}
-use Rattle.walk.specs.declared.still.Still.{Still}
+use Rattle.walk.specs.declared.checks.Still.{Still}
 use Rattle.walk.specs.declared.Progress.{Progress}
 use Rattle.walk.specs.declared.Stepped.{Stepped}
-use Rattle.walk.specs.still.Checks.{largestOf, every, residualOk}
-use Rattle.walk.specs.block.Block.{sampleAt, predictedAt}
-use Rattle.walk.specs.rebuilt.Block.{replayUnit}
-use Rattle.walk.specs.walked.Block.{World, stored, walked, walkUnit}
+use Rattle.samples.specs.deltas.Deltas.{residualOk}
+use Rattle.walk.specs.checks.Checks.{largestIn, every}
+use Rattle.walk.specs.block.Predicted.{sampleAt, predictedAt}
+use Rattle.walk.specs.block.Rebuilt.{replayUnit}
+use Rattle.walk.specs.block.Walked.{World, stored, walked, walkUnit}
 use Rattle.walk.specs.Door.{steppedBy}
-use Rattle.walk.specs.rebuilt.Laws.{rebuilt-length}
+use Rattle.walk.specs.block.RebuiltLaws.{rebuilt-length}
 use Rattle.walk.specs.lossless.Picture.{Sample, OfS, Whole, look, predict, residual, less, local, rebuild-out, store-out, replays, sourced, walks-plan}
 use Rattle.walk.specs.lossless.Replay.{units-kept, replay-same, replay-source, walks}
-use Rattle.promises.specs.demand3.Calls.{Job, Held, Served, blocks, count, residualAt, fresh, calls, walkNo, walkCall, replayNo, replayCall}
+use Rattle.promises.specs.demand3.Calls.{Task, Held, Served, blocks, count, residualAt, fresh, calls, walkVerdictAt, walkCall, replayVerdictAt, replayCall}
 use Rattle.promises.specs.demand3.Chains.{next, after, all-done, split, from-fresh}
 use Rattle.promises.specs.demand3.Accept.{Walking, walk-told, replay-told, replay-fine, walk-steps, replay-steps}
 use Rattle.promises.specs.demand3.Range.{predicted-most}
 use Rattle.promises.specs.demand3.Spots.{by-samples, every-of, most-at, less-small, in-block, part-of, spot, covered-in, spot-of, spot-residual, spot-predict}
-use Rattle.promises.specs.demand3.Demand3.{Walked, Replayed, WalkKeeps, ReplayKeeps, Demand3}
+use Rattle.promises.specs.demand3.Demand3.{LosslessWalk, Replayed, WalkKeeps, ReplayKeeps, Demand3}
 
 abbrev at : {s : Still} (r c : ℕ) → In (s .frame) r c → Sample s
 at r c h = record { row = r; col = c; row-in = h .0; col-in = h .1 }
 
 -- a walk of the whole picture
-module _ (j : Job) (source : List ℕ) (w : World) (served : Served (walkNo j source (fresh w))) where
+module _ (j : Task) (source : List ℕ) (w : World) (served : Served (walkVerdictAt j source (fresh w))) where
   abbrev s : Still
   s = j .still
 
@@ -50,8 +51,8 @@ module _ (j : Job) (source : List ℕ) (w : World) (served : Served (walkNo j so
   depth : Depth (s .bits)
   depth = facts .asked .depth
 
-  samples : (i : ℕ) → getD source i 0 ≤ largestOf s
-  samples = most-at (largestOf s) source (facts .samples)
+  samples : (i : ℕ) → getD source i 0 ≤ largestIn s
+  samples = most-at (largestIn s) source (facts .samples)
 
   abbrev all : World
   all = units (walkUnit s (blocks j) source) 0 (count j) w
@@ -78,9 +79,9 @@ module _ (j : Job) (source : List ℕ) (w : World) (served : Served (walkNo j so
       let e : min (sum grants) (count j) ≡ count j = omega arith in
       from-fresh (walk-steps j source) w grants served ∙ ap (λ (k : ℕ). after (walkUnit s (blocks j) source) k w) e
 
-  walk-all : (grants : List ℕ) → count j ≤ sum grants → Walked j source (calls (walkCall j source) (fresh w) grants)
+  walk-all : (grants : List ℕ) → count j ≤ sum grants → LosslessWalk j source (calls (walkCall j source) (fresh w) grants)
   walk-all grants h =
-      subst (Walked j source) (sym (calls-are grants h))
+      subst (LosslessWalk j source) (sym (calls-are grants h))
       (record {
         all-done = refl;
         residuals = residual-is;
@@ -99,7 +100,7 @@ module _ (j : Job) (source : List ℕ) (w : World) (served : Served (walkNo j so
   in-range : every residualOk (all .residuals) ≡ true
   in-range = every-of residualOk (all .residuals) (pos 0) go
     where
-      small : largestOf s ≤ 65535
+      small : largestIn s ≤ 65535
       small = at-depth (λ (k : ℕ). 2 ^ k - 1 ≤ 65535) (omega arith) (omega arith) (omega arith) (s .bits) depth
 
       one : (i r c n : ℕ) → i < count j → r < blocks j i .side → c < blocks j i .side → n ≡ place (blocks j) i + r * blocks j i .side + c → residualOk (getD (all .residuals) n (pos 0)) ≡ true
@@ -108,7 +109,7 @@ module _ (j : Job) (source : List ℕ) (w : World) (served : Served (walkNo j so
           let p = predictedAt s (blocks j i) source r c in
           let a = predicted-most s (blocks j i) source depth (ok .plan-good .placed i l .size) (ok .modes i l) samples r c hr hc in
           subst (λ (z : ℤ). residualOk z ≡ true) (sym (ap (λ (k : ℕ). getD (all .residuals) k (pos 0)) e ∙ residual-is i r c l hr hc))
-          (le-leb (natAbs (less o p)) 65535 (le-trans (less-small (largestOf s) o p (samples _) a) small))
+          (le-leb (natAbs (less o p)) 65535 (le-trans (less-small (largestIn s) o p (samples _) a) small))
 
       go : (n : ℕ) → n < length (all .residuals) → residualOk (getD (all .residuals) n (pos 0)) ≡ true
       go n l =
@@ -118,7 +119,7 @@ module _ (j : Job) (source : List ℕ) (w : World) (served : Served (walkNo j so
           one (p .0) (q .0) (q .1) n (p .1) (q .2) (q .3) (q .4)
 
   module _ (plane : List ℕ) (long : Whole s plane) where
-    replay-served : Served (replayNo j (all .residuals) (fresh plane))
+    replay-served : Served (replayVerdictAt j (all .residuals) (fresh plane))
     replay-served =
         replay-fine j (all .residuals) (fresh plane) (record { asked = facts .asked; plane-whole = long; residuals-whole = told .0; in-range = in-range })
 
@@ -149,13 +150,13 @@ module _ (j : Job) (source : List ℕ) (w : World) (served : Served (walkNo j so
 
     replay-all : (grants : List ℕ) → count j ≤ sum grants → (again : List ℕ)
         → let residuals = calls (walkCall j source) (fresh w) grants .world .residuals in
-        Served (replayNo j residuals (fresh plane)) × Replayed j source plane (min (sum again) (count j)) (calls (replayCall j residuals) (fresh plane) again)
+        Served (replayVerdictAt j residuals (fresh plane)) × Replayed j source plane (min (sum again) (count j)) (calls (replayCall j residuals) (fresh plane) again)
     replay-all grants h again =
-        subst (λ (x : Held World). Served (replayNo j (x .world .residuals) (fresh plane)) × Replayed j source plane (min (sum again) (count j)) (calls (replayCall j (x .world .residuals)) (fresh plane) again))
+        subst (λ (x : Held World). Served (replayVerdictAt j (x .world .residuals) (fresh plane)) × Replayed j source plane (min (sum again) (count j)) (calls (replayCall j (x .world .residuals)) (fresh plane) again))
         (sym (calls-are grants h)) (replay-served, replay-back again)
 
 -- residuals that are not the walk's
-replay-altered : (j : Job) (residuals : List ℤ) (a b : List ℕ) (grants others : List ℕ) → Served (replayNo j residuals (fresh a)) → Whole (j .still) b
+replay-altered : (j : Task) (residuals : List ℤ) (a b : List ℕ) (grants others : List ℕ) → Served (replayVerdictAt j residuals (fresh a)) → Whole (j .still) b
     → min (sum grants) (count j) ≡ min (sum others) (count j) → (r c : ℕ) → Covered (blocks j) (min (sum grants) (count j)) r c
     → sampleAt (j .still) (calls (replayCall j residuals) (fresh a) grants .world) r c ≡ sampleAt (j .still) (calls (replayCall j residuals) (fresh b) others .world) r c
 replay-altered j v a b grants others served long e r c cov =
@@ -171,12 +172,12 @@ replay-altered j v a b grants others served long e r c cov =
     ∙ sym (ap (λ (x : Held (List ℕ)). sampleAt s (x .world) r c) (from-fresh (replay-steps j v) b others too))
 
 -- calls that are served, from any record
-calls-count : (j : Job) (v : Verdict) (p : Progress) (grant : ℕ) → Served v
+calls-count : (j : Task) (v : Verdict) (p : Progress) (grant : ℕ) → Served v
     → let y = steppedBy v (j .plan) p grant in
     (y .did ≡ min grant (count j - p .done)) × (y .next .done ≡ p .done + y .did)
 calls-count j v p grant e = subst (λ (y : Stepped). (y .did ≡ min grant (count j - p .done)) × (y .next .done ≡ p .done + y .did)) (worked (v .no) _ _ e) (refl, refl)
 
-walk-kept : (j : Job) (source : List ℕ) (x : Held World) (grant : ℕ) → Served (walkNo j source x) → WalkKeeps j x grant (next (walkUnit (j .still) (blocks j) source) (count j) x grant)
+walk-kept : (j : Task) (source : List ℕ) (x : Held World) (grant : ℕ) → Served (walkVerdictAt j source x) → WalkKeeps j x grant (next (walkUnit (j .still) (blocks j) source) (count j) x grant)
 unfolding walked
 walk-kept j source x grant served =
     let s = j .still in
@@ -198,7 +199,7 @@ walk-kept j source x grant served =
           ∙ spot-residual s (blocks j) (count j) ok i r c l hr hc (u .residuals));
     }
 
-replay-kept : (j : Job) (residuals : List ℤ) (x : Held (List ℕ)) (grant : ℕ) → Served (replayNo j residuals x) → ReplayKeeps j x grant (next (replayUnit (j .still) (blocks j) residuals) (count j) x grant)
+replay-kept : (j : Task) (residuals : List ℤ) (x : Held (List ℕ)) (grant : ℕ) → Served (replayVerdictAt j residuals x) → ReplayKeeps j x grant (next (replayUnit (j .still) (blocks j) residuals) (count j) x grant)
 replay-kept j residuals x grant served =
     let s = j .still in
     let f = replay-told j residuals x served in
@@ -222,9 +223,9 @@ demand-3 = record {
   replay-split = λ j residuals x grants. split (replay-steps j residuals) x grants;
   counted = calls-count;
   walk-keeps = λ j source x grants e.
-      subst (λ (y : Held World). WalkKeeps j x (sum grants) y × Served (walkNo j source y)) (sym (all-done (walk-steps j source) x grants e))
+      subst (λ (y : Held World). WalkKeeps j x (sum grants) y × Served (walkVerdictAt j source y)) (sym (all-done (walk-steps j source) x grants e))
       (walk-kept j source x (sum grants) e, walk-steps j source .again x (sum grants) e);
   replay-keeps = λ j residuals x grants e.
-      subst (λ (y : Held (List ℕ)). ReplayKeeps j x (sum grants) y × Served (replayNo j residuals y)) (sym (all-done (replay-steps j residuals) x grants e))
+      subst (λ (y : Held (List ℕ)). ReplayKeeps j x (sum grants) y × Served (replayVerdictAt j residuals y)) (sym (all-done (replay-steps j residuals) x grants e))
       (replay-kept j residuals x (sum grants) e, replay-steps j residuals .again x (sum grants) e);
 }

@@ -22,9 +22,9 @@ use Rattle.predict.specs.modes.Flat.{planar-between, dc-between}
 use Rattle.predict.specs.modes.Angular.{mean-angular}
 use Rattle.predict.specs.modes.Modes.{byMode, is-by-mode}
 use Rattle.plan.specs.declared.tiling.Block.{Block}
-use Rattle.walk.specs.declared.still.Still.{Still}
-use Rattle.walk.specs.still.Checks.{largestOf}
-use Rattle.walk.specs.block.Block.{sampleAt, predictedAt}
+use Rattle.walk.specs.declared.checks.Still.{Still}
+use Rattle.walk.specs.checks.Checks.{largestIn}
+use Rattle.walk.specs.block.Predicted.{sampleAt, predictedAt}
 
 -- neighbours that are all at most m
 record Most (m : ℕ) (nb : Neighbours) : Type 0 where
@@ -136,11 +136,11 @@ angular-most bits n mode x y nb s h hx hy a =
     (clip-most m up) (clip-most m across)
     (between n (λ (k : Neighbours). angular bits false n mode k x y) (mean-angular n mode s (omega arith) bits x y hx hy) 0 m nb (over m n nb) (under m nb a n) .1)
 
-pub predicted-most : (s : Still) (b : Block) (plane : List ℕ) → Depth (s .bits) → Size (b .side) → b .mode ≤ 34 → ((i : ℕ) → getD plane i 0 ≤ largestOf s)
-    → (r c : ℕ) → r < b .side → c < b .side → predictedAt s b plane r c ≤ largestOf s
+pub predicted-most : (s : Still) (b : Block) (plane : List ℕ) → Depth (s .bits) → Size (b .side) → b .mode ≤ 34 → ((i : ℕ) → getD plane i 0 ≤ largestIn s)
+    → (r c : ℕ) → r < b .side → c < b .side → predictedAt s b plane r c ≤ largestIn s
 unfolding predictedAt predicted prepared byMode
 predicted-most s b plane depth size mode most r c hr hc =
-    let m = largestOf s in
+    let m = largestIn s in
     let neutral = at-depth (λ (k : ℕ). 2 ^ (k - 1) ≤ 2 ^ k - 1) (omega arith) (omega arith) (omega arith) (s .bits) depth in
     let nb = neighbours-most m _ (s .bits) (b .side) (b .col) (b .row) (λ x y. sampleAt s plane y x) (λ x y. most _) neutral in
     let p = either-of m (filters (lumaAt (s .bits)) (first true) (b .side) (b .mode)) (filtered-most m _ nb true (s .bits) (b .side)) nb in

@@ -19,9 +19,9 @@ use Rattle.domain.specs.helpers.Ways.{apart-below, apart-above}
 use Rattle.plan.specs.declared.tiling.Block.{Block}
 use Rattle.plan.specs.tiling.Tiling.{In, Covered, place}
 use Rattle.plan.specs.tiling.Verdict.{Accepted}
-use Rattle.walk.specs.declared.still.Still.{Still}
-use Rattle.walk.specs.block.Block.{sampleAt, predictedAt}
-use Rattle.walk.specs.still.Checks.{every}
+use Rattle.walk.specs.declared.checks.Still.{Still}
+use Rattle.walk.specs.block.Predicted.{sampleAt, predictedAt}
+use Rattle.walk.specs.checks.Checks.{every}
 use Rattle.walk.specs.lossless.Picture.{Sample, OfS, Whole, predict, residual}
 
 -- a test of every entry, entry by entry

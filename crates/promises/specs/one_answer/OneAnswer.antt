@@ -16,9 +16,9 @@ use denote.Ref.{now}
 use denote.Triple.Clauses.{Ended, AtExit, Clauses}
 use denote.Triple.Entry.{Args, Res}
 use Rattle.laws.specs.Choose.{served}
-use Rattle.walk.specs.walked.Block.{World}
-use Rattle.camera.specs.byte_replay.Door.{After}
-use Rattle.camera.specs.byte_entry.Entries.{Written, wrote}
+use Rattle.walk.specs.block.Walked.{World}
+use Rattle.camera.specs.replay.Door.{After}
+use Rattle.camera.specs.Written.{Written, wrote}
 use Rattle.bytes.proofs.sample.Reads as bytes-sample
 use Rattle.bytes.proofs.whole_in.Reads as bytes-whole-in
 use Rattle.bytes.proofs.residual.Reads as bytes-residual
@@ -29,28 +29,13 @@ use Rattle.bytes.proofs.byte_3.Reads as bytes-byte-3
 use Rattle.domain.proofs.depth_ok.Reads as domain-depth-ok
 use Rattle.domain.proofs.size_ok.Reads as domain-size-ok
 use Rattle.domain.proofs.mode_ok.Reads as domain-mode-ok
-use Rattle.domain.proofs.side_ok.Reads as domain-side-ok
-use Rattle.domain.proofs.ctu_ok.Reads as domain-ctu-ok
+use Rattle.domain.proofs.picture_ok.Reads as domain-picture-ok
 use Rattle.domain.proofs.unit_ok.Reads as domain-unit-ok
-use Rattle.samples.proofs.taps.largest_of.Reads as taps-largest-of
 use Rattle.samples.proofs.taps.interp.Reads as taps-interp
 use Rattle.samples.proofs.taps.mean.Reads as taps-mean
 use Rattle.samples.proofs.taps.edge.Reads as taps-edge
-use Rattle.samples.proofs.taps.filtered.Reads as taps-filtered
 use Rattle.samples.proofs.taps.blend.Reads as taps-blend
 use Rattle.samples.proofs.taps.corner.Reads as taps-corner
-use Rattle.order.proofs.cells.interleave.Reads as cells-interleave
-use Rattle.order.proofs.cells.ctus_of.Reads as cells-ctus-of
-use Rattle.order.proofs.cells.inside.Reads as cells-inside
-use Rattle.samples.proofs.lines.start.Reads as lines-start
-use Rattle.samples.proofs.lines.fraction.Reads as lines-fraction
-use Rattle.samples.proofs.lines.first.Reads as lines-first
-use Rattle.samples.proofs.lines.turn.Reads as lines-turn
-use Rattle.samples.proofs.lines.bend.Reads as lines-bend
-use Rattle.samples.proofs.numbers.flat_no.Reads as numbers-flat-no
-use Rattle.samples.proofs.numbers.flat_short_no.Reads as numbers-flat-short-no
-use Rattle.samples.proofs.numbers.angular_no.Reads as numbers-angular-no
-use Rattle.samples.proofs.numbers.predict_no.Reads as numbers-predict-no
 use Rattle.listing.proofs.word.Reads as listing-word
 use Rattle.listing.proofs.other.Reads as listing-other
 use Rattle.listing.proofs.sample.Reads as listing-sample
@@ -58,15 +43,12 @@ use Rattle.listing.proofs.draw_into.Reads as listing-draw-into
 use Rattle.listing.proofs.row.Reads as listing-row
 use Rattle.listing.proofs.same_run.Reads as listing-same-run
 use Rattle.listing.proofs.Count.with.Reads as listing-with
-use Rattle.report.proofs.file.trailer_of.Reads as file-trailer-of
-use Rattle.report.proofs.file.area_of.Reads as file-area-of
-use Rattle.report.proofs.file.file_ok.Reads as file-file-ok
-use Rattle.report.proofs.file.read_samples.Reads as file-read-samples
-use Rattle.report.proofs.file.read_plan.Reads as file-read-plan
 use Rattle.fmt.proofs.depth.BitDepth.from_bits.Reads as depth-from-bits
 use Rattle.fmt.proofs.depth.BitDepth.bits.Reads as depth-bits
 use Rattle.fmt.proofs.depth.BitDepth.max_val.Reads as depth-max-val
 use Rattle.fmt.proofs.depth.BitDepth.neutral.Reads as depth-neutral
+use Rattle.fmt.proofs.depth.largest_of.Reads as depth-largest-of
+use Rattle.fmt.proofs.depth.neutral_of.Reads as depth-neutral-of
 use Rattle.fmt.proofs.ChromaFormat.from_idc.Reads as fmt-from-idc
 use Rattle.fmt.proofs.ChromaFormat.sub_w.Reads as fmt-sub-w
 use Rattle.fmt.proofs.ChromaFormat.sub_h.Reads as fmt-sub-h
@@ -78,8 +60,9 @@ use Rattle.order.proofs.decode_order.Reads as order-decode-order
 use Rattle.order.proofs.is_available.Reads as order-is-available
 use Rattle.order.proofs.luma_reach.Reads as order-luma-reach
 use Rattle.order.proofs.chroma_reach.Reads as order-chroma-reach
-use Rattle.domain.proofs.rows.zero_rows.Reads as rows-zero-rows
+use Rattle.domain.proofs.rows.level_rows.Reads as rows-level-rows
 use Rattle.domain.proofs.helpers.min.Reads as helpers-min
+use Rattle.domain.proofs.helpers.min_len.Reads as helpers-min-len
 use Rattle.domain.proofs.helpers.abs_diff.Reads as helpers-abs-diff
 use Rattle.domain.proofs.helpers.abs.Reads as helpers-abs
 use Rattle.domain.proofs.helpers.clamp.Reads as helpers-clamp
@@ -89,59 +72,28 @@ use Rattle.samples.proofs.filters.ramp.Reads as filters-ramp
 use Rattle.samples.proofs.filters.is_straight.Reads as filters-is-straight
 use Rattle.samples.proofs.deltas.less.Reads as deltas-less
 use Rattle.samples.proofs.deltas.restored.Reads as deltas-restored
-use Rattle.samples.proofs.deltas.in_range.Reads as deltas-in-range
-use Rattle.samples.proofs.deltas.high_part.Reads as deltas-high-part
+use Rattle.samples.proofs.deltas.residual_ok.Reads as deltas-residual-ok
 use Rattle.smooth.proofs.should_filter_refs.Reads as smooth-should-filter-refs
 use Rattle.smooth.proofs.filter_references.Reads as smooth-filter-references
 use Rattle.smooth.proofs.filter_luma_refs.Reads as smooth-filter-luma-refs
-use Rattle.refs.proofs.substitution.choose.Reads as substitution-choose
-use Rattle.refs.proofs.substitution.neutral_of.Reads as substitution-neutral-of
-use Rattle.refs.proofs.substitution.level_rows.Reads as substitution-level-rows
 use Rattle.refs.proofs.substitution.substitute_refs.Reads as substitution-substitute-refs
 use Rattle.refs.proofs.get_reference_samples.Reads as refs-get-reference-samples
 use Rattle.refs.proofs.get_reference_samples_chroma_pair.Reads as refs-get-reference-samples-chroma-pair
 use Rattle.refs.proofs.gather_no.Reads as refs-gather-no
-use Rattle.refs.proofs.luma_block.Reads as refs-luma-block
-use Rattle.refs.proofs.luma_spot.Reads as refs-luma-spot
-use Rattle.refs.proofs.luma_length.Reads as refs-luma-length
-use Rattle.refs.proofs.chroma_block.Reads as refs-chroma-block
-use Rattle.refs.proofs.chroma_spot.Reads as refs-chroma-spot
-use Rattle.refs.proofs.chroma_length.Reads as refs-chroma-length
-use Rattle.camera.proofs.byte_refs.get_reference_samples.Reads as byte-refs-get-reference-samples
-use Rattle.camera.proofs.byte_refs.store_reference_samples.Reads as byte-refs-store-reference-samples
-use Rattle.camera.proofs.byte_refs.store_reference_samples_chroma_pair.Reads as byte-refs-store-reference-samples-chroma-pair
-use Rattle.plan.proofs.tiling.picture_ok.Reads as tiling-picture-ok
-use Rattle.plan.proofs.next_cell.is_next.Reads as next-cell-is-next
-use Rattle.plan.proofs.block_check.block_no.Reads as block-check-block-no
-use Rattle.plan.proofs.verdict.check_start.Reads as verdict-check-start
-use Rattle.plan.proofs.verdict.check_step.Reads as verdict-check-step
-use Rattle.plan.proofs.verdict.check_end.Reads as verdict-check-end
+use Rattle.refs.proofs.luma_layout.Reads as refs-luma-layout
+use Rattle.refs.proofs.chroma_layout.Reads as refs-chroma-layout
 use Rattle.plan.proofs.records.record_at.Reads as records-record-at
+use Rattle.plan.proofs.block_at.Reads as plan-block-at
+use Rattle.plan.proofs.is_whole.Reads as plan-is-whole
 use Rattle.plan.proofs.check_plan_bytes.Reads as plan-check-plan-bytes
 use Rattle.plan.proofs.check_plan_numbers.Reads as plan-check-plan-numbers
 use Rattle.plan.proofs.check_plan as plan-check-plan
-use Rattle.walk.proofs.steps.doing_of.Reads as steps-doing-of
-use Rattle.walk.proofs.steps.step_of.Reads as steps-step-of
+use Rattle.walk.proofs.calls.doing_of.Reads as calls-doing-of
 use Rattle.walk.proofs.Progress.fresh.Reads as walk-fresh
-use Rattle.walk.proofs.still.picture_ok.Reads as still-picture-ok
-use Rattle.walk.proofs.still.is_whole.Reads as still-is-whole
-use Rattle.walk.proofs.still.is_roomy.Reads as still-is-roomy
-use Rattle.walk.proofs.still.opening_no.Reads as still-opening-no
-use Rattle.walk.proofs.still.residual_ok.Reads as still-residual-ok
-use Rattle.walk.proofs.still.replay_no.Reads as still-replay-no
-use Rattle.walk.proofs.still.walk_no.Reads as still-walk-no
-use Rattle.walk.proofs.still.settled.Reads as still-settled
-use Rattle.walk.proofs.spans.lies.Reads as spans-lies
-use Rattle.walk.proofs.spans.sum_of.Reads as spans-sum-of
-use Rattle.walk.proofs.spans.agrees.Reads as spans-agrees
-use Rattle.walk.proofs.block_rows.walk_rows.Reads as block-rows-walk-rows
+use Rattle.walk.proofs.checks.opening_no.Reads as checks-opening-no
+use Rattle.walk.proofs.checks.settled.Reads as checks-settled
 use Rattle.walk.proofs.block.geometry.Reads as block-geometry
-use Rattle.walk.proofs.block_door.base_of.Reads as block-door-base-of
-use Rattle.walk.proofs.block_door.early_no.Reads as block-door-early-no
-use Rattle.walk.proofs.block_door.fit_for.Reads as block-door-fit-for
-use Rattle.walk.proofs.block.predict_block.Reads as block-predict-block
-use Rattle.walk.proofs.rebuild.rebuild_block.Reads as rebuild-rebuild-block
-use Rattle.walk.proofs.coded.walk_block.Reads as coded-walk-block
+use Rattle.walk.proofs.block.base_of.Reads as block-base-of
 use Rattle.probes.proofs.salvrunde_probe_depth.Reads as probes-salvrunde-probe-depth
 use Rattle.probes.proofs.salvrunde_probe_format.Reads as probes-salvrunde-probe-format
 use Rattle.probes.proofs.salvrunde_probe_on_luma.Reads as probes-salvrunde-probe-on-luma
@@ -155,12 +107,9 @@ use Rattle.probes.proofs.salvrunde_probe_substitute_refs.Reads as probes-salvru
 use Rattle.probes.proofs.salvrunde_probe_get_reference_samples.Reads as probes-salvrunde-probe-get-reference-samples
 use Rattle.probes.proofs.salvrunde_probe_get_reference_samples_chroma_pair.Reads as probes-salvrunde-probe-get-reference-samples-chroma-pair
 use Rattle.probes.proofs.walk_probes.salvrunde_probe_check_plan.Reads as walk-probes-salvrunde-probe-check-plan
-use Rattle.predict.proofs.flat.predict_planar_into.Reads as flat-predict-planar-into
-use Rattle.predict.proofs.flat.predict_dc_into.Reads as flat-predict-dc-into
-use Rattle.predict.proofs.flat.planar_2n.Reads as flat-planar-2n
+use Rattle.predict.proofs.planar_dc.predict_planar_into.Reads as flat-predict-planar-into
+use Rattle.predict.proofs.planar_dc.predict_dc_into.Reads as flat-predict-dc-into
 use Rattle.predict.proofs.angular.predict_angular_slices.Reads as angular-predict-angular-slices
-use Rattle.predict.proofs.by_mode.predict_by_mode.Reads as by-mode-predict-by-mode
-use Rattle.predict.proofs.luma_rows.luma_rows.Reads as luma-rows-luma-rows
 use Rattle.predict.proofs.predict_chroma_tb_slices.Reads as predict-predict-chroma-tb-slices
 use Rattle.predict.proofs.predict_luma_tb_slices.Reads as predict-predict-luma-tb-slices
 use Rattle.predict.proofs.scratch.AngularScratch.new.Reads as scratch-new
@@ -186,15 +135,8 @@ use Rattle.probes.proofs.walk_probes.salvrunde_probe_walk.Reads as walk-probes-
 use Rattle.probes.proofs.walk_probes.salvrunde_probe_replay.Reads as walk-probes-salvrunde-probe-replay
 use Rattle.probes.proofs.walk_probes.salvrunde_probe_walk_records as walk-probes-salvrunde-probe-walk-records
 use Rattle.probes.proofs.walk_probes.salvrunde_probe_replay_records as walk-probes-salvrunde-probe-replay-records
-use Rattle.camera.proofs.byte_rows.room_no.Reads as byte-rows-room-no
 use Rattle.bytes.proofs.pairs.read.Reads as pairs-read
 use Rattle.bytes.proofs.pairs.store.Reads as pairs-store
-use Rattle.camera.proofs.byte_entry.flat_no.Reads as byte-entry-flat-no
-use Rattle.camera.proofs.byte_entry.mode_no.Reads as byte-entry-mode-no
-use Rattle.camera.proofs.byte_flat.planar.Reads as byte-flat-planar
-use Rattle.camera.proofs.byte_flat.dc.Reads as byte-flat-dc
-use Rattle.camera.proofs.byte_angular.angular.Reads as byte-angular-angular
-use Rattle.camera.proofs.byte_predict.chroma.Reads as byte-predict-chroma
 use Rattle.camera.proofs.salvrunde_luma_refs.Reads as camera-salvrunde-luma-refs
 use Rattle.camera.proofs.salvrunde_chroma_refs.Reads as camera-salvrunde-chroma-refs
 use Rattle.camera.proofs.salvrunde_planar.Reads as camera-salvrunde-planar
@@ -202,14 +144,6 @@ use Rattle.camera.proofs.salvrunde_dc.Reads as camera-salvrunde-dc
 use Rattle.camera.proofs.salvrunde_angular.Reads as camera-salvrunde-angular
 use Rattle.camera.proofs.salvrunde_chroma_block.Reads as camera-salvrunde-chroma-block
 use Rattle.camera.proofs.salvrunde_replay.Reads as camera-salvrunde-replay
-use Rattle.camera.proofs.byte_rebuild.residuals_ok.Reads as byte-rebuild-residuals-ok
-use Rattle.camera.proofs.byte_rebuild.rebuild_block.Reads as byte-rebuild-rebuild-block
-use Rattle.camera.proofs.byte_answer.verdict.Reads as byte-answer-verdict
-use Rattle.camera.proofs.byte_answer.answer.Reads as byte-answer-answer
-use Rattle.camera.proofs.byte_replay.replay.Reads as byte-replay-replay
-use Rattle.report.proofs.text.lay_line.Reads as text-lay-line
-use Rattle.report.proofs.text.lay_refusal.Reads as text-lay-refusal
-use Rattle.report.proofs.text.lay_ending.Reads as text-lay-ending
 use Rattle.report.proofs.report.Reads as report-report
 use Rattle.walk.proofs.Progress.replay_numbers.Reads as walk-replay-numbers
 use Rattle.walk.proofs.Progress.walk_numbers.Reads as walk-walk-numbers
@@ -260,45 +194,14 @@ domain-size-ok-once a x y s t p q = p ∙ sym q
 domain-mode-ok-once : Once (domain-mode-ok.Post tt)
 domain-mode-ok-once a x y s t p q = p ∙ sym q
 
-domain-side-ok-once : Once (domain-side-ok.Post tt)
-domain-side-ok-once a x y s t p q = p ∙ sym q
-
-domain-ctu-ok-once : Once (domain-ctu-ok.Post tt)
-domain-ctu-ok-once a x y s t p q = p ∙ sym q
+domain-picture-ok-once : Once (domain-picture-ok.Post tt)
+domain-picture-ok-once a x y s t p q = p ∙ sym q
 
 domain-unit-ok-once : Once (domain-unit-ok.Post tt)
 domain-unit-ok-once a x y s t p q = p ∙ sym q
 
 -- cells
-cells-interleave-once : Once (cells-interleave.Post tt)
-cells-interleave-once a x y s t p q = p ∙ sym q
-
-cells-ctus-of-once : Once (cells-ctus-of.Post tt)
-cells-ctus-of-once a x y s t p q = p ∙ sym q
-
-cells-inside-once : Once (cells-inside.Post tt)
-cells-inside-once a x y s t p q = p ∙ sym q
-
--- lines
-lines-start-once : Once (lines-start.Post tt)
-lines-start-once a x y s t p q = p ∙ sym q
-
-lines-fraction-once : Once (lines-fraction.Post tt)
-lines-fraction-once a x y s t p q = p ∙ sym q
-
-lines-first-once : Once (lines-first.Post tt)
-lines-first-once a x y s t p q = p ∙ sym q
-
-lines-turn-once : Once (lines-turn.Post tt)
-lines-turn-once a x y s t p q = p ∙ sym q
-
-lines-bend-once : Once (lines-bend.Post tt)
-lines-bend-once a x y s t p q = p ∙ sym q
-
 -- taps
-taps-largest-of-once : Once (taps-largest-of.Post tt)
-taps-largest-of-once a x y s t p q = p ∙ sym q
-
 taps-interp-once : Once (taps-interp.Post tt)
 taps-interp-once a x y s t p q = p ∙ sym q
 
@@ -308,27 +211,11 @@ taps-mean-once a x y s t p q = p ∙ sym q
 taps-edge-once : Once (taps-edge.Post tt)
 taps-edge-once a x y s t p q = p ∙ sym q
 
-taps-filtered-once : Once (taps-filtered.Post tt)
-taps-filtered-once a x y s t p q = p ∙ sym q
-
 taps-blend-once : Once (taps-blend.Post tt)
 taps-blend-once a x y s t p q = p ∙ sym q
 
 taps-corner-once : Once (taps-corner.Post tt)
 taps-corner-once a x y s t p q = p ∙ sym q
-
--- numbers
-numbers-flat-no-once : Once (numbers-flat-no.Post tt)
-numbers-flat-no-once a x y s t p q = p ∙ sym q
-
-numbers-flat-short-no-once : Once (numbers-flat-short-no.Post tt)
-numbers-flat-short-no-once a x y s t p q = p ∙ sym q
-
-numbers-angular-no-once : Once (numbers-angular-no.Post tt)
-numbers-angular-no-once a x y s t p q = p ∙ sym q
-
-numbers-predict-no-once : Once (numbers-predict-no.Post tt)
-numbers-predict-no-once a x y s t p q = p ∙ sym q
 
 -- listing
 listing-word-once : (κs : Lfts 1) → Once (listing-word.Post κs)
@@ -353,21 +240,6 @@ listing-with-once : Once (listing-with.Post tt)
 listing-with-once a x y s t p q = p ∙ sym q
 
 -- file
-file-trailer-of-once : (κs : Lfts 1) → Once (file-trailer-of.Post κs)
-file-trailer-of-once κs a x y s t p q = p ∙ sym q
-
-file-area-of-once : Once (file-area-of.Post tt)
-file-area-of-once a x y s t p q = p .0 ∙ sym (q .0)
-
-file-file-ok-once : (κs : Lfts 1) → Once (file-file-ok.Post κs)
-file-file-ok-once κs a x y s t p q = p ∙ sym q
-
-file-read-samples-once : (κs : Lfts 1) → Once (file-read-samples.Post κs)
-file-read-samples-once κs a x y s t p q = p ∙ sym q
-
-file-read-plan-once : (κs : Lfts 1) → Once (file-read-plan.Post κs)
-file-read-plan-once κs a x y s t p q = p ∙ sym q
-
 -- depth
 depth-from-bits-once : Once (depth-from-bits.Post tt)
 depth-from-bits-once a x y s t p q = p ∙ sym q
@@ -380,6 +252,12 @@ depth-max-val-once a x y s t p q = p ∙ sym q
 
 depth-neutral-once : Once (depth-neutral.Post tt)
 depth-neutral-once a x y s t p q = p ∙ sym q
+
+depth-largest-of-once : Once (depth-largest-of.Post tt)
+depth-largest-of-once a x y s t p q = p ∙ sym q
+
+depth-neutral-of-once : Once (depth-neutral-of.Post tt)
+depth-neutral-of-once a x y s t p q = p ∙ sym q
 
 -- fmt
 fmt-from-idc-once : Once (fmt-from-idc.Post tt)
@@ -417,12 +295,15 @@ order-chroma-reach-once : Once (order-chroma-reach.Post tt)
 order-chroma-reach-once a x y s t p q = p ∙ sym q
 
 -- rows
-rows-zero-rows-once : Once (rows-zero-rows.Post tt)
-rows-zero-rows-once a x y s t p q = p ∙ sym q
+rows-level-rows-once : Once (rows-level-rows.Post tt)
+rows-level-rows-once a x y s t p q = p ∙ sym q
 
 -- helpers
 helpers-min-once : Once (helpers-min.Post tt)
 helpers-min-once a x y s t p q = p ∙ sym q
+
+helpers-min-len-once : Once (helpers-min-len.Post tt)
+helpers-min-len-once a x y s t p q = p ∙ sym q
 
 helpers-abs-diff-once : Once (helpers-abs-diff.Post tt)
 helpers-abs-diff-once a x y s t p q = p ∙ sym q
@@ -453,11 +334,8 @@ deltas-less-once a x y s t p q = p ∙ sym q
 deltas-restored-once : Once (deltas-restored.Post tt)
 deltas-restored-once a x y s t p q = p ∙ sym q
 
-deltas-in-range-once : Once (deltas-in-range.Post tt)
-deltas-in-range-once a x y s t p q = p ∙ sym q
-
-deltas-high-part-once : Once (deltas-high-part.Post tt)
-deltas-high-part-once a x y s t p q = p ∙ sym q
+deltas-residual-ok-once : Once (deltas-residual-ok.Post tt)
+deltas-residual-ok-once a x y s t p q = p ∙ sym q
 
 -- smooth
 smooth-should-filter-refs-once : Once (smooth-should-filter-refs.Post tt)
@@ -470,14 +348,6 @@ smooth-filter-luma-refs-once : (κs : Lfts 2) → Once (smooth-filter-luma-refs.
 smooth-filter-luma-refs-once κs a x y s t p q = p ∙ sym q
 
 -- substitution
-substitution-choose-once : Once (substitution-choose.Post tt)
-substitution-choose-once a x y s t p q = p ∙ sym q
-
-substitution-neutral-of-once : Once (substitution-neutral-of.Post tt)
-substitution-neutral-of-once a x y s t p q = p ∙ sym q
-
-substitution-level-rows-once : Once (substitution-level-rows.Post tt)
-substitution-level-rows-once a x y s t p q = p ∙ sym q
 
 substitution-substitute-refs-once : Once (substitution-substitute-refs.Post tt)
 substitution-substitute-refs-once a x y s t p q = p ∙ sym q
@@ -492,140 +362,55 @@ refs-get-reference-samples-chroma-pair-once κs a x y s t p q = p ∙ sym q
 refs-gather-no-once : Once (refs-gather-no.Post tt)
 refs-gather-no-once a x y s t p q = p ∙ sym q
 
-refs-luma-block-once : Once (refs-luma-block.Post tt)
-refs-luma-block-once a x y s t p q = p ∙ sym q
+refs-luma-layout-once : Once (refs-luma-layout.Post tt)
+refs-luma-layout-once a x y s t p q = p ∙ sym q
 
-refs-luma-spot-once : Once (refs-luma-spot.Post tt)
-refs-luma-spot-once a x y s t p q = p ∙ sym q
+refs-chroma-layout-once : Once (refs-chroma-layout.Post tt)
+refs-chroma-layout-once a x y s t p q = p ∙ sym q
 
-refs-luma-length-once : Once (refs-luma-length.Post tt)
-refs-luma-length-once a x y s t p q = p ∙ sym q
-
-refs-chroma-block-once : Once (refs-chroma-block.Post tt)
-refs-chroma-block-once a x y s t p q = p ∙ sym q
-
-refs-chroma-spot-once : Once (refs-chroma-spot.Post tt)
-refs-chroma-spot-once a x y s t p q = p ∙ sym q
-
-refs-chroma-length-once : Once (refs-chroma-length.Post tt)
-refs-chroma-length-once a x y s t p q = p ∙ sym q
-
--- byte_refs
-byte-refs-get-reference-samples-once : (κs : Lfts 1) → Once (byte-refs-get-reference-samples.Post κs)
-byte-refs-get-reference-samples-once κs a x y s t p q = p ∙ sym q
-
+-- what an entry on bytes gives back and writes
 by-written : {x y : ℕ} {l m : List ℕ} {w : Written} → wrote x l ≡ w → wrote y m ≡ w → (x ≡ y) × (l ≡ m)
 by-written p q = (ap (λ (v : Written). v .number) (p ∙ sym q), ap (λ (v : Written). v .bytes) (p ∙ sym q))
 
-byte-refs-store-reference-samples-once : (κs : Lfts 2) → OnceLeft (λ s. now (s .1 .1 .0)) (byte-refs-store-reference-samples.Post κs)
-byte-refs-store-reference-samples-once κs a x y s t p q = by-written p q
-
-byte-refs-store-reference-samples-chroma-pair-once : (κs : Lfts 3) → OnceLeft (λ s. now (s .1 .1 .1 .0)) (byte-refs-store-reference-samples-chroma-pair.Post κs)
-byte-refs-store-reference-samples-chroma-pair-once κs a x y s t p q = by-written p q
-
--- tiling
-tiling-picture-ok-once : Once (tiling-picture-ok.Post tt)
-tiling-picture-ok-once a x y s t p q = p ∙ sym q
-
-next-cell-is-next-once : Once (next-cell-is-next.Post tt)
-next-cell-is-next-once a x y s t p q = p ∙ sym q
-
-block-check-block-no-once : Once (block-check-block-no.Post tt)
-block-check-block-no-once a x y s t p q = p ∙ sym q
-
+-- records
 records-record-at-once : (κs : Lfts 1) → Once (records-record-at.Post κs)
 records-record-at-once κs a x y s t p q = p ∙ sym q
 
--- verdict
-verdict-check-start-once : Once (verdict-check-start.Post tt)
-verdict-check-start-once a x y s t p q = p ∙ sym q
-
-verdict-check-step-once : Once (verdict-check-step.Post tt)
-verdict-check-step-once a x y s t p q = p ∙ sym q
-
-verdict-check-end-once : Once (verdict-check-end.Post tt)
-verdict-check-end-once a x y s t p q = p ∙ sym q
-
 -- plan
-plan-check-plan-numbers-once : (κs : Lfts 1) → Once (plan-check-plan-numbers.Post κs)
+plan-block-at-once : (κs : Lfts 4) → Once (plan-block-at.Post κs)
+plan-block-at-once κs a x y s t p q = p ∙ sym q
+
+plan-is-whole-once : (κs : Lfts 4) → Once (plan-is-whole.Post κs)
+plan-is-whole-once κs a x y s t p q = p ∙ sym q
+
+plan-check-plan-numbers-once : (κs : Lfts 4) → Once (plan-check-plan-numbers.Post κs)
 plan-check-plan-numbers-once κs a x y s t p q = p ∙ sym q
 
 plan-check-plan-bytes-once : (κs : Lfts 1) → Once (plan-check-plan-bytes.Post κs)
 plan-check-plan-bytes-once κs a x y s t p q = p ∙ sym q
 
--- steps
-steps-doing-of-once : Once (steps-doing-of.Post tt)
-steps-doing-of-once a x y s t p q = p ∙ sym q
-
-steps-step-of-once : Once (steps-step-of.Post tt)
-steps-step-of-once a x y s t p q = p ∙ sym q
+-- calls
+calls-doing-of-once : Once (calls-doing-of.Post tt)
+calls-doing-of-once a x y s t p q = p ∙ sym q
 
 -- walk
 walk-fresh-once : Once (walk-fresh.Post tt)
 walk-fresh-once a x y s t p q = p ∙ sym q
 
--- still
-still-picture-ok-once : Once (still-picture-ok.Post tt)
-still-picture-ok-once a x y s t p q = p ∙ sym q
+-- checks
 
-still-is-whole-once : Once (still-is-whole.Post tt)
-still-is-whole-once a x y s t p q = p ∙ sym q
+checks-opening-no-once : Once (checks-opening-no.Post tt)
+checks-opening-no-once a x y s t p q = p ∙ sym q
 
-still-is-roomy-once : Once (still-is-roomy.Post tt)
-still-is-roomy-once a x y s t p q = p ∙ sym q
-
-still-opening-no-once : Once (still-opening-no.Post tt)
-still-opening-no-once a x y s t p q = p ∙ sym q
-
-still-residual-ok-once : Once (still-residual-ok.Post tt)
-still-residual-ok-once a x y s t p q = p ∙ sym q
-
-still-replay-no-once : (κs : Lfts 1) → Once (still-replay-no.Post κs)
-still-replay-no-once κs a x y s t p q = p ∙ sym q
-
-still-walk-no-once : (κs : Lfts 1) → Once (still-walk-no.Post κs)
-still-walk-no-once κs a x y s t p q = p ∙ sym q
-
-still-settled-once : Once (still-settled.Post tt)
-still-settled-once a x y s t p q = p ∙ sym q
-
--- spans
-spans-lies-once : Once (spans-lies.Post tt)
-spans-lies-once a x y s t p q = p ∙ sym q
-
-spans-sum-of-once : (κs : Lfts 1) → Once (spans-sum-of.Post κs)
-spans-sum-of-once κs a x y s t p q = p ∙ sym q
-
-spans-agrees-once : (κs : Lfts 2) → Once (spans-agrees.Post κs)
-spans-agrees-once κs a x y s t p q = p ∙ sym q
-
--- block_rows
-block-rows-walk-rows-once : (κs : Lfts 4) → OnceLeft {L = World} (λ s. record { work = now (s .0); residuals = now (s .1 .0) }) (block-rows-walk-rows.Post κs)
-block-rows-walk-rows-once κs a x y s t p q = (refl, λ i. record { work = (p .1 ∙ sym (q .1)) i; residuals = (p .0 ∙ sym (q .0)) i })
+checks-settled-once : Once (checks-settled.Post tt)
+checks-settled-once a x y s t p q = p ∙ sym q
 
 -- block
 block-geometry-once : Once (block-geometry.Post tt)
 block-geometry-once a x y s t p q = p ∙ sym q
 
-block-door-base-of-once : Once (block-door-base-of.Post tt)
-block-door-base-of-once a x y s t p q = p ∙ sym q
-
-block-door-early-no-once : Once (block-door-early-no.Post tt)
-block-door-early-no-once a x y s t p q = p ∙ sym q
-
-block-door-fit-for-once : Once (block-door-fit-for.Post tt)
-block-door-fit-for-once a x y s t p q = p ∙ sym q
-
-block-predict-block-once : (κs : Lfts 5) → OnceLeft (λ s. now (s .1 .1 .1 .0)) (block-predict-block.Post κs)
-block-predict-block-once κs a x y s t p q = by-number _ _ (p .0) (q .0) (p .1 .0) (q .1 .0)
-
--- rebuild
-rebuild-rebuild-block-once : (κs : Lfts 5) → OnceLeft (λ s. now (s .1 .1 .1 .1 .0)) (rebuild-rebuild-block.Post κs)
-rebuild-rebuild-block-once κs a x y s t p q = by-number _ _ (p .0) (q .0) (p .1 .0) (q .1 .0)
-
--- coded
-coded-walk-block-once : (κs : Lfts 6) → OnceLeft {L = World} (λ s. record { work = now (s .1 .1 .1 .1 .0); residuals = now (s .1 .1 .1 .1 .1 .0) }) (coded-walk-block.Post κs)
-coded-walk-block-once κs a x y s t p q = by-number _ _ (p .0) (q .0) (p .1 .0) (q .1 .0)
+block-base-of-once : Once (block-base-of.Post tt)
+block-base-of-once a x y s t p q = p ∙ sym q
 
 -- probes
 probes-salvrunde-probe-depth-once : Once (probes-salvrunde-probe-depth.Post tt)
@@ -664,7 +449,7 @@ probes-salvrunde-probe-get-reference-samples-once κs a x y s t p q = p ∙ sym 
 probes-salvrunde-probe-get-reference-samples-chroma-pair-once : (κs : Lfts 2) → Once (probes-salvrunde-probe-get-reference-samples-chroma-pair.Post κs)
 probes-salvrunde-probe-get-reference-samples-chroma-pair-once κs a x y s t p q = p ∙ sym q
 
-walk-probes-salvrunde-probe-check-plan-once : (κs : Lfts 1) → Once (walk-probes-salvrunde-probe-check-plan.Post κs)
+walk-probes-salvrunde-probe-check-plan-once : (κs : Lfts 4) → Once (walk-probes-salvrunde-probe-check-plan.Post κs)
 walk-probes-salvrunde-probe-check-plan-once κs a x y s t p q = p ∙ sym q
 
 -- flat
@@ -674,20 +459,11 @@ flat-predict-planar-into-once κs a x y s t p q = by-number _ _ (p .0) (q .0) (p
 flat-predict-dc-into-once : (κs : Lfts 3) → OnceLeft (λ s. now (s .1 .1 .1 .1 .0)) (flat-predict-dc-into.Post κs)
 flat-predict-dc-into-once κs a x y s t p q = by-number _ _ (p .0) (q .0) (p .1) (q .1)
 
-flat-planar-2n-once : (κs : Lfts 3) → OnceLeft (λ s. now (s .1 .1 .1 .0)) (flat-planar-2n.Post κs)
-flat-planar-2n-once κs a x y s t p q = by-number _ _ (p .0) (q .0) (p .1) (q .1)
-
 -- angular
 angular-predict-angular-slices-once : (κs : Lfts 6) → OnceLeft (λ s. now (s .1 .1 .1 .1 .1 .1 .1 .0)) (angular-predict-angular-slices.Post κs)
 angular-predict-angular-slices-once κs a x y s t p q = by-number _ _ (p .0) (q .0) (p .1 .0) (q .1 .0)
 
 -- predict
-by-mode-predict-by-mode-once : (κs : Lfts 6) → OnceLeft (λ s. now (s .1 .1 .1 .1 .1 .1 .1 .0)) (by-mode-predict-by-mode.Post κs)
-by-mode-predict-by-mode-once κs a x y s t p q = by-number _ _ (p .0) (q .0) (p .1 .0) (q .1 .0)
-
-luma-rows-luma-rows-once : Once (luma-rows-luma-rows.Post tt)
-luma-rows-luma-rows-once a x y s t p q = p ∙ sym q
-
 predict-predict-chroma-tb-slices-once : (κs : Lfts 6) → OnceLeft (λ s. now (s .1 .1 .1 .1 .1 .1 .0)) (predict-predict-chroma-tb-slices.Post κs)
 predict-predict-chroma-tb-slices-once κs a x y s t p q = by-number _ _ (p .0) (q .0) (p .1 .0) (q .1 .0)
 
@@ -745,37 +521,16 @@ predict-probes-salvrunde-probe-compute-residual-i32-into-once κs a x y s t p q 
 predict-probes-salvrunde-probe-reconstruct-into-once : (κs : Lfts 3) → OnceLeft (λ s. now (s .1 .1 .1 .1 .0)) (predict-probes-salvrunde-probe-reconstruct-into.Post κs)
 predict-probes-salvrunde-probe-reconstruct-into-once κs a x y s t p q = (p .0 ∙ sym (q .0), p .1 ∙ sym (q .1))
 
-walk-probes-salvrunde-probe-walk-once : (κs : Lfts 7) → OnceLeft {L = World} (λ s. record { work = now (s .1 .1 .1 .1 .1 .1 .1 .0); residuals = now (s .1 .1 .1 .1 .1 .1 .1 .1 .0) }) (walk-probes-salvrunde-probe-walk.Post κs)
+walk-probes-salvrunde-probe-walk-once : (κs : Lfts 10) → OnceLeft {L = World} (λ s. record { work = now (s .1 .1 .1 .1 .1 .1 .1 .1 .1 .1 .0); residuals = now (s .1 .1 .1 .1 .1 .1 .1 .1 .1 .1 .1 .0) }) (walk-probes-salvrunde-probe-walk.Post κs)
 walk-probes-salvrunde-probe-walk-once κs a x y s t p q = (p .0 ∙ sym (q .0), p .1 .0 ∙ sym (q .1 .0))
 
-walk-probes-salvrunde-probe-replay-once : (κs : Lfts 6) → OnceLeft (λ s. now (s .1 .1 .1 .1 .1 .1 .1 .0)) (walk-probes-salvrunde-probe-replay.Post κs)
+walk-probes-salvrunde-probe-replay-once : (κs : Lfts 9) → OnceLeft (λ s. now (s .1 .1 .1 .1 .1 .1 .1 .1 .1 .1 .0)) (walk-probes-salvrunde-probe-replay.Post κs)
 walk-probes-salvrunde-probe-replay-once κs a x y s t p q = (p .0 ∙ sym (q .0), p .1 .0 ∙ sym (q .1 .0))
 
--- byte_rebuild
-byte-rebuild-residuals-ok-once : (κs : Lfts 1) → Once (byte-rebuild-residuals-ok.Post κs)
-byte-rebuild-residuals-ok-once κs a x y s t p q = p ∙ sym q
-
-byte-rebuild-rebuild-block-once : (κs : Lfts 5) → OnceLeft (λ s. now (s .1 .1 .1 .1 .0)) (byte-rebuild-rebuild-block.Post κs)
-byte-rebuild-rebuild-block-once κs a x y s t p q = by-number _ _ (p .0) (q .0) (p .1 .0) (q .1 .0)
-
--- byte_answer
-byte-answer-verdict-once : (κs : Lfts 2) → Once (byte-answer-verdict.Post κs)
-byte-answer-verdict-once κs a x y s t p q = p ∙ sym q
-
-byte-answer-answer-once : (κs : Lfts 1) → OnceLeft (λ s. now (s .0)) (byte-answer-answer.Post κs)
-byte-answer-answer-once κs a x y s t p q = (refl, p ∙ sym q)
-
--- byte_replay
+-- camera
 by-after : {x y : ℕ} {d e f g : List ℕ} {a : After} → _≡_ {A = After} (record { number = x; plane = d; result = f }) a → _≡_ {A = After} (record { number = y; plane = e; result = g }) a
     → (x ≡ y) × (_≡_ {A = List ℕ × List ℕ} (d, f) (e, g))
 by-after p q = (ap (λ (v : After). v .number) (p ∙ sym q), ap (λ (v : After). (v .plane, v .result)) (p ∙ sym q))
-
-byte-replay-replay-once : (κs : Lfts 4) → OnceLeft {L = List ℕ × List ℕ} (λ s. (now (s .1 .1 .1 .1 .0), now (s .1 .1 .1 .1 .1 .0))) (byte-replay-replay.Post κs)
-byte-replay-replay-once κs a x y s t p q = by-after p q
-
--- byte_rows
-byte-rows-room-no-once : Once (byte-rows-room-no.Post tt)
-byte-rows-room-no-once a x y s t p q = p ∙ sym q
 
 -- pairs
 pairs-read-once : (κs : Lfts 2) → OnceLeft (λ s. now (s .1 .1 .0)) (pairs-read.Post κs)
@@ -783,28 +538,6 @@ pairs-read-once κs a x y s t p q = (refl, p ∙ sym q)
 
 pairs-store-once : (κs : Lfts 2) → OnceLeft (λ s. now (s .1 .1 .0)) (pairs-store.Post κs)
 pairs-store-once κs a x y s t p q = (refl, p ∙ sym q)
-
--- byte_entry
-byte-entry-flat-no-once : Once (byte-entry-flat-no.Post tt)
-byte-entry-flat-no-once a x y s t p q = p ∙ sym q
-
-byte-entry-mode-no-once : Once (byte-entry-mode-no.Post tt)
-byte-entry-mode-no-once a x y s t p q = p ∙ sym q
-
--- byte_flat
-byte-flat-planar-once : (κs : Lfts 3) → OnceLeft (λ s. now (s .1 .1 .1 .0)) (byte-flat-planar.Post κs)
-byte-flat-planar-once κs a x y s t p q = by-written p q
-
-byte-flat-dc-once : (κs : Lfts 3) → OnceLeft (λ s. now (s .1 .1 .1 .1 .0)) (byte-flat-dc.Post κs)
-byte-flat-dc-once κs a x y s t p q = by-written p q
-
--- byte_angular
-byte-angular-angular-once : (κs : Lfts 3) → OnceLeft (λ s. now (s .1 .1 .1 .1 .1 .1 .1 .0)) (byte-angular-angular.Post κs)
-byte-angular-angular-once κs a x y s t p q = by-written p q
-
--- byte_predict
-byte-predict-chroma-once : (κs : Lfts 3) → OnceLeft (λ s. now (s .1 .1 .1 .1 .1 .1 .0)) (byte-predict-chroma.Post κs)
-byte-predict-chroma-once κs a x y s t p q = by-written p q
 
 -- camera
 camera-salvrunde-luma-refs-once : (κs : Lfts 2) → OnceLeft (λ s. now (s .1 .1 .1 .1 .1 .1 .1 .1 .1 .0)) (camera-salvrunde-luma-refs.Post κs)
@@ -829,22 +562,13 @@ camera-salvrunde-replay-once : (κs : Lfts 4) → OnceLeft {L = List ℕ × List
 camera-salvrunde-replay-once κs a x y s t p q = by-after p q
 
 -- walk
-walk-replay-numbers-once : (κs : Lfts 6) → OnceLeft (λ s. now (s .1 .1 .1 .1 .0)) (walk-replay-numbers.Post κs)
+walk-replay-numbers-once : (κs : Lfts 9) → OnceLeft (λ s. now (s .1 .1 .1 .1 .1 .1 .1 .0)) (walk-replay-numbers.Post κs)
 walk-replay-numbers-once κs a x y s t p q = (p .0 ∙ sym (q .0), p .1 .0 ∙ sym (q .1 .0))
 
-walk-walk-numbers-once : (κs : Lfts 7) → OnceLeft {L = World} (λ s. record { work = now (s .1 .1 .1 .1 .0); residuals = now (s .1 .1 .1 .1 .1 .0) }) (walk-walk-numbers.Post κs)
+walk-walk-numbers-once : (κs : Lfts 10) → OnceLeft {L = World} (λ s. record { work = now (s .1 .1 .1 .1 .1 .1 .1 .0); residuals = now (s .1 .1 .1 .1 .1 .1 .1 .1 .0) }) (walk-walk-numbers.Post κs)
 walk-walk-numbers-once κs a x y s t p q = (p .0 ∙ sym (q .0), p .1 .0 ∙ sym (q .1 .0))
 
 -- text
-text-lay-line-once : (κs : Lfts 1) → OnceLeft (λ s. now (s .0)) (text-lay-line.Post κs)
-text-lay-line-once κs a x y s t p q = (p .1 ∙ sym (q .1), p .0 ∙ sym (q .0))
-
-text-lay-refusal-once : (κs : Lfts 1) → OnceLeft (λ s. now (s .0)) (text-lay-refusal.Post κs)
-text-lay-refusal-once κs a x y s t p q = (p .1 ∙ sym (q .1), p .0 ∙ sym (q .0))
-
-text-lay-ending-once : (κs : Lfts 1) → OnceLeft (λ s. now (s .0)) (text-lay-ending.Post κs)
-text-lay-ending-once κs a x y s t p q = (p .1 ∙ sym (q .1), p .0 ∙ sym (q .0))
-
 -- report
 report-report-once : (κs : Lfts 1) → Once (report-report.Post κs)
 report-report-once κs a x y s t p q = p ∙ sym q

@@ -7,16 +7,16 @@ use lib.IntN.{ℤ}
 use lib.ListN.{length}
 use Rattle.plan.specs.declared.tiling.Verdict.{Verdict}
 use Rattle.plan.specs.tiling.Plan.{Plan}
-use Rattle.walk.specs.declared.still.Still.{Still}
+use Rattle.walk.specs.declared.checks.Still.{Still}
 use Rattle.walk.specs.declared.Progress.{Progress}
-use Rattle.walk.specs.walked.Block.{World}
-use Rattle.walk.specs.still.Checks.{Tables}
+use Rattle.walk.specs.block.Walked.{World}
+use Rattle.walk.specs.checks.Checks.{Tables}
 use Rattle.walk.specs.calls.Door.{replayVerdict, replayAfter, walkVerdict, walkAfter}
 use Rattle.walk.specs.calls.Laws.{replay-refused, walk-refused}
 use Rattle.walk.specs.Door.{steppedBy}
-use Rattle.camera.specs.byte_answer.Door.{Lent, byteVerdict, answered}
-use Rattle.camera.specs.byte_replay.Door.{planeAfter, resultAfter}
-use Rattle.camera.specs.byte_entry.Entries.{entry}
+use Rattle.camera.specs.replay.Verdict.{Lent, byteVerdict, answered}
+use Rattle.camera.specs.replay.Door.{planeAfter, resultAfter}
+use Rattle.camera.specs.Written.{entry}
 use Rattle.promises.specs.tables.Refused.{kept}
 
 -- walk and replay: the record as given, nothing done, and what is lent untouched

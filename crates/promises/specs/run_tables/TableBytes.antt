@@ -5,7 +5,7 @@
 --   salvrunde_planar        planar           salvrunde_replay         replay
 --   salvrunde_dc            dc
 --
--- byte_refs::store_reference_samples and byte_refs::store_reference_samples_chroma_pair, to which the gathers forward, have luma-refs and chroma-refs too.
+-- gather::store_reference_samples and gather::store_reference_samples_chroma_pair, to which the gathers forward, have luma-refs and chroma-refs too.
 use mathlib.Core.Path.{_≡_, refl}
 use mathlib.Core.Bool.{Bool}
 use mathlib.Core.List.{List, [], _∷_}
@@ -19,15 +19,13 @@ use Rattle.refs.specs.Door.{lumaLength, chromaLength}
 use Rattle.bytes.specs.Bytes.{residualsOf}
 use Rattle.plan.specs.tiling.Tiling.{pictureOf}
 use Rattle.plan.specs.RecordPlan.{recordsOf}
-use Rattle.walk.specs.declared.still.Still.{Still}
+use Rattle.walk.specs.declared.checks.Still.{Still}
 use Rattle.walk.specs.declared.Progress.{Progress}
-use Rattle.camera.specs.byte_answer.Door.{Lent, byteVerdict}
-use Rattle.camera.specs.byte_replay.Door.{blockWritten}
-use Rattle.camera.specs.byte_entry.Entries.{entry, room, flatEntryNo, modeEntryNo}
-use Rattle.camera.specs.byte_flat.Entries.{planarEntry, dcEntry}
-use Rattle.camera.specs.byte_angular.Entries.{angularEntry}
-use Rattle.camera.specs.byte_predict.Entries.{chromaBlockEntry}
-use Rattle.camera.specs.byte_refs.Entry.{lumaEntry, chromaEntry}
+use Rattle.camera.specs.replay.Verdict.{Lent, byteVerdict}
+use Rattle.camera.specs.replay.Door.{blockWritten}
+use Rattle.camera.specs.Written.{entry}
+use Rattle.camera.specs.prediction.Entries.{room, flatEntryNo, modeEntryNo, planarEntry, dcEntry, angularEntry, chromaBlockEntry}
+use Rattle.camera.specs.gather.Entry.{lumaEntry, chromaEntry}
 use Rattle.promises.specs.tables.Exact.{_when_, _or_, Exact, ExactFirst, Tells, exact-none, exact-row, first-row, all-of, at-most, same}
 use Rattle.promises.specs.tables.Table.{BadPicture, depth, size, picture, lumaTable, luma-number, chromaTable, chroma-number, angularTable, predictTable}
 use Rattle.promises.specs.run_tables.TableWalk.{about, done, Some, every-one, lastRows, last-first, number-exact}

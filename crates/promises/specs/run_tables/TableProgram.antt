@@ -10,7 +10,8 @@ use native.Mathlib.Omega.{arith}
 use lib.Dec.{eqb, ltb}
 use lib.ListN.{length, getD, drop, length-append, length-replicate, replicate}
 use lib.Seq.{append-snoc}
-use borrow.Author.Tests.{eqb-true, eqb-false, ltb-true, ne-eqb}
+use borrow.Author.Tests.{eqb-true, eqb-false, eq-eqb, ltb-true, ne-eqb}
+use Rattle.laws.specs.Choose.{both-same}
 use Rattle.laws.specs.Bytes.{leAt}
 use Rattle.laws.specs.FillLaws.{length-fill, fill-at}
 use Rattle.domain.specs.Facts.{Depth}
@@ -18,17 +19,17 @@ use Rattle.plan.specs.declared.tiling.Frame.{Frame}
 use Rattle.plan.specs.declared.tiling.Block.{Block}
 use Rattle.plan.specs.declared.tiling.Verdict.{Verdict}
 use Rattle.plan.specs.tiling.Tiling.{pictureOf}
-use Rattle.plan.specs.tiling.Plan.{planOf}
 use Rattle.walk.specs.declared.Stepped.{Stepped}
-use Rattle.walk.specs.still.Checks.{largestOf}
+use Rattle.walk.specs.checks.Checks.{largestIn}
 use Rattle.walk.specs.Door.{steppedBy}
-use Rattle.report.specs.file.File.{trailerOf, area, fileOk, sourceOf, recordsOf}
-use Rattle.walk.specs.spans.Spans.{agree}
+use Rattle.report.specs.file.File.{trailerOf, area, fileOk, tabulated, sourceOf, planIn}
+use Rattle.report.specs.sums.Sums.{agree}
 use Rattle.report.specs.text.Text.{spell, number, refusal, ending}
-use Rattle.report.specs.Told.{Job, stillOf, jobOf, tables, fresh, blank, verdict, residuals, replayed, lines, told, printed}
+use Rattle.walk.specs.Lent.{scratchTables}
+use Rattle.report.specs.Told.{Job, stillOf, jobOf, fresh, blank, verdict, residuals, replayed, lines, told, printed}
 use Rattle.promises.specs.tables.Exact.{Row, _when_, _or_, First, ExactFirst, Tells, first-exact, first-test, all-of, at-most}
 use Rattle.promises.specs.tables.Table.{BadPicture}
-use Rattle.promises.specs.run_tables.TableWalk.{about, done, blockRows, Uncovered, planRows, Some, lastRows, BadPlane, BadTables, verdictIn, walk}
+use Rattle.promises.specs.run_tables.TableWalk.{about, done, blockRows, Uncovered, planRows, Some, lastRows, Ragged, BadPlane, BadTables, verdictIn, walk}
 
 -- number 12: under 16 or over 65,536 bytes, excess counts, or a region that passes the trailer's start
 abbrev pub BadFile : List ℕ → Type 0
@@ -40,7 +41,7 @@ BadFile input =
 
 -- number 7: one of the file's samples above the depth's largest
 abbrev pub BadSample : List ℕ → Type 0
-BadSample input = let t = trailerOf input in (i : ℕ) × ((i < t .height * t .width) × (largestOf (stillOf t) < leAt 2 input (t .samples + 2 * i)))
+BadSample input = let t = trailerOf input in (i : ℕ) × ((i < t .height * t .width) × (largestIn (stillOf t) < leAt 2 input (t .samples + 2 * i)))
 
 -- the rows of a file that number 12 is not given for, and the program's
 abbrev pub fileRows : List ℕ → List (Row Verdict)
@@ -50,7 +51,7 @@ fileRows input =
     (about 1 0 when ¬ Depth (s .bits))
     ∷ (about 4 0 when BadPicture (pictureOf (s .frame)))
     ∷ (about 7 0 when BadSample input)
-    ∷ planRows (s .frame) (planOf (recordsOf input t)) []
+    ∷ planRows (s .frame) (planIn input t) []
 
 abbrev pub programRows : List ℕ → List (Row Verdict)
 programRows input = (about 12 0 when BadFile input) ∷ fileRows input
@@ -111,9 +112,15 @@ module _ (input : List ℕ) where
   sample-at : (i : ℕ) → i < n → getD (sourceOf input (trailerOf input)) i 0 ≡ leAt 2 input (trailerOf input .samples + 2 * i)
   sample-at i h = fill-at _ n (replicate n 0) i 0 h (omega (arith, h, length-replicate {A = ℕ} n 0))
 
-  -- planes of the picture's size, and whole tables
-  no-five : ¬ (BadPlane (stillOf (trailerOf input)) (length (sourceOf input (trailerOf input))) or BadPlane (stillOf (trailerOf input)) (length (blank (stillOf (trailerOf input)) .work)) or BadPlane (stillOf (trailerOf input)) (length (blank (stillOf (trailerOf input)) .residuals)) or BadTables tables)
-  no-five (inl (inl (inl p))) = p source-long
+  -- whole records, planes of the picture's size, and whole tables
+  same-long : (f g : ℕ → ℕ) (m : ℕ) → eqb (length (tabulated f m 0)) (length (tabulated g m 0)) ≡ true
+  same-long f g m =
+      let long : (h : ℕ → ℕ) → length (tabulated h m 0) ≡ m = λ h. length-fill h m (replicate m 0) ∙ length-replicate m 0 in
+      eq-eqb (length (tabulated f m 0)) (length (tabulated g m 0)) (long f ∙ sym (long g))
+
+  no-five : ¬ (Ragged (planIn input (trailerOf input)) or BadPlane (stillOf (trailerOf input)) (length (sourceOf input (trailerOf input))) or BadPlane (stillOf (trailerOf input)) (length (blank (stillOf (trailerOf input)) .work)) or BadPlane (stillOf (trailerOf input)) (length (blank (stillOf (trailerOf input)) .residuals)) or BadTables scratchTables)
+  no-five (inl (inl (inl (inl p)))) = p (both-same (both-same (same-long _ _ _) (same-long _ _ _)) (same-long _ _ _))
+  no-five (inl (inl (inl (inr p)))) = p source-long
   no-five (inl (inl (inr p))) = p (length-replicate n 0)
   no-five (inl (inr p)) = p (length-replicate n _)
   no-five (inr (inl (inl p))) = omega (arith, p)
@@ -128,14 +135,14 @@ module _ (input : List ℕ) where
       (row-kept
       (λ h. row-same to from
       (blocks-kept (j .still .frame) (j .plan .block) (j .plan .count) 0 {ys = bare ∷ []} (row-kept (row-dropped {k = about 11 0} {P = j .plan .count < 0} (λ p. omega (arith, p)))))
-      (row-dropped {xs = (about 7 0 when Some 0 (λ v. largestOf (j .still) < v) (j .source)) ∷ lastRows (j .still) (j .plan) fresh} no-five h)))
-      (record { first = walk (j .still) (j .plan) fresh tables (j .plan .count) (j .source) (blank (j .still)) .given (stepped j) .0 refl })
+      (row-dropped {xs = (about 7 0 when Some 0 (λ v. largestIn (j .still) < v) (j .source)) ∷ lastRows (j .still) (j .plan) fresh} no-five h)))
+      (record { first = walk (j .still) (j .plan) fresh scratchTables (j .plan .count) (j .source) (blank (j .still)) .given (stepped j) .0 refl })
     where
-      to : Some 0 (λ v. largestOf (stillOf (trailerOf input)) < v) (sourceOf input (trailerOf input)) → BadSample input
-      to p = (p .0, let h : p .0 < n = omega (arith, p .1 .0, source-long) in (h, subst (λ (v : ℕ). largestOf (stillOf (trailerOf input)) < v) (sample-at (p .0) h) (p .1 .1)))
+      to : Some 0 (λ v. largestIn (stillOf (trailerOf input)) < v) (sourceOf input (trailerOf input)) → BadSample input
+      to p = (p .0, let h : p .0 < n = omega (arith, p .1 .0, source-long) in (h, subst (λ (v : ℕ). largestIn (stillOf (trailerOf input)) < v) (sample-at (p .0) h) (p .1 .1)))
 
-      from : BadSample input → Some 0 (λ v. largestOf (stillOf (trailerOf input)) < v) (sourceOf input (trailerOf input))
-      from p = (p .0, (omega (arith, p .1 .0, source-long), subst (λ (v : ℕ). largestOf (stillOf (trailerOf input)) < v) (sym (sample-at (p .0) (p .1 .0))) (p .1 .1)))
+      from : BadSample input → Some 0 (λ v. largestIn (stillOf (trailerOf input)) < v) (sourceOf input (trailerOf input))
+      from p = (p .0, (omega (arith, p .1 .0, source-long), subst (λ (v : ℕ). largestIn (stillOf (trailerOf input)) < v) (sym (sample-at (p .0) (p .1 .0))) (p .1 .1)))
 
   -- the verdict on an input
   abbrev given : Verdict

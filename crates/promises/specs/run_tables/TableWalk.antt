@@ -2,7 +2,8 @@
 -- answer is given exactly when it is that of the first row that holds. A plan is any `Plan`: of lent numbers (`planOf`), of records (`listed`) or of bytes
 -- (`recordsOf`). Where the call takes the scratch struct, its tables (`scratchTables`) are never short. Rests on Exact and on what the plan's verdict tells.
 --
---   plan::check_plan, plan::check_plan_numbers       check-plan
+--   plan::check_plan, any plan                       check-plan
+--   plan::check_plan_numbers                         check-plan-numbers
 --   plan::check_plan_bytes                           check-plan-bytes
 --   Progress::walk, Progress::walk_numbers           walk
 --   Progress::replay, Progress::replay_numbers       replay
@@ -24,18 +25,18 @@ use Rattle.plan.specs.declared.tiling.Frame.{Frame}
 use Rattle.plan.specs.declared.tiling.Block.{Block}
 use Rattle.plan.specs.declared.tiling.Verdict.{Verdict}
 use Rattle.plan.specs.tiling.Tiling.{pictureOf, In, Covered, Placed, Next}
-use Rattle.plan.specs.tiling.Plan.{Plan}
+use Rattle.plan.specs.tiling.Plan.{Plan, planOf}
 use Rattle.plan.specs.tiling.Check.{placedOk}
 use Rattle.plan.specs.tiling.PlanCheck.{blocksVerdict, planVerdict}
-use Rattle.plan.specs.RecordPlan.{recordsOf, wholeRecords, bytesVerdict}
+use Rattle.plan.specs.RecordPlan.{recordsOf}
 use Rattle.plan.specs.tiling.Tests.{picture-good, placed-of}
-use Rattle.plan.specs.tiling.Verdict.{Fine, Broken, bad-size, bad-mode, bad-place, bad-order, Told, is-good, bad-picture, bad-block, bad-cover, told, verdict-good, good-verdict}
-use Rattle.walk.specs.declared.still.Still.{Still}
+use Rattle.plan.specs.tiling.Verdict.{Fine, Broken, bad-size, bad-mode, bad-place, bad-order, Told, is-good, bad-picture, not-whole, bad-block, bad-cover, told, verdict-good, good-verdict}
+use Rattle.walk.specs.declared.checks.Still.{Still}
 use Rattle.walk.specs.declared.Progress.{Progress}
 use Rattle.walk.specs.declared.Stepped.{Stepped}
-use Rattle.walk.specs.still.Checks.{largestOf, every, whole, Tables, roomy, settle}
-use Rattle.walk.specs.steps.Steps.{doing}
-use Rattle.walk.specs.walked.Block.{World}
+use Rattle.walk.specs.checks.Checks.{largestIn, every, whole, Tables, roomy, settle}
+use Rattle.walk.specs.calls.Steps.{doing}
+use Rattle.walk.specs.block.Walked.{World}
 use Rattle.walk.specs.calls.Door.{verdictOf, replayVerdict, walkVerdict}
 use Rattle.walk.specs.Door.{steppedBy}
 use Rattle.promises.specs.tables.Exact.{Row, _when_, _or_, First, ExactFirst, FirstBy, Tells, first-exact, first-test, first-row, all-of, at-most, same}
@@ -73,6 +74,10 @@ planRows f l more = blockRows f (l .block) (l .count) 0 ((about 10 0 when Uncove
 -- an entry of a list, one past whose end is d
 abbrev pub Some : {A : Type 0} → A → (A → Type 0) → List A → Type 0
 Some d P l = (i : ℕ) × ((i < length l) × P (getD l i d))
+
+-- number 5: a plan that is lent in parts which make no whole records
+abbrev pub Ragged : Plan → Type 0
+Ragged l = ¬ (l .whole ≡ true)
 
 -- number 5: a plane that is not the picture's size, and the scratch
 abbrev pub BadPlane : Still → ℕ → Type 0
@@ -145,11 +150,15 @@ module _ (f : Frame) (l : Plan) where
   abbrev v : Verdict
   v = blocksVerdict f l
 
+  -- the blocks alone decide of whole records
+  abbrev made : Plan
+  made = record { whole = true; count = l .count; block = l .block }
+
   -- the blocks of a picture that is not refused, and where they are good what follows
   blocks-first : pictureOk (pictureOf f) ≡ true → (last : Verdict) (more : List (Row Verdict)) → First done last more
       → First done (cond (eqb (v .no) 0) last v) (planRows f l more)
   unfolding planVerdict
-  blocks-first ok last more rest = go (rw ok at (told f l))
+  blocks-first ok last more rest = go (rw ok at (told f made))
     where
       after : Verdict → Verdict
       after w = cond (eqb (w .no) 0) last w
@@ -157,24 +166,25 @@ module _ (f : Frame) (l : Plan) where
       at : (w : Verdict) → v ≡ w → First done (after w) (planRows f l more) → First done (after v) (planRows f l more)
       at w q h = subst (λ (u : Verdict). First done (after u) (planRows f l more)) (sym q) h
 
-      go : Told f (l .block) (l .count) v → First done (after v) (planRows f l more)
-      go (is-good q a) =
+      go : Told f made v → First done (after v) (planRows f l more)
+      go (is-good q w a) =
           at done q
           (passes f (l .block) (l .count) 0 last _ (λ i h. (a .plan-good .placed i (omega arith), (a .modes i (omega arith), a .plan-good .next i (omega arith))))
           (inr (λ u. u .1 .1 .1 (a .plan-good .all (u .0) (u .1 .0) (u .1 .1 .0)), rest)))
       go (bad-picture q a) = absurd (a (picture-good f ok))
-      go (bad-block n k q g r) =
+      go (not-whole q g w) = absurd (true≢false w)
+      go (bad-block n k q g w r) =
           at (about n k) q
           (subst (λ (w : Verdict). First done w (planRows f l more)) (if-no (eqb n 0) last (about n k) (about n k) (not-zero f (l .block) (r .broken)) refl)
           (stops f (l .block) (l .count) 0 k n _ (omega arith) (omega (arith, r .listed)) (r .before) (r .broken)))
-      go (bad-cover q g a) =
+      go (bad-cover q g w a) =
           at (about 10 0) q
           (passes f (l .block) (l .count) 0 (about 10 0) _ (λ i h. a .before i (omega arith)) (inl ((a .row, (a .col, (a .inside, a .bare))), refl)))
 
   -- a verdict of number 0 names no block
   zero-done : pictureOk (pictureOf f) ≡ true → v .no ≡ 0 → v ≡ done
   unfolding planVerdict
-  zero-done ok e = rw ok at (good-verdict f l (verdict-good f l (rw ok e)))
+  zero-done ok e = rw ok at (good-verdict f made refl (verdict-good f made (rw ok e) .1))
 
   -- the blocks, and nothing after them
   blocks-alone : pictureOk (pictureOf f) ≡ true → First done v (planRows f l [])
@@ -184,26 +194,35 @@ module _ (f : Frame) (l : Plan) where
       go true e = sym (zero-done ok (eqb-true (v .no) 0 e))
       go false e = refl
 
--- the plan check, and the same on bytes, which are to be whole records
-pub check-plan : (f : Frame) (l : Plan) → ExactFirst done (planVerdict f l) ((about 4 0 when BadPicture (pictureOf f)) ∷ planRows f l [])
+-- whole records or not
+ragged : (l : Plan) → Tells (l .whole) (Ragged l)
+ragged l = record { passed = λ e h. h e; failed = λ e h. true≢false (sym h ∙ e) }
+
+-- the plan check; P says that what was lent is not whole records
+check-by : (f : Frame) (l : Plan) {P : Type 0} → Tells (l .whole) P
+    → ExactFirst done (planVerdict f l) ((about 4 0 when BadPicture (pictureOf f)) ∷ (about 5 0 when P) ∷ planRows f l [])
 unfolding planVerdict
-check-plan f l =
+check-by f l {P} t =
     first-exact done (planVerdict f l) _
-    (first-test done (λ (b : Bool). cond b (blocksVerdict f l) (about 4 0)) (planRows f l []) (picture (pictureOf f)) (blocks-alone f l))
+    (first-test done (λ (b : Bool). cond b (cond (l .whole) (blocksVerdict f l) (about 5 0)) (about 4 0)) ((about 5 0 when P) ∷ planRows f l []) (picture (pictureOf f))
+    (λ ok. first-test done (λ (b : Bool). cond b (blocksVerdict f l) (about 5 0)) (planRows f l []) t (λ e. blocks-alone f l ok)))
+
+pub check-plan : (f : Frame) (l : Plan) → ExactFirst done (planVerdict f l) ((about 4 0 when BadPicture (pictureOf f)) ∷ (about 5 0 when Ragged l) ∷ planRows f l [])
+check-plan f l = check-by f l (ragged l)
+
+-- of numbers: slices of different lengths; of bytes: no multiple of six
+pub check-plan-numbers : (f : Frame) (rows cols sides modes : List ℕ)
+    → let n = length rows in
+    ExactFirst done (planVerdict f (planOf rows cols sides modes))
+    ((about 4 0 when BadPicture (pictureOf f)) ∷ (about 5 0 when (¬ (length cols ≡ n)) or (¬ (length sides ≡ n)) or (¬ (length modes ≡ n)))
+    ∷ planRows f (planOf rows cols sides modes) [])
+check-plan-numbers f rows cols sides modes =
+    let n = length rows in
+    check-by f (planOf rows cols sides modes) (all-of (all-of (same (length cols) n) (same (length sides) n)) (same (length modes) n))
 
 pub check-plan-bytes : (f : Frame) (b : List ℕ)
-    → ExactFirst done (bytesVerdict f b) ((about 4 0 when BadPicture (pictureOf f)) ∷ (about 5 0 when ¬ (length b % 6 ≡ 0)) ∷ planRows f (recordsOf b) [])
-unfolding bytesVerdict
-check-plan-bytes f b =
-    first-exact done (bytesVerdict f b) _
-    (first-test done (λ (t : Bool). cond t (cond (wholeRecords b) v (about 5 0)) (about 4 0)) ((about 5 0 when ¬ (length b % 6 ≡ 0)) ∷ rows) (picture (pictureOf f))
-    (λ ok. first-test done (λ (t : Bool). cond t v (about 5 0)) rows (same (length b % 6) 0) (λ e. blocks-alone f (recordsOf b) ok)))
-  where
-    v : Verdict
-    v = blocksVerdict f (recordsOf b)
-
-    rows : List (Row Verdict)
-    rows = planRows f (recordsOf b) []
+    → ExactFirst done (planVerdict f (recordsOf b)) ((about 4 0 when BadPicture (pictureOf f)) ∷ (about 5 0 when ¬ (length b % 6 ≡ 0)) ∷ planRows f (recordsOf b) [])
+check-plan-bytes f b = check-by f (recordsOf b) (same (length b % 6) 0)
 
 -- a test of every entry
 pub every-one : {A : Type 0} (d : A) {test : A → Bool} {P : A → Type 0} → ((x : A) → Tells (test x) (P x)) → (l : List A) → Tells (every test l) (Some d P l)
@@ -285,21 +304,21 @@ module _ (s : Still) (plan : Plan) (p : Progress) where
   pub walk : (t : Tables) (grant : ℕ) (source : List ℕ) (w : World)
       → ExactFirst done (verdictIn (steppedBy (walkVerdict s plan t (p .done) source w) plan p grant))
       ((about 1 0 when ¬ Depth (s .bits)) ∷ (about 4 0 when BadPicture (pictureOf (s .frame)))
-      ∷ (about 5 0 when BadPlane s (length source) or BadPlane s (length (w .work)) or BadPlane s (length (w .residuals)) or BadTables t)
-      ∷ (about 7 0 when Some 0 (λ v. largestOf s < v) source)
+      ∷ (about 5 0 when Ragged plan or BadPlane s (length source) or BadPlane s (length (w .work)) or BadPlane s (length (w .residuals)) or BadTables t)
+      ∷ (about 7 0 when Some 0 (λ v. largestIn s < v) source)
       ∷ lastRows)
   unfolding walkVerdict
   walk t grant source w =
       answer-exact _ grant _
       (first-row (depth (s .bits))
       (λ e. first-row (picture (pictureOf (s .frame)))
-      (λ ok. first-row (all-of (all-of (all-of (whole-plane (length source)) (whole-plane (length (w .work)))) (whole-plane (length (w .residuals)))) (tables t))
-      (λ e. first-row (every-one 0 (λ v. at-most v (largestOf s)) source) (λ e. last-first ok)))))
+      (λ ok. first-row (all-of (all-of (all-of (all-of (ragged plan) (whole-plane (length source))) (whole-plane (length (w .work)))) (whole-plane (length (w .residuals)))) (tables t))
+      (λ e. first-row (every-one 0 (λ v. at-most v (largestIn s)) source) (λ e. last-first ok)))))
 
   pub replay : (t : Tables) (grant : ℕ) (residuals : List ℤ) (plane : List ℕ)
       → ExactFirst done (verdictIn (steppedBy (replayVerdict s plan t (p .done) (length plane) residuals) plan p grant))
       ((about 1 0 when ¬ Depth (s .bits)) ∷ (about 4 0 when BadPicture (pictureOf (s .frame)))
-      ∷ (about 5 0 when BadPlane s (length plane) or BadPlane s (length residuals) or BadTables t)
+      ∷ (about 5 0 when Ragged plan or BadPlane s (length plane) or BadPlane s (length residuals) or BadTables t)
       ∷ (about 8 0 when Some (pos 0) (λ r. 65535 < natAbs r) residuals)
       ∷ lastRows)
   unfolding replayVerdict
@@ -307,5 +326,5 @@ module _ (s : Still) (plan : Plan) (p : Progress) where
       answer-exact _ grant _
       (first-row (depth (s .bits))
       (λ e. first-row (picture (pictureOf (s .frame)))
-      (λ ok. first-row (all-of (all-of (whole-plane (length plane)) (whole-plane (length residuals))) (tables t))
+      (λ ok. first-row (all-of (all-of (all-of (ragged plan) (whole-plane (length plane))) (whole-plane (length residuals))) (tables t))
       (λ e. first-row (every-one (pos 0) (λ r. at-most (natAbs r) 65535) residuals) (λ e. last-first ok)))))

@@ -16,18 +16,18 @@ use Rattle.order.specs.declared.LumaNeighbour.{LumaNeighbour}
 use Rattle.order.specs.declared.LumaBlock.{LumaBlock}
 use Rattle.order.specs.declared.ChromaBlock.{ChromaBlock}
 use Rattle.order.specs.declared.Reach.{Reach}
-use Rattle.order.specs.Order.{orderDoor, availDoor}
+use Rattle.order.specs.Order.{decodeOrder, isAvailable}
 use Rattle.order.specs.Reach.{noReach, lumaReachNo, lumaReach, chromaReachNo, chromaReach}
 use Rattle.domain.specs.declared.rows.Rows.{Rows}
 use Rattle.domain.specs.rows.Neighbours.{zeroRows}
 use Rattle.refs.specs.declared.substitution.Flags.{Flags}
 use Rattle.refs.specs.declared.LumaRefGeometry.{LumaRefGeometry}
 use Rattle.refs.specs.declared.ChromaRefGeometry.{ChromaRefGeometry}
-use Rattle.refs.specs.substitution.Door.{substituteDoor}
-use Rattle.refs.specs.Door.{lumaDoor, chromaDoor}
-use Rattle.camera.specs.byte_refs.Door.{lumaBytesDoor}
+use Rattle.refs.specs.substitution.Door.{substituteRefs}
+use Rattle.refs.specs.Door.{getReferenceSamples, getReferenceSamplesChromaPair}
+use Rattle.camera.specs.gather.Door.{lumaBytesDoor}
 use Rattle.smooth.specs.Smoothing as smoothing
-use Rattle.smooth.specs.Smoothing.{ruleDoor, filterDoor}
+use Rattle.smooth.specs.Smoothing.{shouldFilterRefs, filterReferences}
 use Rattle.residual.specs.Residual.{residualNo, reconstructNo, residualsAfter, reconstructed}
 use Rattle.promises.specs.tables.Exact.{number-in}
 
@@ -37,12 +37,12 @@ kept k work given h = sym (unserved k work given h)
 
 -- order
 module _ (p : Picture) (row : LumaRow) (col : LumaCol) where
-  pub decode-order : ¬ (orderDoor p row col .no ≡ 0) → orderDoor p row col .value ≡ 0
-  unfolding orderDoor
+  pub decode-order : ¬ (decodeOrder p row col .no ≡ 0) → decodeOrder p row col .value ≡ 0
+  unfolding decodeOrder
   decode-order h = kept _ _ 0 h
 
-  pub is-available : (nb : LumaNeighbour) → ¬ (availDoor p nb row col .no ≡ 0) → availDoor p nb row col .yes ≡ false
-  unfolding availDoor
+  pub is-available : (nb : LumaNeighbour) → ¬ (isAvailable p nb row col .no ≡ 0) → isAvailable p nb row col .yes ≡ false
+  unfolding isAvailable
   is-available nb h = kept _ _ false h
 
 abbrev NoReach : Reach → Type 0
@@ -62,16 +62,16 @@ unfolding chromaReach
 chroma-reach b = no-reach (chromaReachNo b) _ refl
 
 -- refs
-pub substitute-refs : (rows : Rows) (flags : Flags) (n bits : ℕ) → ¬ (substituteDoor rows flags n bits .no ≡ 0) → substituteDoor rows flags n bits .rows ≡ zeroRows
-unfolding substituteDoor
+pub substitute-refs : (rows : Rows) (flags : Flags) (n bits : ℕ) → ¬ (substituteRefs rows flags n bits .no ≡ 0) → substituteRefs rows flags n bits .rows ≡ zeroRows
+unfolding substituteRefs
 substitute-refs rows flags n bits h = kept _ _ zeroRows h
 
-pub luma-gather : (plane : List ℕ) (g : LumaRefGeometry) → ¬ (lumaDoor plane g .no ≡ 0) → lumaDoor plane g .rows ≡ zeroRows
-unfolding lumaDoor
+pub luma-gather : (plane : List ℕ) (g : LumaRefGeometry) → ¬ (getReferenceSamples plane g .no ≡ 0) → getReferenceSamples plane g .rows ≡ zeroRows
+unfolding getReferenceSamples
 luma-gather plane g h = kept _ _ zeroRows h
 
-pub chroma-gather : (cb cr : List ℕ) (g : ChromaRefGeometry) → ¬ (chromaDoor cb cr g .no ≡ 0) → chromaDoor cb cr g .planes ≡ zeroRows ∷ zeroRows ∷ []
-unfolding chromaDoor
+pub chroma-gather : (cb cr : List ℕ) (g : ChromaRefGeometry) → ¬ (getReferenceSamplesChromaPair cb cr g .no ≡ 0) → getReferenceSamplesChromaPair cb cr g .planes ≡ zeroRows ∷ zeroRows ∷ []
+unfolding getReferenceSamplesChromaPair
 chroma-gather cb cr g h = kept _ _ (zeroRows ∷ zeroRows ∷ []) h
 
 pub luma-gather-bytes : (b : List ℕ) (g : LumaRefGeometry) → ¬ (lumaBytesDoor b g .no ≡ 0) → lumaBytesDoor b g .rows ≡ zeroRows
@@ -79,21 +79,21 @@ unfolding lumaBytesDoor
 luma-gather-bytes b g h = kept _ _ zeroRows h
 
 -- smooth
-pub should-filter-refs : (mode n : ℕ) → ¬ (ruleDoor mode n .no ≡ 0) → ruleDoor mode n .yes ≡ false
-unfolding ruleDoor
+pub should-filter-refs : (mode n : ℕ) → ¬ (shouldFilterRefs mode n .no ≡ 0) → shouldFilterRefs mode n .yes ≡ false
+unfolding shouldFilterRefs
 should-filter-refs mode n h = kept _ _ false h
 
 module _ (corner : ℕ) (above left : List ℕ) (n : ℕ) where
-  pub filter-references : ¬ (filterDoor corner above left n .no ≡ 0) → (filterDoor corner above left n .above ≡ replicate 65 0) × (filterDoor corner above left n .left ≡ replicate 65 0)
-  unfolding filterDoor
+  pub filter-references : ¬ (filterReferences corner above left n .no ≡ 0) → (filterReferences corner above left n .above ≡ replicate 65 0) × (filterReferences corner above left n .left ≡ replicate 65 0)
+  unfolding filterReferences
   filter-references h =
       let e = kept _ (smoothing.smoothed false 0 n corner above left) zeroRows h in (
         ap (λ (r : Rows). r .above) e,
         ap (λ (r : Rows). r .left) e,
       )
 
-  pub filter-luma-refs : (bits : ℕ) → ¬ (smoothing.lumaDoor true corner above left n bits .no ≡ 0) → smoothing.lumaDoor true corner above left n bits .rows ≡ zeroRows
-  unfolding smoothing.lumaDoor
+  pub filter-luma-refs : (bits : ℕ) → ¬ (smoothing.filterLumaRefs true corner above left n bits .no ≡ 0) → smoothing.filterLumaRefs true corner above left n bits .rows ≡ zeroRows
+  unfolding smoothing.filterLumaRefs
   filter-luma-refs bits h = kept _ _ zeroRows h
 
 -- residual

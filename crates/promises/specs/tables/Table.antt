@@ -9,12 +9,12 @@
 --   order::chroma_reach                   chroma-reach            angular::predict_angular_slices        predict-angular
 --   substitution::substitute_refs         substitute-refs         predict::predict_chroma_tb_slices      predict-chroma
 --   refs::get_reference_samples           luma-gather             predict::predict_luma_tb_slices        predict-luma
---   byte_refs::get_reference_samples      luma-gather-bytes       scratch_angular::.._into, _fresh       predict-angular-scratch
+--   gather::get_reference_samples         luma-gather-bytes       scratch_angular::.._into, _fresh       predict-angular-scratch
 --   refs::.._chroma_pair                  chroma-gather           scratch_predict::.._chroma_tb_..       predict-chroma-scratch
 --   residual::compute_residual_i32_into   compute-residual        scratch_predict::.._luma_tb_..         predict-luma-scratch
 --   residual::reconstruct_into            reconstruct
 --
--- The plan check, walk and replay, whose numbers carry a block, are in promises/specs/run_tables/TableWalk; the camera's entries and the two of byte_refs that store rows in TableBytes
+-- The plan check, walk and replay, whose numbers carry a block, are in promises/specs/run_tables/TableWalk; the camera's entries and the two of gather that store rows in TableBytes
 -- there; what a refused call gives back is in Refused.
 use mathlib.Core.Path.{_≡_, refl, ap, subst}
 use mathlib.Core.Bool.{Bool, true, false, cond, _&&_, _||_, true≢false, false≢true}
@@ -24,10 +24,9 @@ use Prim.Native.Nat.{ℕ, zero, suc, _+_, _*_, _/_, _%_, _<_, _≤_}
 use native.Mathlib.Nat.{not-suc-le-zero, eq-or-lt-of-le, le-of-suc-le-suc}
 use native.Mathlib.Omega.{arith}
 use lib.Dec.{leb, eqb}
-use lib.IntN.{ℤ, pos, negsuc, natAbs}
+use lib.IntN.{ℤ, pos, natAbs}
 use lib.ListN.{length, getD}
 use borrow.Author.Tests.{le-leb, eq-eqb, ne-eqb, leb-true, leb-false}
-use Rattle.laws.specs.Choose.{both-true}
 use Rattle.domain.specs.Domain.{depthOk, sizeOk, sideOk, ctuOk, unitOk}
 use Rattle.domain.specs.Facts.{Depth, Size, Side, Ctu, Unit, depth-of, size-of, side-of, ctu-of, unit-of, at-depth, at-size, size-small}
 use Rattle.fmt.specs.declared.depth.BitDepth.the-variants.{Eight, Ten, Twelve}
@@ -45,20 +44,20 @@ use Rattle.order.specs.declared.LumaNeighbour.{LumaNeighbour}
 use Rattle.order.specs.declared.LumaBlock.{LumaBlock}
 use Rattle.order.specs.declared.ChromaBlock.{ChromaBlock}
 use Rattle.order.specs.declared.Reach.{Reach}
-use Rattle.order.specs.Order.{pictureOk, placeOk, orderNo, orderDoor, availDoor}
+use Rattle.order.specs.Order.{pictureOk, placeOk, orderNo, decodeOrder, isAvailable}
 use Rattle.order.specs.Reach.{inPlane, lumaPlaceOk, lumaReachNo, lumaReach, chromaHeight, chromaWidth, colour, chromaPlaceOk, chromaReachNo, chromaReach}
 use Rattle.domain.specs.declared.rows.Rows.{Rows}
 use Rattle.refs.specs.declared.substitution.Flags.{Flags}
 use Rattle.refs.specs.declared.LumaRefGeometry.{LumaRefGeometry}
 use Rattle.refs.specs.declared.ChromaRefGeometry.{ChromaRefGeometry}
-use Rattle.refs.specs.substitution.Door.{substituteNo, substituteDoor}
-use Rattle.refs.specs.Door.{lumaBlock, lumaNumber, lumaLength, lumaNo, lumaDoor, formatOf, chromaPicture, chromaBlock, chromaLength, chromaNumber, chromaNo, chromaDoor}
-use Rattle.camera.specs.byte_refs.Door.{lumaBytesNo, lumaBytesDoor}
+use Rattle.refs.specs.substitution.Door.{substituteNo, substituteRefs}
+use Rattle.refs.specs.Door.{lumaBlock, lumaNumber, lumaLength, lumaNo, getReferenceSamples, formatOf, chromaPicture, chromaBlock, chromaLength, chromaNumber, chromaNo, getReferenceSamplesChromaPair}
+use Rattle.camera.specs.gather.Door.{lumaBytesNo, lumaBytesDoor}
 use Rattle.smooth.specs.Smoothing as smoothing
-use Rattle.smooth.specs.Smoothing.{ruleDoor, filterNo, filterDoor}
-use Rattle.samples.specs.numbers.Numbers.{flatNo, Lent, enough, angularNo, predictNo}
-use Rattle.predict.specs.scratch.Lent.{withScratch}
-use Rattle.samples.specs.deltas.Deltas.{inRange}
+use Rattle.smooth.specs.Smoothing.{shouldFilterRefs, filterNo, filterReferences}
+use Rattle.predict.specs.refusals.Refusals.{flatNo, Lent, lengths, enough, angularNo, predictNo}
+use Rattle.predict.specs.Lent.{withScratch}
+use Rattle.samples.specs.deltas.Deltas.{residualOk}
 use Rattle.residual.specs.Residual.{allInRange, residualNo, reconstructNo}
 use Rattle.promises.specs.tables.Exact.{Row, _when_, _or_, Exact, Tells, exact-none, exact-row, exact-answer, all-of, and-more, at-most, less, same, fact}
 
@@ -152,12 +151,12 @@ format-from idc = (λ e. go (leb idc 3) refl e, λ h. unknown (λ k l e. omega (
 
 -- order
 module _ (p : Picture) (row : LumaRow) (col : LumaCol) where
-  pub decode-order : Exact (orderDoor p row col .no) ((4 when BadPicture p) ∷ (6 when Outside p (row .0) (col .0)) ∷ [])
-  unfolding orderDoor orderNo
+  pub decode-order : Exact (decodeOrder p row col .no) ((4 when BadPicture p) ∷ (6 when Outside p (row .0) (col .0)) ∷ [])
+  unfolding decodeOrder orderNo
   decode-order = exact-row (picture p) refl (λ e. exact-row (outside p (row .0) (col .0)) refl (λ e. exact-none))
 
-  pub is-available : (nb : LumaNeighbour) → Exact (availDoor p nb row col .no) ((4 when BadPicture p) ∷ (6 when Outside p (row .0) (col .0)) ∷ [])
-  unfolding availDoor orderDoor
+  pub is-available : (nb : LumaNeighbour) → Exact (isAvailable p nb row col .no) ((4 when BadPicture p) ∷ (6 when Outside p (row .0) (col .0)) ∷ [])
+  unfolding isAvailable decodeOrder
   is-available nb = decode-order
 
 -- blocks of the two kinds
@@ -194,8 +193,8 @@ chroma-reach b =
     (λ e. exact-row (chroma-place b (at-most (b .n) (b .picture .ctu / subWidth (b .format)))) refl (λ e. exact-none))))
 
 -- refs
-pub substitute-refs : (rows : Rows) (flags : Flags) (n bits : ℕ) → Exact (substituteDoor rows flags n bits .no) ((1 when ¬ Depth bits) ∷ (2 when ¬ Size n) ∷ [])
-unfolding substituteDoor substituteNo
+pub substitute-refs : (rows : Rows) (flags : Flags) (n bits : ℕ) → Exact (substituteRefs rows flags n bits .no) ((1 when ¬ Depth bits) ∷ (2 when ¬ Size n) ∷ [])
+unfolding substituteRefs substituteNo
 substitute-refs rows flags n bits = exact-row (depth bits) refl (λ e. exact-row (size n) refl (λ e. exact-none))
 
 -- the rows of a luma gather, where P says that the plane is not whole
@@ -209,8 +208,8 @@ luma-number t g =
     (λ e. exact-row (size (g .n)) refl
     (λ e. exact-row (picture (g .picture)) refl (λ e. exact-row t refl (λ e. exact-row (luma-place (lumaBlock g)) refl (λ e. exact-none)))))
 
-pub luma-gather : (plane : List ℕ) (g : LumaRefGeometry) → Exact (lumaDoor plane g .no) (lumaTable (¬ (length plane ≡ lumaLength g)) g)
-unfolding lumaDoor lumaNo
+pub luma-gather : (plane : List ℕ) (g : LumaRefGeometry) → Exact (getReferenceSamples plane g .no) (lumaTable (¬ (length plane ≡ lumaLength g)) g)
+unfolding getReferenceSamples lumaNo
 luma-gather plane g = luma-number (same (length plane) (lumaLength g)) g
 
 pub luma-gather-bytes : (b : List ℕ) (g : LumaRefGeometry) → Exact (lumaBytesDoor b g .no) (lumaTable (¬ (length b ≡ 2 * lumaLength g)) g)
@@ -242,26 +241,26 @@ chroma-number t g =
     (λ e. exact-row (chroma-place (chromaBlock g) (in-64 (g .n) (formatOf (g .format)) (size-of (g .n) s))) refl (λ e. exact-none)))))
 
 pub chroma-gather : (cb cr : List ℕ) (g : ChromaRefGeometry)
-    → Exact (chromaDoor cb cr g .no) (chromaTable ((¬ (length cb ≡ chromaLength g)) or (¬ (length cr ≡ chromaLength g))) g)
-unfolding chromaDoor chromaNo
+    → Exact (getReferenceSamplesChromaPair cb cr g .no) (chromaTable ((¬ (length cb ≡ chromaLength g)) or (¬ (length cr ≡ chromaLength g))) g)
+unfolding getReferenceSamplesChromaPair chromaNo
 chroma-gather cb cr g = chroma-number (all-of (same (length cb) (chromaLength g)) (same (length cr) (chromaLength g))) g
 
 -- smooth
-pub should-filter-refs : (mode n : ℕ) → Exact (ruleDoor mode n .no) ((2 when ¬ Size n) ∷ (3 when 34 < mode) ∷ [])
-unfolding ruleDoor
+pub should-filter-refs : (mode n : ℕ) → Exact (shouldFilterRefs mode n .no) ((2 when ¬ Size n) ∷ (3 when 34 < mode) ∷ [])
+unfolding shouldFilterRefs
 should-filter-refs mode n = exact-row (size n) refl (λ e. exact-row (at-most mode 34) refl (λ e. exact-none))
 
 module _ (corner : ℕ) (above left : List ℕ) (n : ℕ) where
   rows-number : Exact (filterNo n (length above) (length left)) ((2 when ¬ Size n) ∷ (5 when length above < 65 or length left < 65) ∷ [])
   rows-number = exact-row (size n) refl (λ e. exact-row (all-of (at-most 65 (length above)) (at-most 65 (length left))) refl (λ e. exact-none))
 
-  pub filter-references : Exact (filterDoor corner above left n .no) ((2 when ¬ Size n) ∷ (5 when length above < 65 or length left < 65) ∷ [])
-  unfolding filterDoor
+  pub filter-references : Exact (filterReferences corner above left n .no) ((2 when ¬ Size n) ∷ (5 when length above < 65 or length left < 65) ∷ [])
+  unfolding filterReferences
   filter-references = rows-number
 
   pub filter-luma-refs : (bits : ℕ)
-      → Exact (smoothing.lumaDoor true corner above left n bits .no) ((1 when ¬ Depth bits) ∷ (2 when ¬ Size n) ∷ (5 when length above < 65 or length left < 65) ∷ [])
-  unfolding smoothing.lumaDoor
+      → Exact (smoothing.filterLumaRefs true corner above left n bits .no) ((1 when ¬ Depth bits) ∷ (2 when ¬ Size n) ∷ (5 when length above < 65 or length left < 65) ∷ [])
+  unfolding smoothing.filterLumaRefs
   filter-luma-refs bits = exact-row (depth bits) refl (λ e. rows-number)
 
 -- flat, angular, predict
@@ -301,9 +300,9 @@ module _ (bits n mode : ℕ) where
   predict-chroma l = predict-number l (short l)
 
   pub predict-luma : (pred refs indices fractions : ℕ)
-      → Exact (predictNo bits n mode (record { above = 65; left = 65; pred = pred; refs = refs; indices = indices; fractions = fractions }))
+      → Exact (predictNo bits n mode (lengths 65 65 pred refs indices fractions))
       (predictTable (pred < n * n or refs < 193 or indices < 32 or fractions < 32))
-  predict-luma pred refs indices fractions = predict-number (record { above = 65; left = 65; pred = pred; refs = refs; indices = indices; fractions = fractions }) (scratch (at-most (n * n) pred) refs indices fractions)
+  predict-luma pred refs indices fractions = predict-number (lengths 65 65 pred refs indices fractions) (scratch (at-most (n * n) pred) refs indices fractions)
 
   -- the tables in a struct, or made by the call: they are never short
   pub predict-angular-scratch : (above left pred : ℕ) → Exact (angularNo bits n mode (withScratch above left pred)) (angularTable (above < 65 or left < 65 or pred < n * n))
@@ -325,16 +324,8 @@ pub compute-residual : (n : ℕ) (orig pred : List ℕ) (residual : List ℤ)
 unfolding residualNo
 compute-residual n orig pred residual = exact-row (size n) refl (λ e. exact-row (buffers n (length orig) (length pred) (length residual)) refl (λ e. exact-none))
 
-one-in : (r : ℤ) → Tells (inRange r) (65535 < natAbs r)
-one-in (pos k) = at-most k 65535
-one-in (negsuc k) = record {
-  passed = λ e h. let l = leb-true k 65534 (both-true (leb k 65534) true e .0) in omega arith;
-  failed = λ e. go (leb k 65534) e refl;
-}
-  where
-    go : (b : Bool) → (b && true) ≡ false → leb k 65534 ≡ b → 65535 < suc k
-    go true e q = absurd (true≢false e)
-    go false e q = let l = leb-false k 65534 q in omega arith
+one-in : (r : ℤ) → Tells (residualOk r) (65535 < natAbs r)
+one-in r = at-most (natAbs r) 65535
 
 all-in : (residual : List ℤ) (k : ℕ) → Tells (allInRange residual k) (Beyond residual k)
 unfolding allInRange

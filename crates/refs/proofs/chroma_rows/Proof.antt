@@ -4,26 +4,22 @@ use borrow.Author.Needs.{needs}
 use Rattle.refs.proofs.chroma_rows.Statement.{statement}
 use Rattle.refs.proofs.chroma_rows.Tie as tie
 
-chroma-spot-requires : tie.Need-chroma-spot-requires
-chroma-spot-requires c κs = search needs
-
 neutral-of-requires : tie.Need-neutral-of-requires
 neutral-of-requires c κs = search needs
 
 plane-rows-requires : tie.Need-plane-rows-requires
-plane-rows-requires c κs = let s = c .before .before .before .before in chroma-inside (s .args .plane-cb .now) (s .args .plane-cr .now) (s .args .geo) (s .args .reach) (s .pre .0) (s .pre .1) (c .before .chroma-spot .ensures) .0
+plane-rows-requires c κs = let s = c .before .before .before .before .before in chroma-inside (s .args .plane-cb .now) (s .args .plane-cr .now) (s .args .geo) (s .pre .0) (s .pre .1) .0
 
 plane-rows-requires-2 : tie.Need-plane-rows-requires-2
-plane-rows-requires-2 c κs = let s = c .before .before .before .before .before in chroma-inside (s .args .plane-cb .now) (s .args .plane-cr .now) (s .args .geo) (s .args .reach) (s .pre .0) (s .pre .1) (c .before .before .chroma-spot .ensures) .1
+plane-rows-requires-2 c κs = let s = c .before .before .before .before .before .before in chroma-inside (s .args .plane-cb .now) (s .args .plane-cr .now) (s .args .geo) (s .pre .0) (s .pre .1) .1
 
 returns : tie.Need-returns
-returns c = let s = c .before .before .before .before .before .before in chroma-made (s .args .plane-cb .now) (s .args .plane-cr .now) (s .args .geo) (s .args .reach) (s .pre .0) (s .pre .1) (c .before .before .before .chroma-spot .ensures) (c .before .before .neutral-of .ensures) (c .before .plane-rows .ensures) (c .plane-rows2 .ensures)
+returns c = let s = c .before .before .before .before .before .before .before in chroma-made (s .args .plane-cb .now) (s .args .plane-cr .now) (s .args .geo) (s .pre .0) (s .pre .1) (c .before .before .neutral-of .ensures) (c .before .plane-rows .ensures) (c .plane-rows2 .ensures)
 
 pub chroma-rows-spec : {M : Type 1} → statement M
 chroma-rows-spec =
     tie.close
     (tie.spec
-    chroma-spot-requires
     neutral-of-requires
     plane-rows-requires
     plane-rows-requires-2

@@ -4,18 +4,19 @@ use borrow.Author.Needs.{needs}
 use Rattle.refs.proofs.luma_rows.Statement.{statement}
 use Rattle.refs.proofs.luma_rows.Tie as tie
 
-luma-spot-requires : tie.Need-luma-spot-requires
-luma-spot-requires c κs = search needs
-
 neutral-of-requires : tie.Need-neutral-of-requires
 neutral-of-requires c κs = search needs
 
 plane-rows-requires : tie.Need-plane-rows-requires
-plane-rows-requires c κs = let s = c .before .before .before in luma-inside (s .args .plane .now) (s .args .geo) (s .args .reach) (s .pre .0) (s .pre .1) (c .before .luma-spot .ensures)
+plane-rows-requires c κs = let s = c .before .before .before .before in luma-inside (s .args .plane .now) (s .args .geo) (s .pre .0) (s .pre .1)
 
 returns : tie.Need-returns
-returns c = let s = c .before .before .before .before in luma-made (s .args .plane .now) (s .args .geo) (s .args .reach) (s .pre .0) (s .pre .1) (c .before .before .luma-spot .ensures) (c .before .neutral-of .ensures) (c .plane-rows .ensures)
+returns c = let s = c .before .before .before .before .before in luma-made (s .args .plane .now) (s .args .geo) (s .pre .0) (s .pre .1) (c .before .neutral-of .ensures) (c .plane-rows .ensures)
 
 pub luma-rows-spec : {M : Type 1} → statement M
 luma-rows-spec =
-    tie.close (tie.spec luma-spot-requires neutral-of-requires plane-rows-requires returns)
+    tie.close
+    (tie.spec
+    neutral-of-requires
+    plane-rows-requires
+    returns)

@@ -30,10 +30,10 @@ use Rattle.order.specs.Good.{Good}
 use Rattle.order.specs.order_laws.Laws.{standard-agrees, own-cell-apart, before-up, before-left}
 use Rattle.order.specs.Reach.{lumaPlaceOk}
 use Rattle.domain.specs.declared.rows.Rows.{Rows}
-use Rattle.domain.specs.rows.Neighbours.{neighboursOf}
+use Rattle.domain.specs.rows.Neighbours.{neighboursOf, levelRows}
 use Rattle.refs.specs.declared.substitution.Flags.{Flags}
 use Rattle.refs.specs.declared.LumaRefGeometry.{LumaRefGeometry}
-use Rattle.refs.specs.substitution.Substitution.{onLine, flagsOn, samplesOn, levelRows, fromLine, substituted}
+use Rattle.refs.specs.substitution.Substitution.{onLine, flagsOn, samplesOn, fromLine, substituted}
 use Rattle.refs.specs.Gather.{flagsBy, samplesBy, gatheredBy, sampleOf}
 use Rattle.refs.specs.substitution.Door.{neutralAt}
 use Rattle.refs.specs.Door.{lumaBlock, lumaNo, lumaRows}

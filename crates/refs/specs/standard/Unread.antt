@@ -21,10 +21,10 @@ same-where true x y h = h refl
 same-where false x y h = refl
 
 -- two samplings agree wherever the rule says that a sample is there
-abbrev pub Agree : (ℤ → ℤ → Bool) → (ℕ → ℕ → ℕ) → (ℕ → ℕ → ℕ) → Type 0
-Agree has s t = (r c : ℕ) → has (pos r) (pos c) ≡ true → s r c ≡ t r c
+abbrev pub AgreeWhere : (ℤ → ℤ → Bool) → (ℕ → ℕ → ℕ) → (ℕ → ℕ → ℕ) → Type 0
+AgreeWhere has s t = (r c : ℕ) → has (pos r) (pos c) ≡ true → s r c ≡ t r c
 
-module _ {has : ℤ → ℤ → Bool} (off : Bounded has) (s t : ℕ → ℕ → ℕ) (agree : Agree has s t) (row col n : ℕ) where
+module _ {has : ℤ → ℤ → Bool} (off : Bounded has) (s t : ℕ → ℕ → ℕ) (agree : AgreeWhere has s t) (row col n : ℕ) where
   same-at : (z w : ℤ) (r c : ℕ) → Near z r → Near w c → cond (has z w) (s r c) 0 ≡ cond (has z w) (t r c) 0
   same-at z w r c p q = same-where (has z w) (s r c) (t r c) (λ e. agree r c (at-place off z w r c p q e))
 
@@ -42,14 +42,14 @@ module _ {has : ℤ → ℤ → Bool} (off : Bounded has) (s t : ℕ → ℕ →
   unread neutral = ap (substituted n neutral (flagsBy has row col n)) same-samples
 
 -- so for luma, and for each plane of chroma
-pub luma-unread : (g : LumaRefGeometry) (p q : List ℕ) → Agree (lumaHas (lumaBlock g)) (sampleOf p (g .picture .width)) (sampleOf q (g .picture .width))
+pub luma-unread : (g : LumaRefGeometry) (p q : List ℕ) → AgreeWhere (lumaHas (lumaBlock g)) (sampleOf p (g .picture .width)) (sampleOf q (g .picture .width))
     → lumaRows p g ≡ lumaRows q g
 unfolding lumaRows
 luma-unread g p q agree =
     unread (luma-off (lumaBlock g)) (sampleOf p (g .picture .width)) (sampleOf q (g .picture .width)) agree (g .«block_row» .0) (g .«block_col» .0) (g .n) (neutralAt (g .bits))
 
 pub chroma-unread : (g : ChromaRefGeometry) (p q : List ℕ)
-    → Agree (chromaHas (chromaBlock g)) (sampleOf p (chromaWidth (chromaBlock g))) (sampleOf q (chromaWidth (chromaBlock g)))
+    → AgreeWhere (chromaHas (chromaBlock g)) (sampleOf p (chromaWidth (chromaBlock g))) (sampleOf q (chromaWidth (chromaBlock g)))
     → chromaRows p g ≡ chromaRows q g
 unfolding chromaRows
 chroma-unread g p q agree =

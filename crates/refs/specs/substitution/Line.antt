@@ -17,7 +17,8 @@ use Rattle.laws.specs.FillLaws.{fill-at, fill-same}
 use Rattle.h265.specs.Substitution.{firstMarked, settled}
 use Rattle.domain.specs.declared.rows.Rows.{Rows}
 use Rattle.refs.specs.declared.substitution.Flags.{Flags}
-use Rattle.refs.specs.substitution.Substitution.{onLine, flagsOn, samplesOn, levelRows, substituted}
+use Rattle.domain.specs.rows.Neighbours.{levelRows}
+use Rattle.refs.specs.substitution.Substitution.{onLine, flagsOn, samplesOn, substituted}
 
 -- the line of two lists and a corner
 abbrev pub lineOf : {A : Type 0} → A → List A → A → List A → ℕ → ℕ → A

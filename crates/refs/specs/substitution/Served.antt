@@ -8,11 +8,7 @@ use Rattle.domain.specs.Domain.{depthOk, sizeOk}
 use Rattle.domain.specs.Facts.{size-of, size-small}
 use Rattle.domain.specs.declared.rows.Rows.{Rows}
 use Rattle.domain.specs.declared.rows.Gathered.{Gathered}
-use Rattle.refs.specs.substitution.Door.{neutralAt, neutralFor, substituteNo}
-
--- the neutral sample of a depth that is one
-pub neutral-for : (bits : ℕ) → depthOk bits ≡ true → neutralFor bits ≡ neutralAt bits
-neutral-for bits h = rw h
+use Rattle.refs.specs.substitution.Door.{substituteNo}
 
 -- substitution that is not refused
 pub substitute-fine : (bits n : ℕ) → substituteNo bits n ≡ 0 → (depthOk bits ≡ true) × (n ≤ 32)

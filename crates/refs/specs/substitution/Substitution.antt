@@ -4,6 +4,7 @@ use Prim.Native.Nat.{ℕ, _+_, _-_, _*_}
 use mathlib.Core.Bool.{Bool, false, cond}
 use lib.Dec.{leb, ltb, eqb}
 use lib.ListN.{getD, replicate}
+use Rattle.domain.specs.rows.Neighbours.{levelRows}
 use Rattle.laws.specs.Fill.{fill}
 use Rattle.h265.specs.Substitution.{firstMarked, settled}
 use Rattle.domain.specs.declared.rows.Rows.{Rows}
@@ -19,10 +20,6 @@ flagsOn f e = onLine (λ i. getD (f .left) i false) (f .corner) (λ i. getD (f .
 
 abbrev pub samplesOn : Rows → ℕ → ℕ → ℕ
 samplesOn r e = onLine (λ i. getD (r .left) i 0) (r .corner) (λ i. getD (r .above) i 0) e
-
--- every entry at one value
-abbrev pub levelRows : ℕ → Rows
-levelRows v = record { corner = v; above = replicate 65 v; left = replicate 65 v }
 
 -- the rows with the line's places in the end; entries past e stay as they came
 abbrev pub fromLine : ℕ → (ℕ → ℕ) → Rows → Rows

@@ -6,20 +6,19 @@ use native.Mathlib.Omega.{arith}
 use lib.ListN.{length}
 use Rattle.plan.specs.tiling.Plan.{planOf}
 use Rattle.plan.specs.tiling.Tiling.{place}
-use Rattle.walk.specs.rebuilt.Places.{place-none, place-more}
+use Rattle.walk.specs.calls.Places.{place-none, place-more}
 use Rattle.report.specs.Told.{lines}
-use Rattle.walk.specs.spans.Laws.{sum-there}
 use Rattle.report.specs.text.Laws.{Laid, said, line-room, lands-at}
 use Rattle.report.specs.Laws.{lines-none, square, among, next-line}
 use Rattle.report.proofs.lay_lines.Statement.{statement}
 use Rattle.report.proofs.lay_lines.Tie as tie
 
 abbrev Inv-loop : tie.InvT-loop
-Inv-loop out₀ plan residuals end₀ at₀ k₀ out end at k =
-    (k ≤ length plan) × ((at ≡ place (planOf plan .block) k) × ((length out ≡ length out₀) × Laid 0 (lines (planOf plan .block) residuals k) out₀ out end (105 * k)))
+Inv-loop out₀ rows cols sides modes residuals end₀ at₀ k₀ out end at k =
+    (k ≤ length rows) × ((at ≡ place (planOf rows cols sides modes .block) k) × ((length out ≡ length out₀) × Laid 0 (lines (planOf rows cols sides modes .block) residuals k) out₀ out end (105 * k)))
 
 abbrev μ-loop : tie.MeasureT-loop
-μ-loop out₀ plan residuals end₀ at₀ k₀ out end at k = length plan - k
+μ-loop out₀ rows cols sides modes residuals end₀ at₀ k₀ out end at k = length rows - k
 
 loop-holds : tie.Need-loop-holds Inv-loop μ-loop
 loop-holds c = (search needs, (place-none _, (search needs, lines-none _ _ _)))
@@ -31,19 +30,27 @@ cast-n : tie.Need-cast-n Inv-loop μ-loop
 cast-n c = search needs
 
 mul-sum-of : tie.Need-mul-sum-of Inv-loop μ-loop
-mul-sum-of c = record { fits = omega (arith, square (planOf (c .before .before .before .before .before .before .args .plan .now)) (c .before .before .before .before .before .before .args .residuals .now) (c .before .before .before .before .before .before .pre .0) (c .before .before .before .before .loop .k) _ _ (c .before .before .before .loop-test .taken) (c .before .before .before .before .loop .inv .1 .0) (c .before .before .block-at .ensures)) }
+mul-sum-of c = record { fits = omega (arith, square (planOf (c .before .before .before .before .before .before .before .before .before .before .args .rows .now) (c .before .before .before .before .before .before .before .before .before .before .args .cols .now) (c .before .before .before .before .before .before .before .before .before .before .args .sides .now) (c .before .before .before .before .before .before .before .before .before .before .args .modes .now)) (c .before .before .before .before .before .before .before .before .before .before .args .residuals .now) (c .before .before .before .before .before .before .before .before .before .before .pre .0) (c .before .before .before .before .loop .k) _ _ (c .before .before .before .loop-test .taken) (c .before .before .before .before .loop .inv .1 .0) (c .before .before .block-at .ensures)) }
 
 sum-of-requires : tie.Need-sum-of-requires Inv-loop μ-loop
-sum-of-requires c κs = search needs
+sum-of-requires c κs =
+    let a = c .before .before .before .before .before .before .before .before .before .before .args in
+    let ok = c .before .before .before .before .before .before .before .before .before .before .pre .0 in
+    let p = planOf (a .rows .now) (a .cols .now) (a .sides .now) (a .modes .now) in
+    let v = a .residuals .now in
+    let l = c .before .before .before .before .loop in
+    let t = c .before .before .before .loop-test .taken in
+    let b = c .before .before .block-at .ensures in
+    (among p v ok (l .k) (l .at) _ t (l .inv .1 .0) b, square p v ok (l .k) (l .at) _ t (l .inv .1 .0) b)
 
 lay-line-requires : tie.Need-lay-line-requires Inv-loop μ-loop
 lay-line-requires c κs = search needs
 
 mul-at : tie.Need-mul-at Inv-loop μ-loop
-mul-at c = record { fits = omega (arith, square (planOf (c .before .before .before .before .before .before .before .before .before .before .args .plan .now)) (c .before .before .before .before .before .before .before .before .before .before .args .residuals .now) (c .before .before .before .before .before .before .before .before .before .before .pre .0) (c .before .before .before .before .before .before .before .before .loop .k) _ _ (c .before .before .before .before .before .before .before .loop-test .taken) (c .before .before .before .before .before .before .before .before .loop .inv .1 .0) (c .before .before .before .before .before .before .block-at .ensures)) }
+mul-at c = record { fits = omega (arith, square (planOf (c .before .before .before .before .before .before .before .before .before .before .before .before .before .before .args .rows .now) (c .before .before .before .before .before .before .before .before .before .before .before .before .before .before .args .cols .now) (c .before .before .before .before .before .before .before .before .before .before .before .before .before .before .args .sides .now) (c .before .before .before .before .before .before .before .before .before .before .before .before .before .before .args .modes .now)) (c .before .before .before .before .before .before .before .before .before .before .before .before .before .before .args .residuals .now) (c .before .before .before .before .before .before .before .before .before .before .before .before .before .before .pre .0) (c .before .before .before .before .before .before .before .before .loop .k) _ _ (c .before .before .before .before .before .before .before .loop-test .taken) (c .before .before .before .before .before .before .before .before .loop .inv .1 .0) (c .before .before .before .before .before .before .block-at .ensures)) }
 
 add-at : tie.Need-add-at Inv-loop μ-loop
-add-at c = record { fits = omega (arith, among (planOf (c .before .before .before .before .before .before .before .before .before .before .args .plan .now)) (c .before .before .before .before .before .before .before .before .before .before .args .residuals .now) (c .before .before .before .before .before .before .before .before .before .before .pre .0) (c .before .before .before .before .before .before .before .before .loop .k) _ _ (c .before .before .before .before .before .before .before .loop-test .taken) (c .before .before .before .before .before .before .before .before .loop .inv .1 .0) (c .before .before .before .before .before .before .block-at .ensures)) }
+add-at c = record { fits = omega (arith, among (planOf (c .before .before .before .before .before .before .before .before .before .before .before .before .before .before .args .rows .now) (c .before .before .before .before .before .before .before .before .before .before .before .before .before .before .args .cols .now) (c .before .before .before .before .before .before .before .before .before .before .before .before .before .before .args .sides .now) (c .before .before .before .before .before .before .before .before .before .before .before .before .before .before .args .modes .now)) (c .before .before .before .before .before .before .before .before .before .before .before .before .before .before .args .residuals .now) (c .before .before .before .before .before .before .before .before .before .before .before .before .before .before .pre .0) (c .before .before .before .before .before .before .before .before .loop .k) _ _ (c .before .before .before .before .before .before .before .loop-test .taken) (c .before .before .before .before .before .before .before .before .loop .inv .1 .0) (c .before .before .before .before .before .before .block-at .ensures)) }
 
 add-k : tie.Need-add-k Inv-loop μ-loop
 add-k c = search needs
@@ -53,14 +60,14 @@ loop-less c = search needs
 
 loop-again : tie.Need-loop-again Inv-loop μ-loop
 loop-again c =
-    let a = c .before .before .before .before .before .before .before .before .before .before .args in
-    let ok = c .before .before .before .before .before .before .before .before .before .before .pre .0 in
-    let p = planOf (a .plan .now) in
+    let a = c .before .before .before .before .before .before .before .before .before .before .before .before .before .before .args in
+    let ok = c .before .before .before .before .before .before .before .before .before .before .before .before .before .before .pre .0 in
+    let p = planOf (a .rows .now) (a .cols .now) (a .sides .now) (a .modes .now) in
     let v = a .residuals .now in
     let l = c .before .before .before .before .before .before .before .before .loop in
     let t = c .before .before .before .before .before .before .before .loop-test .taken in
     let b = c .before .before .before .before .before .before .block-at .ensures in
-    let sum = c .before .before .before .sum-of .ensures ∙ sum-there v _ _ (among p v ok (l .k) (l .at) _ t (l .inv .1 .0) b) (square p v ok (l .k) (l .at) _ t (l .inv .1 .0) b) in
+    let sum = c .before .before .before .sum-of .ensures in
     let this = lands-at (c .before .before .lay-line .ensures) (omega (arith, l .inv .1 .1 .0, l .inv .1 .1 .1 .ends, l .inv .1 .1 .1 .short, ok .few)) (line-room _ _) in
     (search needs, (place-more (p .block) (l .k) (l .at) _ (l .inv .1 .0) b, (search needs, next-line p v ok (l .k) (l .at) _ t (l .inv .1 .0) b (l .inv .1 .1 .1) sum this (omega (arith, ok .few)))))
 
@@ -68,7 +75,7 @@ same-length : tie.Need-same-length Inv-loop μ-loop
 same-length c = search needs
 
 returns : tie.Need-returns Inv-loop μ-loop
-returns c = let e : c .before .loop .k ≡ length (c .before .before .before .args .plan .now) = omega arith in said _ 53760 (c .before .loop .inv .1 .1 .1) (ap (lines _ _) e) (omega (arith, c .before .before .before .pre .0 .few))
+returns c = let e : c .before .loop .k ≡ length (c .before .before .before .before .before .before .before .args .rows .now) = omega arith in said _ 53760 (c .before .loop .inv .1 .1 .1) (ap (lines _ _) e) (omega (arith, c .before .before .before .before .before .before .before .pre .0 .few))
 
 pub lay-lines-spec : {M : Type 1} → statement M
 lay-lines-spec =

@@ -6,6 +6,7 @@ use lib.Dec.{leb}
 use lib.ListN.{length, getD, replicate}
 use Rattle.laws.specs.Fill.{fill}
 use Rattle.laws.specs.Bytes.{leAt}
+use Rattle.plan.specs.tiling.Plan.{Plan, planOf}
 use Rattle.report.specs.declared.file.Trailer.{Trailer}
 
 -- the last 16 bytes, little-endian
@@ -35,16 +36,20 @@ unfoldable pub fileOk : List ℕ → Bool
 fileOk b = leb 16 (length b) && leb (length b) 65536 && regionsOk (trailerOf b) (length b - 16)
 
 -- the list f 0, f 1, .., f (k - 1), whose entries are like z
-abbrev pub listed : {A : Type 0} → (ℕ → A) → ℕ → A → List A
-listed f k z = fill f k (replicate k z)
+abbrev pub tabulated : {A : Type 0} → (ℕ → A) → ℕ → A → List A
+tabulated f k z = fill f k (replicate k z)
 
 -- samples of two bytes
 abbrev pub sourceOf : List ℕ → Trailer → List ℕ
-sourceOf b t = listed (λ i. leAt 2 b (t .samples + 2 * i)) (area t) 0
+sourceOf b t = tabulated (λ i. leAt 2 b (t .samples + 2 * i)) (area t) 0
 
--- block records of six bytes: row and column of two, side and mode of one
-abbrev pub recordAt : List ℕ → ℕ → List ℕ
-recordAt b at = leAt 2 b at ∷ leAt 2 b (at + 2) ∷ getD b (at + 4) 0 ∷ getD b (at + 5) 0 ∷ []
+-- a field of each of n block records of six bytes: of two bytes, or of one
+abbrev pub twosAt : List ℕ → ℕ → ℕ → List ℕ
+twosAt b at n = tabulated (λ k. leAt 2 b (at + 6 * k)) n 0
 
-abbrev pub recordsOf : List ℕ → Trailer → List (List ℕ)
-recordsOf b t = listed (λ k. recordAt b (t .plan + 6 * k)) (t .blocks) (replicate 4 0)
+abbrev pub onesAt : List ℕ → ℕ → ℕ → List ℕ
+onesAt b at n = tabulated (λ k. getD b (at + 6 * k) 0) n 0
+
+-- the plan: row and column of two bytes, side and mode of one
+abbrev pub planIn : List ℕ → Trailer → Plan
+planIn b t = planOf (twosAt b (t .plan) (t .blocks)) (twosAt b (t .plan + 2) (t .blocks)) (onesAt b (t .plan + 4) (t .blocks)) (onesAt b (t .plan + 5) (t .blocks))

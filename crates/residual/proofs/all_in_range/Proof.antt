@@ -26,14 +26,14 @@ mul-i-end c = search needs
 loop-holds : tie.Need-loop-holds Inv-loop μ-loop
 loop-holds c = (search needs, none-in _)
 
-mul-in-range : tie.Need-mul-in-range Inv-loop μ-loop
-mul-in-range c = search needs
+mul-residual-ok : tie.Need-mul-residual-ok Inv-loop μ-loop
+mul-residual-ok c = search needs
 
-shared-slice-copy-out-in-range : tie.Need-shared-slice-copy-out-in-range Inv-loop μ-loop
-shared-slice-copy-out-in-range c = search needs
+shared-slice-copy-out-residual-ok : tie.Need-shared-slice-copy-out-residual-ok Inv-loop μ-loop
+shared-slice-copy-out-residual-ok c = search needs
 
-in-range-requires : tie.Need-in-range-requires Inv-loop μ-loop
-in-range-requires c κs = search needs
+residual-ok-requires : tie.Need-residual-ok-requires Inv-loop μ-loop
+residual-ok-requires c κs = search needs
 
 add-i : tie.Need-add-i Inv-loop μ-loop
 add-i c = search needs
@@ -45,7 +45,7 @@ loop-again : tie.Need-loop-again Inv-loop μ-loop
 loop-again c =
     let l = c .before .before .before .loop in
     let rs = c .before .before .before .before .args .residual .now in
-    let e = rw (held (getD rs (l .i) (pos 0)) (c .before .in-range-arg .given)) at (c .in-range .ensures) in
+    let e = rw (held (getD rs (l .i) (pos 0)) (c .before .residual-ok-arg .given)) at (c .residual-ok .ensures) in
     (search needs, one-more rs (l .i) (l .inv .1) e)
 
 returns : tie.Need-returns Inv-loop μ-loop
@@ -59,9 +59,9 @@ all-in-range-spec =
     μ-loop
     mul-i-end
     loop-holds
-    mul-in-range
-    shared-slice-copy-out-in-range
-    in-range-requires
+    mul-residual-ok
+    shared-slice-copy-out-residual-ok
+    residual-ok-requires
     add-i
     loop-less
     loop-again

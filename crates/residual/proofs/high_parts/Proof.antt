@@ -8,7 +8,7 @@ use borrow.Author.Needs.{needs}
 use lib.ListN.{getD}
 use lib.IntN.{pos}
 use Rattle.laws.specs.Signed.{held}
-use Rattle.samples.specs.deltas.Laws.{narrow-in-range}
+use Rattle.residual.specs.Narrow.{narrow-in-range}
 use Rattle.residual.specs.Residual.{allInRange}
 use Rattle.residual.specs.Laws.{none-in, one-more, both-none}
 use Rattle.residual.proofs.high_parts.Statement.{statement}

@@ -4,7 +4,7 @@ use native.Mathlib.Omega.{arith}
 use borrow.Author.Needs.{needs}
 use lib.ListN.{length}
 use Rattle.laws.specs.Choose.{worked, unserved}
-use Rattle.samples.specs.taps.Laws.{largest-is}
+use Rattle.fmt.specs.depth.Laws.{largest-of-is}
 use Rattle.residual.specs.Residual.{reconstructed}
 use Rattle.residual.specs.Laws.{size-fits, runs-fit, sound}
 use Rattle.residual.proofs.reconstruct_into.Statement.{statement}
@@ -42,7 +42,7 @@ returns-2 c =
     let z = sym (c .before .before .before .before .before .before .before .reconstruct-no .ensures) ∙ c .before .before .before .before .before .before .if1 .left in
     let a = c .before .before .before .before .before .before .before .before .before .before .args in
     let d = sound (a .bits) (a .n) (length (a .pred .now)) (a .residual .now) (length (a .out .now)) z .depth in
-    (sym z, (rw (c .before .before .before .before .before .runs-of .ensures .0, c .before .before .before .before .largest-of .ensures ∙ largest-is (a .bits) d) at (c .before .before .rebuild .ensures)) ∙ worked _ _ _ z)
+    (sym z, (rw (c .before .before .before .before .before .runs-of .ensures .0, c .before .before .before .before .largest-of .ensures ∙ largest-of-is (a .bits) d) at (c .before .before .rebuild .ensures)) ∙ worked _ _ _ z)
 
 pub reconstruct-into-spec : {M : Type 1} → statement M
 reconstruct-into-spec =

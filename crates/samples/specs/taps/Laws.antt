@@ -1,16 +1,12 @@
--- The edge with no number below 0, and what the samples are where a fraction is below 32, a depth is one or a sum is that of 2n samples. Assumes nothing.
+-- The edge with no number below 0, and what the samples are where a fraction is below 32 or a sum is that of 2n samples. Assumes nothing.
 use mathlib.Core.Path.{_≡_, refl, ap, _∙_}
 use mathlib.Core.Logic.{⊎-elim}
-use Prim.Native.Nat.{ℕ, zero, suc, _+_, _-_, _*_, _/_, _%_, _^_, _≤_, _<_, min}
+use Prim.Native.Nat.{ℕ, zero, suc, _+_, _-_, _*_, _/_, _%_, _≤_, _<_, min}
 use native.Mathlib.Omega.{arith}
 use lib.IntN.{pos, subℕ, _-ℤ_}
 use Rattle.laws.specs.Diff.{order, sub-neg, sub-pos, as-sub}
-use Rattle.domain.specs.Facts.{Depth, Size, at-depth, at-size}
-use Rattle.samples.specs.taps.Taps.{largestAt, interpOf, meanOf, edgeOf}
-
--- the largest sample of a depth
-pub largest-is : (bits : ℕ) → Depth bits → largestAt bits ≡ 2 ^ bits - 1
-largest-is bits d = at-depth (λ (k : ℕ). largestAt k ≡ 2 ^ k - 1) refl refl refl bits d
+use Rattle.domain.specs.Facts.{Size, at-size}
+use Rattle.samples.specs.taps.Taps.{interpOf, meanOf, edgeOf}
 
 -- a fraction below 32 is itself by 32
 pub by-fraction : (f x y : ℕ) → f < 32 → interpOf (f % 32) x y ≡ interpOf f x y

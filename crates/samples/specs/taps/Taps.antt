@@ -1,14 +1,10 @@
--- One sample of a prediction over the samples that it mixes, H.265 8.4.4.2.4 to 8.4.4.2.6, and the largest sample of a depth. Assumes nothing.
+-- One sample of a prediction over the samples that it mixes, H.265 8.4.4.2.4 to 8.4.4.2.6. Assumes nothing.
 use Prim.Native.Nat.{ℕ, _+_, _-_, _*_, _/_, _%_, _^_}
 use mathlib.Core.Bool.{cond}
 use lib.IntN.{pos, _+ℤ_, _-ℤ_}
 use lib.Signed.{shrZ}
 use Rattle.h265.specs.Notation.{clipTo}
-use Rattle.domain.specs.Domain.{depthOk, sizeOk}
-
--- the largest sample of a number of bits: 0 where there is no such depth
-abbrev pub largestAt : ℕ → ℕ
-largestAt bits = cond (depthOk bits) (2 ^ bits - 1) 0
+use Rattle.domain.specs.Domain.{sizeOk}
 
 -- 32 - f parts of x and f of y
 unfoldable pub interpOf : ℕ → ℕ → ℕ → ℕ

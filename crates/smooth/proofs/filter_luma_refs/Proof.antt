@@ -3,7 +3,7 @@ use mathlib.Core.Path.{sym, _∙_}
 use borrow.Author.Tests.{ne-eqb}
 use borrow.Author.Needs.{needs}
 use lib.ListN.{length}
-use Rattle.smooth.specs.Smoothing.{lumaDoor}
+use Rattle.smooth.specs.Smoothing.{filterLumaRefs}
 use Rattle.smooth.specs.Steps.{luma-ready}
 use Rattle.smooth.proofs.filter_luma_refs.Statement.{statement}
 use Rattle.smooth.proofs.filter_luma_refs.Tie as tie
@@ -15,16 +15,16 @@ smooth-rows-requires : tie.Need-smooth-rows-requires
 smooth-rows-requires c κs = let a = c .before .before .before .before .args in luma-ready (a .bits) (a .n) (length (a .above .now)) (length (a .left .now)) (sym (c .before .luma-no .ensures) ∙ c .if1 .taken)
 
 returns : tie.Need-returns
-unfolding lumaDoor
+unfolding filterLumaRefs
 returns c = rw (sym (c .before .before .luma-no .ensures) ∙ c .before .if1 .taken, c .smooth-rows .ensures)
 
-zero-rows-requires : tie.Need-zero-rows-requires
-zero-rows-requires c κs = search needs
+level-rows-requires : tie.Need-level-rows-requires
+level-rows-requires c κs = search needs
 
 returns-2 : tie.Need-returns-2
-unfolding lumaDoor
-returns-2 c = rw (← c .before .before .luma-no .ensures, ne-eqb (c .before .before .luma-no .result) 0 (c .before .if1 .left), c .zero-rows .ensures)
+unfolding filterLumaRefs
+returns-2 c = rw (← c .before .before .luma-no .ensures, ne-eqb (c .before .before .luma-no .result) 0 (c .before .if1 .left), c .level-rows .ensures)
 
 pub filter-luma-refs-spec : {M : Type 1} → statement M
 filter-luma-refs-spec =
-    tie.close (tie.spec luma-no-requires smooth-rows-requires returns zero-rows-requires returns-2)
+    tie.close (tie.spec luma-no-requires smooth-rows-requires returns level-rows-requires returns-2)

@@ -3,7 +3,7 @@ use mathlib.Core.Path.{sym, _∙_}
 use borrow.Author.Tests.{ne-eqb}
 use borrow.Author.Needs.{needs}
 use lib.ListN.{length}
-use Rattle.smooth.specs.Smoothing.{filterDoor}
+use Rattle.smooth.specs.Smoothing.{filterReferences}
 use Rattle.smooth.specs.Steps.{ready, filter-served}
 use Rattle.smooth.proofs.filter_references.Statement.{statement}
 use Rattle.smooth.proofs.filter_references.Tie as tie
@@ -23,7 +23,7 @@ returns c =
     filter-served (a .n) (a .corner) (a .above .now) (a .left .now) (sym (c .before .before .before .filter-no .ensures) ∙ c .before .before .if1 .taken) (c .before .weak-row .ensures) (c .weak-row2 .ensures)
 
 returns-2 : tie.Need-returns-2
-unfolding filterDoor
+unfolding filterReferences
 returns-2 c = rw (← c .before .filter-no .ensures, ne-eqb (c .before .filter-no .result) 0 (c .if1 .left))
 
 pub filter-references-spec : {M : Type 1} → statement M

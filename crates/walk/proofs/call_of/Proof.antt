@@ -2,7 +2,7 @@
 use mathlib.Core.Path.{_∙_}
 use native.Mathlib.Omega.{arith}
 use borrow.Author.Needs.{needs}
-use Rattle.walk.specs.steps.Steps.{upto-few}
+use Rattle.walk.specs.calls.Steps.{upto-few}
 use Rattle.walk.specs.Listed.{bare, refused-call, granted-call}
 use Rattle.walk.proofs.call_of.Statement.{statement}
 use Rattle.walk.proofs.call_of.Tie as tie

@@ -3,8 +3,8 @@ use mathlib.Core.Path.{sym, ap, _∙_}
 use borrow.Author.Needs.{needs}
 use Rattle.plan.specs.declared.tiling.Verdict.{Verdict}
 use Rattle.walk.specs.Listed.{bare, callOf}
-use Rattle.walk.specs.still.Checks.{settle}
-use Rattle.walk.specs.still.Laws.{settle-zero}
+use Rattle.walk.specs.checks.Checks.{settle}
+use Rattle.walk.specs.checks.Laws.{settle-zero}
 use Rattle.walk.proofs.replay_call.Statement.{statement}
 use Rattle.walk.proofs.replay_call.Tie as tie
 

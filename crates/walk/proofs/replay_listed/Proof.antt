@@ -52,23 +52,23 @@ use Rattle.laws.specs.Chain.{units}
 use Rattle.plan.specs.declared.tiling.Block.{Block}
 use Rattle.plan.specs.tiling.Tiling.{place}
 use Rattle.plan.specs.tiling.Plan.{noBlock, listed}
+use Rattle.plan.proofs.BlockRecord.{blockVal, blockBytes, block-fits}
 use Rattle.plan.proofs.tiling.Block as T
 use Rattle.plan.proofs.tiling.Block.Laws as T′
 use Rattle.predict.specs.declared.scratch.AngularScratch.{AngularScratch}
 use Rattle.predict.proofs.scratch.AngularScratch as G
 use Rattle.predict.proofs.scratch.Tables.{Long, made, Loan, tableAt, Tokens, Lent, Kept, Holds, lend, regain}
-use Rattle.walk.specs.declared.still.Still.{Still}
-use Rattle.walk.specs.rebuilt.Block.{rebuilt, replayUnit}
-use Rattle.walk.specs.block.Ready.{Ready}
-use Rattle.walk.specs.rebuilt.Ready.{Lies}
-use Rattle.walk.specs.rebuilt.Places.{place-none, place-more}
+use Rattle.walk.specs.declared.checks.Still.{Still}
+use Rattle.walk.specs.block.Rebuilt.{rebuilt, replayUnit}
+use Rattle.walk.specs.block.Ready.{Ready, Lies}
+use Rattle.walk.specs.calls.Places.{place-none, place-more}
 use Rattle.walk.specs.calls.Ready.{Sound, ReplayReady}
 use Rattle.walk.specs.calls.Laws.{lies, ready}
 use Rattle.walk.specs.calls.Turns.{turn-none, turn-more}
-use Rattle.walk.specs.Listed.{scratchTables}
+use Rattle.walk.specs.Lent.{scratchTables}
 use Rattle.walk.proofs.Again.{LentAgain, lends-at, back-at}
-use Rattle.walk.proofs.still.Still as Z
-use Rattle.walk.proofs.still.Still.Laws as Z′
+use Rattle.walk.proofs.checks.Still as Z
+use Rattle.walk.proofs.checks.Still.Laws as Z′
 use Rattle.walk.proofs.replay_turn as stp
 use Rattle.walk.proofs.replay_turn.Symbol as step-def
 use Rattle.walk.proofs.replay_turn.Symbol.{name as #walk·replay-turn}
@@ -103,9 +103,6 @@ scratch-ty = tyRef (named 3) mut (pointee (G.the-row .written))
 
 abbrev Step : {M : Type 1} (𝓤 : URA M) (H : Heap 𝓤) (A : Atoms 𝓤) (mem : Memory → SProp 𝓤) (run : Routine → Fun 𝓤) → Contract 𝓤
 Step 𝓤 H A mem run = tripleOf 𝓤 H A stp.signature (stp.spec 𝓤 H A mem run)
-
-abbrev mB : Block → Val
-mB d = LL.tuple-val T.the-type T′.the-laws (T.the-type .to d)
 
 abbrev mZ : Still → Val
 mZ d = LL.tuple-val Z.the-type Z′.the-laws (Z.the-type .to d)
@@ -166,12 +163,12 @@ module _ {M : Type 1} (𝓤 : URA M) (H : Heap 𝓤) (A : Atoms 𝓤) (W : Given
   args w g d at k δ₂ l = (st, (d, (at, (k, (start, (c, (mk₂ δ₂ w, (tableAt b (o + 0) (l .name₁) (g .refs), (tableAt b (o + 388) (l .name₂) (g .indices), (tableAt b (o + 516) (l .name₃) (g .fractions), tt))))))))))
 
   abbrev to : List ℕ → AngularScratch → Block → ℕ → ℕ → ℕ → GName → Loan → Step 𝓤 H A mem run .Ghost
-  to w g d at k ν₂ δ₂ l = (((κ₁, (ν₂ ∷ [], (l .life₁ ∷ [], (l .life₂ ∷ [], (l .life₃ ∷ [], tt))))), (q₁, (fullShare, (fullShare, (fullShare, (fullShare, tt))))), tt, args w g d at k δ₂ l, (mZ st ∷ [], (mB d ∷ [], (vint w64 at ∷ [], (vint w64 k ∷ [], (vint w32 start ∷ [], (vc ∷ [], (vm₂ ∷ [], (sliceVal (b, o + 0) 193 ∷ [], (sliceVal (b, o + 388) 32 ∷ [], (sliceVal (b, o + 516) 32 ∷ [], tt))))))))))), tt)
+  to w g d at k ν₂ δ₂ l = (((κ₁, (ν₂ ∷ [], (l .life₁ ∷ [], (l .life₂ ∷ [], (l .life₃ ∷ [], tt))))), (q₁, (fullShare, (fullShare, (fullShare, (fullShare, tt))))), tt, args w g d at k δ₂ l, (mZ st ∷ [], (blockVal d ∷ [], (vint w64 at ∷ [], (vint w64 k ∷ [], (vint w32 start ∷ [], (vc ∷ [], (vm₂ ∷ [], (sliceVal (b, o + 0) 193 ∷ [], (sliceVal (b, o + 388) 32 ∷ [], (sliceVal (b, o + 516) 32 ∷ [], tt))))))))))), tt)
 
   abbrev Handed : List ℕ → AngularScratch → ℕ → GName → Loan → List (Item 𝓤)
   Handed w g ν₂ δ₂ l = ‵ (flft κ₁ q₁) ∷ ‵ (flft (ν₂ ∷ []) fullShare) ∷ Tokens 𝓤 H A b o l ∷ Lent 𝓤 H A b o l g ∷ ‵ (ShrSlice (named 0) κ₁ i32 .own c (vc ∷ [])) ∷ ‵ (MutSlice (named 1) (ν₂ ∷ []) u16 .own (mk₂ δ₂ w) (vm₂ ∷ [])) ∷ []
 
-  goes : (w : List ℕ) (g : AngularScratch) (d : Block) (at k : ℕ) (ν₂ : ℕ) (δ₂ : GName) (l : Loan) → Is T.the-row d (mB d ∷ []) → at < 2 ^ 64 → k < 2 ^ 64 → Ready st d (length w) (record { refs = length (g .refs); indices = length (g .indices); fractions = length (g .fractions) }) × Lies d (length src) at
+  goes : (w : List ℕ) (g : AngularScratch) (d : Block) (at k : ℕ) (ν₂ : ℕ) (δ₂ : GName) (l : Loan) → Is T.the-row d (blockVal d ∷ []) → at < 2 ^ 64 → k < 2 ^ 64 → Ready st d (length w) (record { refs = length (g .refs); indices = length (g .indices); fractions = length (g .fractions) }) × Lies d (length src) at
       → ent 𝓤 (⋆ 𝓤 H A (Handed w g ν₂ δ₂ l)) (Step 𝓤 H A mem run .pre (to w g d at k ν₂ δ₂ l))
   goes w g d at k ν₂ δ₂ l is-d at-fits k-fits asks =
       qed W (Handed w g ν₂ δ₂ l) ∵ says ! asks $ move ! (2 ∷ []) $ split ! $ move ! (1 ∷ []) $ split ! $ nothing ! $ move ! (2 ∷ 0 ∷ []) $ join ! $ move ! (1 ∷ 0 ∷ []) $ join ! $ move ! (1 ∷ 0 ∷ []) $ join ! $ move ! (2 ∷ 0 ∷ []) $ join ! $ move ! (1 ∷ 0 ∷ []) $ join ! $ frame ! $ split ! $ move ! (1 ∷ []) $ split ! $ nothing ! $ move ! (2 ∷ 0 ∷ []) $ fjoin ! $ move ! (1 ∷ 0 ∷ []) $ fjoin ! $ move ! (1 ∷ 0 ∷ []) $ fjoin ! $ move ! (2 ∷ 0 ∷ []) $ fjoin ! $ move ! (1 ∷ 0 ∷ []) $ fjoin ! $ owned ! u32 (Is u32) (uint-makes 𝓤 H A W w32) start _ (refl, start-fits) $ fjoin ! $ owned ! usize (Is usize) (uint-makes 𝓤 H A W w64) k _ (refl, k-fits) $ fjoin ! $ owned ! usize (Is usize) (uint-makes 𝓤 H A W w64) at _ (refl, at-fits) $ fjoin ! $ owned ! T.the-row (Is T.the-row) ((LL.makes T.the-type T′.the-plain) 𝓤 H A) d _ is-d $ fjoin ! $ owned ! Z.the-row (Is Z.the-row) ((LL.makes Z.the-type Z′.the-plain) 𝓤 H A) st _ is-st $ fjoin ! $ done !
@@ -208,8 +205,8 @@ module _ {M : Type 1} (𝓤 : URA M) (H : Heap 𝓤) (A : Atoms 𝓤) (W : Given
     inside : h .k < length ys
     inside = omega (arith, under, ok .1)
 
-    scaled : h .k * 16 < 2 ^ 64
-    scaled = omega (arith, g₀ .1, inside)
+    scaled : h .k * blockBytes < 2 ^ 64
+    scaled = block-fits g₀ inside
 
     k-fits : h .k < 2 ^ 64
     k-fits = omega (arith, upto-fits, under)
@@ -262,13 +259,13 @@ module _ {M : Type 1} (𝓤 : URA M) (H : Heap 𝓤) (A : Atoms 𝓤) (W : Given
         (λ less. skips ! $ exec ! C Λ En (after (after mcode.turn-1)) (anyQ (Turned h)) $
         assigns ! (bin ! (load ! (from ! (stop !)) (look ! 24 refl)) (lit ! tt) (record { fits = scaled h less })) (from ! (stop !)) (init ! 20 refl (tt, record { fits = scaled h less })) $
         assigns ! (bin ! (load ! (from ! (fld ! refl (stop !))) (look-in ! 38 (sub ! 0 refl (whole !)))) (load ! (from ! (stop !)) (look ! 20 refl)) tt) (from ! (stop !)) (init ! 18 refl (tt, tt)) $
-        rewrite ! 18 (λ (z : ℕ). ‵ (fat fullShare tyPtr l₁₂ 0 (vptr b₀ z))) (sym (place-is 16 o₀ (h .k))) refl $
+        rewrite ! 18 (λ (z : ℕ). ‵ (fat fullShare tyPtr l₁₂ 0 (vptr b₀ z))) (sym (place-is blockBytes o₀ (h .k))) refl $
         -- block k is copied out
         move ! (44 ∷ 45 ∷ []) $
         looks-slice ! tt T.the-row (Is T.the-row) (shows 𝓤 H A T.the-row) (LL.vals T.the-type T′.the-laws) (LL.tells T.the-type T′.the-laws) ((LL.copy T.the-type T′.the-copy) 𝓤 H A W) ys b₀ o₀ (λ q′.
         elem-out ! T.the-row (Is T.the-row) (shows 𝓤 H A T.the-row) (LL.vals T.the-type T′.the-laws) (LL.tells T.the-type T′.the-laws) q′ ys (h .k) noBlock b₀ o₀ (inside h less) (λ is-d.
         assigns ! (of-opd ! (load ! (from ! (hop ! (look ! 23 refl) (stop !))) (look-raw ! 0 refl))) (from ! (stop !)) (init ! 21 refl (LL.lawful T.the-type T′.the-laws 𝓤 H A W .typed (elem h less) _ is-d .0)) $
-        elem-back ! T.the-row q′ ys (h .k) noBlock (mB (elem h less) ∷ []) b₀ o₀ (inside h less) $ shuts-slice ! tt T.the-row q′ ys b₀ o₀ $
+        elem-back ! T.the-row q′ ys (h .k) noBlock (blockVal (elem h less) ∷ []) b₀ o₀ (inside h less) $ shuts-slice ! tt T.the-row q′ ys b₀ o₀ $
         -- what is lent
         assigns ! (addr ! (from ! (fld ! refl (hop ! (look-in ! 36 (sub ! 0 refl (whole !))) (stop !))))) (from ! (stop !)) (init ! 16 refl (tt, tt)) $ assigns ! (agg ! (and-then ! (load ! (from ! (stop !)) (look ! 16 refl)) (and-then ! (load ! (from ! (fld ! refl (stop !))) (look-in ! 36 (sub ! 1 refl (whole !)))) (no-more !)))) (from ! (stop !)) (init ! 14 refl (tt, (tt, (record { fits = g₂ .0 }, tt)))) $
         assigns ! (addr ! (from ! (hop ! (look ! 34 refl) (fld ! refl (stop !))))) (from ! (stop !)) (init ! 12 refl (tt, tt)) $ assigns ! (agg ! (and-then ! (load ! (from ! (stop !)) (look ! 12 refl)) (and-then ! (lit ! tt) (no-more !)))) (from ! (stop !)) (init ! 10 refl (tt, (tt, (record { fits = lit< tt }, tt)))) $

@@ -1,10 +1,8 @@
 -- `walk::walk_turn` meets its contract: a turn of the loop over block records.
-use mathlib.Core.Path.{refl, sym, _∙_}
+use mathlib.Core.Path.{refl, _∙_}
 use lib.Dec.{leb}
-use lib.ListN.{length}
 use borrow.Author.Tests.{le-leb, lt-leb}
-use Rattle.laws.specs.Choose.{if-yes, if-no, worked}
-use Rattle.walk.specs.coded.Laws.{walk-serves}
+use Rattle.laws.specs.Choose.{if-yes, if-no}
 use borrow.Author.Needs.{needs}
 use Rattle.walk.proofs.walk_turn.Statement.{statement}
 use Rattle.walk.proofs.walk_turn.Tie as tie
@@ -22,7 +20,8 @@ returns : tie.Need-returns
 returns c = let a = c .before .before .before .before .before .before .before .args in (search needs, if-no (leb (a .from) (a .k)) _ _ _ (lt-leb (a .from) (a .k) (c .if1 .taken)) refl)
 
 walk-block-requires : tie.Need-walk-block-requires
-walk-block-requires c κs = search needs
+walk-block-requires c κs =
+    c .before .before .before .before .before .before .before .before .before .before .before .before .pre
 
 same-length : tie.Need-same-length
 same-length c = search needs
@@ -42,10 +41,7 @@ same-length-5 c = search needs
 returns-2 : tie.Need-returns-2
 returns-2 c =
     let a = c .before .before .before .before .before .before .before .before .before .before .before .before .before .before .before .before .before .before .before .before .before .before .args in
-    let h = c .before .before .before .before .before .before .before .before .before .before .before .before .before .before .before .before .before .before .before .before .before .before .pre in
-    let e = c .before .before .before .before .before .before .before .before .before .walk-block .ensures in
-    let z = walk-serves (a .s) (a .b) (length (a .work .now)) (record { refs = length (a .refs .now); indices = length (a .indices .now); fractions = length (a .fractions .now) }) (h .0) (a .at) (length (a .residuals .now)) (length (a .source .now)) _ (h .1 .1) (h .1 .0) (e .0) in
-    (search needs, e .1 .0 ∙ sym (worked _ _ _ z) ∙ if-yes (leb (a .from) (a .k)) _ _ _ (le-leb (a .from) (a .k) (c .before .before .before .before .before .before .before .before .before .before .before .before .before .before .before .if1 .left)) refl)
+    (search needs, c .before .before .before .before .before .before .before .before .before .walk-block .ensures ∙ if-yes (leb (a .from) (a .k)) _ _ _ (le-leb (a .from) (a .k) (c .before .before .before .before .before .before .before .before .before .before .before .before .before .before .before .if1 .left)) refl)
 
 pub walk-turn-spec : {M : Type 1} → statement M
 walk-turn-spec =

@@ -19,8 +19,8 @@ use Rattle.predict.specs.modes.Modes.{pred-alone}
 use Rattle.plan.specs.declared.tiling.Block.{Block}
 use Rattle.plan.specs.tiling.Tiling.{pictureOf, Placed}
 use Rattle.plan.specs.tiling.Tests.{good-picture}
-use Rattle.walk.specs.declared.still.Still.{Still}
-use Rattle.walk.specs.block.Block.{predictedAt}
+use Rattle.walk.specs.declared.checks.Still.{Still}
+use Rattle.walk.specs.block.Predicted.{predictedAt}
 
 -- a block as the gather sees it
 abbrev pub geoOf : Still → Block → LumaRefGeometry

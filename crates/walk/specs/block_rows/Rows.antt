@@ -1,13 +1,10 @@
 -- Document 01, 'Plan, walk, replay': the rows of one block of a walk, over what is lent. Assumes nothing.
-use Prim.Native.Nat.{ℕ, _+_, _-_, _*_}
-use mathlib.Core.Bool.{Bool, _&&_}
+use Prim.Native.Nat.{ℕ, _+_, _*_}
 use mathlib.Core.List.{List}
-use lib.Dec.{leb, eqb}
 use lib.IntN.{ℤ, pos, _+ℤ_, _-ℤ_}
 use lib.ListN.{getD}
 use Rattle.laws.specs.Paint.{paint}
 use Rattle.h265.specs.Notation.{clipTo}
-use Rattle.domain.specs.Domain.{sizeOk}
 
 -- the source less the prediction, and the sample that it gives back
 abbrev pub lessAt : List ℕ → List ℕ → ℕ → ℕ → ℤ
@@ -22,15 +19,3 @@ lessRows source pred n base width at residuals = paint at n n (λ r c. lessAt so
 
 abbrev pub backRows : ℕ → List ℕ → List ℕ → ℕ → ℕ → ℕ → List ℕ → List ℕ
 backRows largest source pred n base width work = paint base width n (λ r c. backAt largest source pred (base + r * width + c) (r * n + c)) n work
-
--- the lengths of what is lent
-pub record Lent : Type 0 where
-  pub work : ℕ
-  pub source : ℕ
-  pub pred : ℕ
-  pub residuals : ℕ
-
--- whether the block lies in it; the source is as long as the work plane
-unfoldable pub rowsFit : Lent → ℕ → ℕ → ℕ → ℕ → Bool
-rowsFit l n base width at =
-    sizeOk n && (eqb (l .source) (l .work) && leb (base + ((n - 1) * width + n)) (l .work) && leb (n * n) (l .pred) && leb (at + n * n) (l .residuals))

@@ -9,11 +9,11 @@ use Rattle.laws.specs.Chain.{units}
 use Rattle.plan.specs.declared.tiling.Verdict.{Verdict}
 use Rattle.plan.specs.tiling.Plan.{Plan}
 use Rattle.plan.specs.tiling.PlanCheck.{blocksVerdict}
-use Rattle.walk.specs.declared.still.Still.{Still}
-use Rattle.walk.specs.still.Checks.{Tables, replayNo, walkNo, settle}
-use Rattle.walk.specs.steps.Steps.{doing}
-use Rattle.walk.specs.rebuilt.Block.{replayUnit}
-use Rattle.walk.specs.walked.Block.{World, walkUnit}
+use Rattle.walk.specs.declared.checks.Still.{Still}
+use Rattle.walk.specs.checks.Checks.{Tables, replayNo, walkNo, settle}
+use Rattle.walk.specs.calls.Steps.{doing}
+use Rattle.walk.specs.block.Rebuilt.{replayUnit}
+use Rattle.walk.specs.block.Walked.{World, walkUnit}
 
 -- the verdict on a call: the checks before the blocks, then the plan's, then number 11
 unfoldable pub verdictOf : Still → Plan → ℕ → ℕ → Verdict
@@ -21,7 +21,7 @@ verdictOf s plan done early = settle (blocksVerdict (s .frame) plan) (plan .coun
 
 -- Replay: 1, 4, 5, then 8 over every residual.
 unfoldable pub replayVerdict : Still → Plan → Tables → ℕ → ℕ → List ℤ → Verdict
-replayVerdict s plan t done plane residuals = verdictOf s plan done (replayNo s t plane residuals)
+replayVerdict s plan t done plane residuals = verdictOf s plan done (replayNo s (plan .whole) t plane residuals)
 
 -- the plane after a call of replay
 unfoldable pub replayAfter : Still → Plan → Tables → ℕ → ℕ → List ℤ → List ℕ → List ℕ
@@ -30,7 +30,7 @@ replayAfter s plan t done grant residuals plane =
 
 -- Walk: 1, 4, 5, then 7 over every source sample.
 unfoldable pub walkVerdict : Still → Plan → Tables → ℕ → List ℕ → World → Verdict
-walkVerdict s plan t done source w = verdictOf s plan done (walkNo s t source (length (w .work)) (length (w .residuals)))
+walkVerdict s plan t done source w = verdictOf s plan done (walkNo s (plan .whole) t source (length (w .work)) (length (w .residuals)))
 
 -- the work plane and the residuals after a call of walk
 unfoldable pub walkAfter : Still → Plan → Tables → ℕ → ℕ → List ℕ → World → World

@@ -22,18 +22,18 @@ use Rattle.plan.specs.tiling.Tiling.{pictureOf, Placed, place}
 use Rattle.plan.specs.tiling.Plan.{Plan}
 use Rattle.plan.specs.tiling.Ahead.{area-small}
 use Rattle.plan.specs.tiling.Cover.{area}
-use Rattle.plan.specs.tiling.PlanCheck.{blocksVerdict, planVerdict}
+use Rattle.plan.specs.tiling.PlanCheck.{blocksVerdict, planVerdict, blocks-alone}
 use Rattle.plan.specs.tiling.Verdict.{Accepted, verdict-good}
-use Rattle.walk.specs.declared.still.Still.{Still}
-use Rattle.walk.specs.still.Checks.{largestOf, every, whole, Tables, roomy, residualOk, replayFits, replayNo, walkFits, walkNo, settle}
-use Rattle.walk.specs.still.Laws.{good-call, settle-zero}
-use Rattle.walk.specs.declared.steps.Step.{Step}
-use Rattle.walk.specs.steps.Steps.{doing, stepBy, refused-step, granted-step}
-use Rattle.walk.specs.block.Ready.{Ready}
-use Rattle.walk.specs.rebuilt.Block.{replayUnit}
-use Rattle.walk.specs.rebuilt.Ready.{Lies}
-use Rattle.walk.specs.rebuilt.Places.{place-in, count-up}
-use Rattle.walk.specs.walked.Block.{World, walkUnit}
+use Rattle.samples.specs.deltas.Deltas.{residualOk}
+use Rattle.walk.specs.declared.checks.Still.{Still}
+use Rattle.walk.specs.checks.Checks.{largestIn, every, whole, Tables, roomy, replayFits, replayNo, walkFits, walkNo, settle}
+use Rattle.walk.specs.checks.Laws.{good-call, settle-zero}
+use Rattle.walk.specs.declared.calls.Step.{Step}
+use Rattle.walk.specs.calls.Steps.{doing, stepBy, refused-step, granted-step}
+use Rattle.walk.specs.block.Ready.{Ready, Lies}
+use Rattle.walk.specs.block.Rebuilt.{replayUnit}
+use Rattle.walk.specs.calls.Places.{place-in, count-up}
+use Rattle.walk.specs.block.Walked.{World, walkUnit}
 use Rattle.walk.specs.calls.Door.{verdictOf, replayVerdict, replayAfter, walkVerdict, walkAfter}
 use Rattle.walk.specs.calls.Ready.{Sound, ReplayReady, WalkReady}
 
@@ -49,7 +49,7 @@ module _ (f : Frame) (plan : Plan) (h : Accepted f (plan .block) (plan .count)) 
 
 -- what the plan check's verdict tells of the count
 pub found-small : (s : Still) (plan : Plan) (v : Verdict) → v ≡ planVerdict (s .frame) plan → v .no ≡ 0 → plan .count ≤ 16777216
-found-small s plan v q z = accepted-small (s .frame) plan (verdict-good (s .frame) plan (sym (ap (λ (x : Verdict). x .no) q) ∙ z))
+found-small s plan v q z = accepted-small (s .frame) plan (verdict-good (s .frame) plan (sym (ap (λ (x : Verdict). x .no) q) ∙ z) .1)
 
 -- a call that is served
 module _ (s : Still) (plan : Plan) (plane residuals : ℕ) (t : Tables) (h : Sound s plan plane residuals t) where
@@ -74,9 +74,8 @@ module _ (s : Still) (plan : Plan) (plane residuals : ℕ) (t : Tables) (h : Sou
 
 module _ (s : Still) (plan : Plan) where
   -- number 0 of the blocks' checks says that the plan is accepted
-  pub blocks-accepted : pictureOk (pictureOf (s .frame)) ≡ true → blocksVerdict (s .frame) plan .no ≡ 0 → Accepted (s .frame) (plan .block) (plan .count)
-  unfolding planVerdict
-  blocks-accepted e z = verdict-good (s .frame) plan (rw e z)
+  pub blocks-accepted : pictureOk (pictureOf (s .frame)) ≡ true → plan .whole ≡ true → blocksVerdict (s .frame) plan .no ≡ 0 → Accepted (s .frame) (plan .block) (plan .count)
+  blocks-accepted e w z = verdict-good (s .frame) plan (ap (λ (v : Verdict). v .no) (blocks-alone (s .frame) plan e w) ∙ z) .1
 
   module _ (done early : ℕ) where
     -- number 0 says that every check holds
@@ -89,8 +88,8 @@ module _ (s : Still) (plan : Plan) where
         go (no d) = absurd (d (ap (λ (v : Verdict). v .no) (if-no (eqb early 0) _ _ _ (ne-eqb early 0 d) refl) ∙ z))
 
     -- the plan check's verdict and the checks before it make the call's
-    pub settle-is : (v : Verdict) → (early ≡ 0 → v ≡ planVerdict (s .frame) plan) → (early ≡ 0 → pictureOk (pictureOf (s .frame)) ≡ true) → settle v (plan .count) done early ≡ verdictOf s plan done early
-    unfolding verdictOf settle planVerdict
+    pub settle-is : (v : Verdict) → (early ≡ 0 → v ≡ planVerdict (s .frame) plan) → (early ≡ 0 → (pictureOk (pictureOf (s .frame)) ≡ true) × (plan .whole ≡ true)) → settle v (plan .count) done early ≡ verdictOf s plan done early
+    unfolding verdictOf settle
     settle-is v q ok = go (ℕ-discrete early 0)
       where
         blocks : Verdict
@@ -98,23 +97,24 @@ module _ (s : Still) (plan : Plan) where
 
         go : Dec (early ≡ 0) → settle v (plan .count) done early ≡ settle blocks (plan .count) done early
         go (no d) = sym (if-no (eqb early 0) _ _ _ (ne-eqb early 0 d) refl) ∙ if-no (eqb early 0) _ _ _ (ne-eqb early 0 d) refl
-        go (yes z) = ap (λ (u : Verdict). settle u (plan .count) done early) (q z ∙ sym (if-yes (pictureOk (pictureOf (s .frame))) blocks _ blocks (ok z) refl))
+        go (yes z) = ap (λ (u : Verdict). settle u (plan .count) done early) (q z ∙ blocks-alone (s .frame) plan (ok z .0) (ok z .1))
 
 -- a call of replay or of walk that is served
 module _ (s : Still) (plan : Plan) (t : Tables) (done : ℕ) where
   pub replay-sound : (plane : ℕ) (v : List ℤ) → replayVerdict s plan t done plane v .no ≡ 0 → Sound s plan plane (length v) t × (done ≤ plan .count)
   unfolding replayVerdict
   replay-sound plane v e =
-      let z = verdict-zero s plan done (replayNo s t plane v) e in
+      let z = verdict-zero s plan done (replayNo s (plan .whole) t plane v) e in
       let a = passed (depthOk (s .bits)) _ 1 (omega arith) (z .0) in
       let b = passed (pictureOk (pictureOf (s .frame))) _ 4 (omega arith) (a .1) in
-      let c = passed (replayFits s t plane (length v)) _ 5 (omega arith) (b .1) in
-      let x = both-true (whole s plane && whole s (length v)) (roomy t) (c .0) in
-      let y = both-true (whole s plane) (whole s (length v)) (x .0) in (
+      let c = passed (replayFits s (plan .whole) t plane (length v)) _ 5 (omega arith) (b .1) in
+      let x = both-true (plan .whole && whole s plane && whole s (length v)) (roomy t) (c .0) in
+      let y = both-true (plan .whole && whole s plane) (whole s (length v)) (x .0) in
+      let u = both-true (plan .whole) (whole s plane) (y .0) in (
         record {
           depth = depth-of (s .bits) (a .0);
-          accepted = blocks-accepted s plan (b .0) (z .1 .0);
-          plane-len = eqb-true plane _ (y .0);
+          accepted = blocks-accepted s plan (b .0) (u .0) (z .1 .0);
+          plane-len = eqb-true plane _ (u .1);
           resid-len = eqb-true (length v) _ (y .1);
           tables = x .1;
         },
@@ -125,21 +125,22 @@ module _ (s : Still) (plan : Plan) (t : Tables) (done : ℕ) where
       → Sound s plan (length (w .work)) (length (w .residuals)) t × ((length source ≡ length (w .work)) × (done ≤ plan .count))
   unfolding walkVerdict
   walk-sound source w e =
-      let z = verdict-zero s plan done (walkNo s t source (length (w .work)) (length (w .residuals))) e in
+      let z = verdict-zero s plan done (walkNo s (plan .whole) t source (length (w .work)) (length (w .residuals))) e in
       let a = passed (depthOk (s .bits)) _ 1 (omega arith) (z .0) in
       let b = passed (pictureOk (pictureOf (s .frame))) _ 4 (omega arith) (a .1) in
-      let c = passed (walkFits s t (length source) (length (w .work)) (length (w .residuals))) _ 5 (omega arith) (b .1) in
-      let x = both-true (whole s (length source) && whole s (length (w .work)) && whole s (length (w .residuals))) (roomy t) (c .0) in
-      let y = both-true (whole s (length source) && whole s (length (w .work))) (whole s (length (w .residuals))) (x .0) in
-      let u = both-true (whole s (length source)) (whole s (length (w .work))) (y .0) in (
+      let c = passed (walkFits s (plan .whole) t (length source) (length (w .work)) (length (w .residuals))) _ 5 (omega arith) (b .1) in
+      let x = both-true (plan .whole && whole s (length source) && whole s (length (w .work)) && whole s (length (w .residuals))) (roomy t) (c .0) in
+      let y = both-true (plan .whole && whole s (length source) && whole s (length (w .work))) (whole s (length (w .residuals))) (x .0) in
+      let u = both-true (plan .whole && whole s (length source)) (whole s (length (w .work))) (y .0) in
+      let p = both-true (plan .whole) (whole s (length source)) (u .0) in (
         record {
           depth = depth-of (s .bits) (a .0);
-          accepted = blocks-accepted s plan (b .0) (z .1 .0);
+          accepted = blocks-accepted s plan (b .0) (p .0) (z .1 .0);
           plane-len = eqb-true (length (w .work)) _ (u .1);
           resid-len = eqb-true (length (w .residuals)) _ (y .1);
           tables = x .1;
         },
-        (eqb-true (length source) _ (u .0) ∙ sym (eqb-true (length (w .work)) _ (u .1)), z .1 .1),
+        (eqb-true (length source) _ (p .1) ∙ sym (eqb-true (length (w .work)) _ (u .1)), z .1 .1),
       )
 
 -- a refused call leaves all as it was
@@ -177,9 +178,12 @@ module _ (v : Verdict) (count done grant upto : ℕ) (is : upto ≡ stepBy v cou
 
 -- replay: its verdict, what its loop may ask, and what it leaves
 module _ (s : Still) (plan : Plan) (t : Tables) (done : ℕ) (v : List ℤ) (d : List ℕ) where
-  pub replay-settled : (found : Verdict) → found ≡ planVerdict (s .frame) plan → settle found (plan .count) done (replayNo s t (length d) v) ≡ replayVerdict s plan t done (length d) v
+  pub replay-settled : (found : Verdict) → found ≡ planVerdict (s .frame) plan → settle found (plan .count) done (replayNo s (plan .whole) t (length d) v) ≡ replayVerdict s plan t done (length d) v
   unfolding replayVerdict
-  replay-settled found q = settle-is s plan done (replayNo s t (length d) v) found (λ _. q) (good-call s (replayFits s t (length d) (length v)) 8 (every residualOk v))
+  replay-settled found q = settle-is s plan done (replayNo s (plan .whole) t (length d) v) found (λ _. q)
+      (λ z.
+      let g = good-call s (replayFits s (plan .whole) t (length d) (length v)) 8 (every residualOk v) z in
+      (g .0, both-true _ _ (both-true _ _ (both-true _ _ (g .1) .0) .0) .0))
 
   module _ (grant upto : ℕ) (is : upto ≡ stepBy (replayVerdict s plan t done (length d) v) (plan .count) done grant .upto) where
     pub replay-asks : ReplayReady s plan t (length d) (length v) upto
@@ -195,11 +199,13 @@ module _ (s : Still) (plan : Plan) (t : Tables) (done : ℕ) (v : List ℤ) (d :
 -- the same of the walk
 module _ (s : Still) (plan : Plan) (t : Tables) (done : ℕ) (source : List ℕ) (w : World) where
   pub walk-settled : (found : Verdict) → found ≡ planVerdict (s .frame) plan
-      → settle found (plan .count) done (walkNo s t source (length (w .work)) (length (w .residuals))) ≡ walkVerdict s plan t done source w
+      → settle found (plan .count) done (walkNo s (plan .whole) t source (length (w .work)) (length (w .residuals))) ≡ walkVerdict s plan t done source w
   unfolding walkVerdict
   walk-settled found q =
-      settle-is s plan done (walkNo s t source (length (w .work)) (length (w .residuals))) found (λ _. q)
-      (good-call s (walkFits s t (length source) (length (w .work)) (length (w .residuals))) 7 (every (λ x. leb x (largestOf s)) source))
+      settle-is s plan done (walkNo s (plan .whole) t source (length (w .work)) (length (w .residuals))) found (λ _. q)
+      (λ z.
+      let g = good-call s (walkFits s (plan .whole) t (length source) (length (w .work)) (length (w .residuals))) 7 (every (λ x. leb x (largestIn s)) source) z in
+      (g .0, both-true _ _ (both-true _ _ (both-true _ _ (both-true _ _ (g .1) .0) .0) .0) .0))
 
   module _ (grant upto : ℕ) (is : upto ≡ stepBy (walkVerdict s plan t done source w) (plan .count) done grant .upto) where
     pub walk-asks : WalkReady s plan t (length source) (length (w .work)) (length (w .residuals)) upto

@@ -29,15 +29,15 @@ use Rattle.plan.specs.declared.tiling.Block.{Block}
 use Rattle.plan.specs.tiling.Tiling.{Of, cellAt, place}
 use Rattle.plan.specs.tiling.Cover.{apart, earlier, area}
 use Rattle.plan.specs.tiling.Verdict.{Accepted}
-use Rattle.walk.specs.declared.still.Still.{Still}
-use Rattle.walk.specs.still.Checks.{largestOf}
-use Rattle.walk.specs.block.Block.{sampleAt, predictedAt}
-use Rattle.walk.specs.rebuilt.Block.{rebuilt, replayUnit}
-use Rattle.walk.specs.walked.Block.{stored, World, walked, walkUnit}
+use Rattle.walk.specs.declared.checks.Still.{Still}
+use Rattle.walk.specs.checks.Checks.{largestIn}
+use Rattle.walk.specs.block.Predicted.{sampleAt, predictedAt}
+use Rattle.walk.specs.block.Rebuilt.{rebuilt, replayUnit}
+use Rattle.walk.specs.block.Walked.{stored, World, walked, walkUnit}
 use Rattle.walk.specs.block.Bridge.{geoOf, bridge}
-use Rattle.walk.specs.rebuilt.Places.{place-up}
-use Rattle.walk.specs.rebuilt.Laws.{rebuilt-length}
-use Rattle.walk.specs.walked.Laws.{stored-length, stored-at}
+use Rattle.walk.specs.calls.Places.{place-up}
+use Rattle.walk.specs.block.RebuiltLaws.{rebuilt-length}
+use Rattle.walk.specs.block.Stored.{stored-length, stored-at}
 use Rattle.walk.specs.lossless.Replay.{Replays, Sourced, Walks}
 
 -- a sample's place in the picture
@@ -66,7 +66,7 @@ OfS s plan k t = Of (plan k) (t .row) (t .col)
 
 -- prediction plus residual, clamped, and original less prediction; the first undoes the second
 abbrev pub added : Still → ℕ → ℤ → ℕ
-added s p r = clipTo (largestOf s) (pos p +ℤ r)
+added s p r = clipTo (largestIn s) (pos p +ℤ r)
 
 abbrev pub less : ℕ → ℕ → ℤ
 less o p = pos o -ℤ pos p
@@ -140,8 +140,8 @@ module _ (s : Still) (plan : ℕ → Block) (count : ℕ) (ok : Accepted (s .fra
 
   module _ (source : List ℕ) where
     -- a source of the picture's length and of samples of the depth
-    pub sourced : Whole s source → ((t : Sample s) → look s source t ≤ largestOf s) → Sourced (Whole s) (look s) (added s) less source
-    sourced h r = record { source-ok = h; back = λ t p. less-added (largestOf s) (look s source t) p (r t) }
+    pub sourced : Whole s source → ((t : Sample s) → look s source t ≤ largestIn s) → Sourced (Whole s) (look s) (added s) less source
+    sourced h r = record { source-ok = h; back = λ t p. less-added (largestIn s) (look s source t) p (r t) }
 
     store-in : (k : ℕ) (w : List ℕ) (v : List ℤ) → k < count → Whole s v → (t : Sample s) → OfS s plan k t
         → residual s plan (stored s source (plan k) (place plan k) w v) k t ≡ less (look s source t) (predict s plan k w t)

@@ -107,13 +107,13 @@ module _ {Plane Data Place R : Type 0} {Ok : Plane → Type 0} {look : Plane →
         where
           -- after k blocks: the plane and the residuals keep their lengths, the blocks hold the source, and their residuals are the source
           -- less the prediction from the source
-          pub record Walked (k : ℕ) (x : W) : Type 0 where
+          pub record LosslessTo (k : ℕ) (x : W) : Type 0 where
             pub plane-ok : Ok (work x)
             pub resid-ok : Long (resid x)
             pub holds : (i : ℕ) (s : Place) → i < k → Of i s → look (work x) s ≡ look source s
             pub lossless : (i : ℕ) (s : Place) → i < k → Of i s → read (resid x) i s ≡ sub (look source s) (predict i source s)
 
-          walk-one : (k : ℕ) (x : W) → k < count → Walked k x → Walked (suc k) (unit k x)
+          walk-one : (k : ℕ) (x : W) → k < count → LosslessTo k x → LosslessTo (suc k) (unit k x)
           walk-one k x l w = record {
             plane-ok = subst Ok (sym (h .unit-work k x)) (f .rebuild-ok k v (work x) (w .plane-ok));
             resid-ok = subst Long (sym (h .unit-resid k x)) (h .store-ok k (work x) (resid x) (w .resid-ok));
@@ -137,7 +137,7 @@ module _ {Plane Data Place R : Type 0} {Ok : Plane → Type 0} {look : Plane →
               new s q = stored s q ∙ ap (sub (look source s)) (f .local k (work x) source l (w .plane-ok) (g .source-ok) (w .holds) s q)
 
           -- whatever the work plane and the residuals held
-          pub walks : (k : ℕ) (x : W) → k ≤ count → Ok (work x) → Long (resid x) → Walked k (units unit 0 k x)
+          pub walks : (k : ℕ) (x : W) → k ≤ count → Ok (work x) → Long (resid x) → LosslessTo k (units unit 0 k x)
           unfolding units
           walks zero x l a b = record { plane-ok = a; resid-ok = b; holds = λ i s m o. absurd (omega arith); lossless = λ i s m o. absurd (omega arith) }
-          walks (suc k) x l a b = subst (Walked (suc k)) (sym (last unit k x)) (walk-one k (units unit 0 k x) l (walks k x (omega arith) a b))
+          walks (suc k) x l a b = subst (LosslessTo (suc k)) (sym (last unit k x)) (walk-one k (units unit 0 k x) l (walks k x (omega arith) a b))

@@ -4,12 +4,12 @@ use native.Mathlib.Nat.{mul-le-mul}
 use native.Mathlib.Omega.{arith}
 use borrow.Author.Needs.{needs}
 use borrow.Author.Tests.{eq-eqb, ne-eqb}
-use Rattle.plan.specs.verdict.Standing.{endOf}
+use Rattle.plan.specs.verdict.Standing.{checkEnd}
 use Rattle.plan.proofs.verdict.check_end.Statement.{statement}
 use Rattle.plan.proofs.verdict.check_end.Tie as tie
 
 returns : tie.Need-returns
-unfolding endOf
+unfolding checkEnd
 returns c = simp (ne-eqb _ _ (c .if1 .taken))
 
 cast-area : tie.Need-cast-area
@@ -26,11 +26,11 @@ mul-area c =
     record { fits = omega (arith, mul-le-mul a b) }
 
 returns-2 : tie.Need-returns-2
-unfolding endOf
+unfolding checkEnd
 returns-2 c = simp (eq-eqb _ _ (c .before .before .before .before .if1 .left), eq-eqb _ _ (c .if2 .taken))
 
 returns-3 : tie.Need-returns-3
-unfolding endOf
+unfolding checkEnd
 returns-3 c = simp (eq-eqb _ _ (c .before .before .before .before .if1 .left), ne-eqb _ _ (c .if2 .left))
 
 pub check-end-spec : {M : Type 1} → statement M

@@ -3,7 +3,7 @@ use mathlib.Core.Path.{sym}
 use Prim.Native.Nat.{_≤_}
 use native.Mathlib.Omega.{arith}
 use borrow.Author.Needs.{needs}
-use Rattle.samples.specs.lines.Starts.{firstOf}
+use Rattle.predict.specs.angles.Starts.{firstOf}
 use Rattle.domain.specs.Facts.{size-small}
 use Rattle.predict.specs.angular.Reach.{first-reach}
 use Rattle.predict.specs.angular.Blocks.{built}

@@ -4,7 +4,7 @@ use Prim.Native.Nat.{_*_, _-_, _≤_}
 use native.Mathlib.Omega.{arith}
 use borrow.Author.Needs.{needs}
 use lib.ListN.{length}
-use Rattle.samples.specs.lines.Starts.{lineStart, fractionOf}
+use Rattle.predict.specs.angles.Starts.{lineStart, fractionOf}
 use Rattle.predict.specs.angular.Lines.{lineAt}
 use Rattle.laws.specs.Weigh.{row-room}
 use Rattle.laws.specs.Fill.{rows}

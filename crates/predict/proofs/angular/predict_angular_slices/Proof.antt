@@ -2,7 +2,7 @@
 use lib.ListN.{length}
 use mathlib.Core.Path.{refl, sym, _∙_}
 use Rattle.laws.specs.Choose.{worked, unserved}
-use Rattle.samples.specs.numbers.Numbers.{Lent}
+use Rattle.predict.specs.refusals.Refusals.{Lent, lengths}
 use Rattle.predict.specs.angular.Door.{fit}
 use borrow.Author.Needs.{needs}
 use Rattle.predict.proofs.angular.predict_angular_slices.Statement.{statement}
@@ -11,10 +11,10 @@ use Rattle.predict.proofs.angular.predict_angular_slices.Tie as tie
 angular-no-requires : tie.Need-angular-no-requires
 angular-no-requires c κs = search needs
 
-work-requires : tie.Need-work-requires
-work-requires c κs =
+angular-block-requires : tie.Need-angular-block-requires
+angular-block-requires c κs =
     let a = c .before .before .before .before .before .before .before .before .before .before .args in
-    let l : Lent = record { above = length (a .above .now); left = length (a .left .now); pred = length (a .pred .now); refs = length (a .refs .now); indices = length (a .indices .now); fractions = length (a .fractions .now) } in
+    let l : Lent = lengths (length (a .above .now)) (length (a .left .now)) (length (a .pred .now)) (length (a .refs .now)) (length (a .indices .now)) (length (a .fractions .now)) in
     let f = fit _ _ _ l (sym (c .before .before .before .angular-no .ensures) ∙ c .before .before .if1 .taken) in
     (f .depth, (f .size, (f .low, (f .high, (f .above, (f .left, (f .room, f .refs)))))))
 
@@ -26,7 +26,7 @@ same-length-2 c = search needs
 
 returns : tie.Need-returns
 returns c =
-    (c .before .before .before .before .before .before .before .before .angular-no .ensures, (c .before .before .before .before .work .ensures ∙ worked _ _ _ (c .before .before .before .before .before .before .before .if1 .taken), λ z. absurd (z (c .before .before .before .before .before .before .before .if1 .taken))))
+    (c .before .before .before .before .before .before .before .before .angular-no .ensures, (c .before .before .before .before .angular-block .ensures ∙ worked _ _ _ (c .before .before .before .before .before .before .before .if1 .taken), λ z. absurd (z (c .before .before .before .before .before .before .before .if1 .taken))))
 
 returns-2 : tie.Need-returns-2
 returns-2 c = (c .before .angular-no .ensures, (unserved _ _ _ (c .if1 .left), λ z. (refl, (refl, refl))))
@@ -34,4 +34,4 @@ returns-2 c = (c .before .angular-no .ensures, (unserved _ _ _ (c .if1 .left), �
 pub predict-angular-slices-spec : {M : Type 1} → statement M
 predict-angular-slices-spec =
     tie.close
-    (tie.spec angular-no-requires work-requires same-length same-length-2 returns returns-2)
+    (tie.spec angular-no-requires angular-block-requires same-length same-length-2 returns returns-2)

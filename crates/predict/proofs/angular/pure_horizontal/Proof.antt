@@ -4,7 +4,7 @@ use Prim.Native.Nat.{_*_, _≤_}
 use native.Mathlib.Omega.{arith}
 use Rattle.domain.specs.Facts.{size-small}
 use Rattle.laws.specs.Choose.{both-true}
-use Rattle.samples.specs.taps.Laws.{largest-is}
+use Rattle.fmt.specs.depth.Laws.{largest-of-is}
 use borrow.Author.Tests.{ltb-true}
 use Rattle.laws.specs.Fill.{fill}
 use native.Mathlib.Nat.{mul-le-mul-right}
@@ -44,7 +44,7 @@ returns : tie.Need-returns
 returns c =
     let a = c .before .before .before .before .before .before .before .before .before .before .before .before .before .before .before .args in
     let p = c .before .before .before .before .before .before .before .before .before .before .before .before .before .before .before .pre in
-    c .before .before .edge-across .ensures ∙ ap (fill _ (a .n)) (c .before .before .before .before .before .before .before .before .before .before .flats .ensures) ∙ level-edge (a .corner) (a .above .now) (a .left .now) (a .bits) (a .n) (a .edge) (p .1 .0) (a .pred .now) _ (c .before .before .before .before .largest-of .ensures ∙ largest-is (a .bits) (p .0)) (sym (c .before .before .before .before .before .before .before .filtered .ensures) ∙ c .before .before .before .before .before .before .if1 .taken) (p .1 .1 .1 .1)
+    c .before .before .edge-across .ensures ∙ ap (fill _ (a .n)) (c .before .before .before .before .before .before .before .before .before .before .flats .ensures) ∙ level-edge (a .corner) (a .above .now) (a .left .now) (a .bits) (a .n) (a .edge) (p .1 .0) (a .pred .now) _ (c .before .before .before .before .largest-of .ensures ∙ largest-of-is (a .bits) (p .0)) (sym (c .before .before .before .before .before .before .before .filtered .ensures) ∙ c .before .before .before .before .before .before .if1 .taken) (p .1 .1 .1 .1)
 
 same-length-2 : tie.Need-same-length-2
 same-length-2 c = search needs

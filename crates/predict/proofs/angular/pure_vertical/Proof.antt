@@ -3,7 +3,7 @@ use mathlib.Core.Path.{refl, sym, ap, _∙_}
 use native.Mathlib.Omega.{arith}
 use Rattle.domain.specs.Facts.{size-small}
 use Rattle.laws.specs.Choose.{both-true}
-use Rattle.samples.specs.taps.Laws.{largest-is}
+use Rattle.fmt.specs.depth.Laws.{largest-of-is}
 use borrow.Author.Tests.{ltb-true}
 use Rattle.predict.specs.angular.Reach.{within}
 use Rattle.predict.specs.angular.Grid.{column}
@@ -41,7 +41,7 @@ returns : tie.Need-returns
 returns c =
     let a = c .before .before .before .before .before .before .before .before .before .before .before .before .before .before .before .args in
     let p = c .before .before .before .before .before .before .before .before .before .before .before .before .before .before .before .pre in
-    c .before .before .edge-down .ensures ∙ ap (column _ 0 (a .n) (a .n)) (c .before .before .before .before .before .before .before .before .before .before .copies .ensures) ∙ upright-edge (a .corner) (a .above .now) (a .left .now) (a .bits) (a .n) (a .edge) (p .1 .0) (a .pred .now) _ (c .before .before .before .before .largest-of .ensures ∙ largest-is (a .bits) (p .0)) (sym (c .before .before .before .before .before .before .before .filtered .ensures) ∙ c .before .before .before .before .before .before .if1 .taken) (p .1 .1 .1 .1)
+    c .before .before .edge-down .ensures ∙ ap (column _ 0 (a .n) (a .n)) (c .before .before .before .before .before .before .before .before .before .before .copies .ensures) ∙ upright-edge (a .corner) (a .above .now) (a .left .now) (a .bits) (a .n) (a .edge) (p .1 .0) (a .pred .now) _ (c .before .before .before .before .largest-of .ensures ∙ largest-of-is (a .bits) (p .0)) (sym (c .before .before .before .before .before .before .before .filtered .ensures) ∙ c .before .before .before .before .before .before .if1 .taken) (p .1 .1 .1 .1)
 
 same-length-2 : tie.Need-same-length-2
 same-length-2 c = search needs

@@ -3,7 +3,7 @@ use mathlib.Core.Path.{_≡_, _∙_}
 use Prim.Native.Nat.{_≤_, _<_}
 use native.Mathlib.Omega.{arith}
 use lib.ListN.{getD}
-use Rattle.samples.specs.lines.Angles.{turns, bends}
+use Rattle.predict.specs.angles.Angles.{turns, bends}
 use Rattle.domain.specs.Facts.{size-small}
 use Rattle.predict.specs.angular.Blocks.{down-refs, down-main}
 use Rattle.predict.specs.angular.Reach.{within, within-low}

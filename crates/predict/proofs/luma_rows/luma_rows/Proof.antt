@@ -1,4 +1,6 @@
 -- `luma_rows::luma_rows` meets its contract. The rule decides. Rests on the contracts of both.
+use mathlib.Core.Path.{_≡_}
+use lib.ListN.{length}
 use Rattle.predict.specs.luma_rows.LumaRows.{rows-smoothed, rows-kept}
 use borrow.Author.Needs.{needs}
 use Rattle.predict.proofs.luma_rows.luma_rows.Statement.{statement}
@@ -16,16 +18,22 @@ slice-aggregate-filter-luma-refs-2 c = search needs
 filter-luma-refs-requires : tie.Need-filter-luma-refs-requires
 filter-luma-refs-requires c κs = search needs
 
+-- the rows that the call is given
+rows-long : (s : tie.Start) → (length (s .args .rows .above) ≡ 65) × (length (s .args .rows .left) ≡ 65)
+rows-long s = search needs
+
 returns : tie.Need-returns
 returns c =
-    let a = c .before .before .before .before .before .before .before .before .args in
+    let s = c .before .before .before .before .before .before .before .before in
+    let a = s .args in
     let rule = c .before .before .before .before .before .before .before .should-filter-refs in
-    rows-smoothed (a .bits) (a .n) (a .mode) (a .rows) (rule .result) (rule .ensures) (c .before .before .before .before .before .before .if1 .taken) (c .before .filter-luma-refs .result) (c .before .filter-luma-refs .ensures)
+    rows-smoothed (a .bits) (a .n) (a .mode) (s .pre) (a .rows) (rule .result) (rule .ensures) (rows-long s .0) (rows-long s .1) (c .before .before .before .before .before .before .if1 .taken) (c .before .filter-luma-refs .result) (c .before .filter-luma-refs .ensures)
 
 returns-2 : tie.Need-returns-2
 returns-2 c =
-    let a = c .before .before .args in
-    rows-kept (a .bits) (a .n) (a .mode) (a .rows) (c .before .should-filter-refs .result) (c .before .should-filter-refs .ensures) (c .if1 .left)
+    let s = c .before .before in
+    let a = s .args in
+    rows-kept (a .bits) (a .n) (a .mode) (s .pre) (a .rows) (c .before .should-filter-refs .result) (c .before .should-filter-refs .ensures) (c .if1 .left)
 
 pub luma-rows-spec : {M : Type 1} → statement M
 luma-rows-spec =

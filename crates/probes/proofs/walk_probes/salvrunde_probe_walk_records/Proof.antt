@@ -43,16 +43,16 @@ use Rattle.plan.proofs.tiling.Block as T
 use Rattle.predict.specs.declared.scratch.AngularScratch.{AngularScratch}
 use Rattle.predict.proofs.scratch.AngularScratch as G
 use Rattle.walk.specs.declared.Progress.{Progress}
-use Rattle.walk.specs.declared.still.Still.{Still}
+use Rattle.walk.specs.declared.checks.Still.{Still}
 use Rattle.walk.specs.declared.Stepped.{Stepped}
-use Rattle.walk.specs.walked.Block.{World}
+use Rattle.walk.specs.block.Walked.{World}
 use Rattle.walk.specs.calls.Door.{walkVerdict, walkAfter}
 use Rattle.walk.specs.Door.{steppedBy}
-use Rattle.walk.specs.Listed.{scratchTables}
+use Rattle.walk.specs.Lent.{scratchTables}
 use Rattle.walk.proofs.Progress as O
 use Rattle.walk.proofs.Progress.Laws as O′
-use Rattle.walk.proofs.still.Still as Z
-use Rattle.walk.proofs.still.Still.Laws as Z′
+use Rattle.walk.proofs.checks.Still as Z
+use Rattle.walk.proofs.checks.Still.Laws as Z′
 use Rattle.walk.proofs.Stepped as E
 use Rattle.walk.proofs.Stepped.Laws as E′
 use Rattle.walk.proofs.Progress.walk as dor

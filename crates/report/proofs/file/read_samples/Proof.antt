@@ -16,11 +16,11 @@ Inv-loop b at many source₀ start end i₀ source i = (i ≤ end) × (start ≡
 abbrev μ-loop : tie.MeasureT-loop
 μ-loop b at many source₀ start end i₀ source i = end - i
 
-lesser-requires : tie.Need-lesser-requires Inv-loop μ-loop
-lesser-requires c κs = search needs
+min-len-requires : tie.Need-min-len-requires Inv-loop μ-loop
+min-len-requires c κs = search needs
 
 loop-holds : tie.Need-loop-holds Inv-loop μ-loop
-loop-holds c = (search needs, refl, c .lesser .ensures, fill-none _ _)
+loop-holds c = (search needs, refl, c .min-len .ensures, fill-none _ _)
 
 mul-two-at : tie.Need-mul-two-at Inv-loop μ-loop
 mul-two-at c = search needs
@@ -55,7 +55,7 @@ read-samples-spec =
     (tie.spec
     Inv-loop
     μ-loop
-    lesser-requires
+    min-len-requires
     loop-holds
     mul-two-at
     add-two-at

@@ -2,6 +2,7 @@
 -- The plan and the residuals are copied for the callees; `plane` and the scratch are given up for good. Assumes nothing.
 use mathlib.Core.Path.{_≡_, refl, ap}
 use Prim.Native.Nat.{ℕ, _-_, _<_, _^_}
+use mathlib.Core.Bool.{true}
 use mathlib.Core.List.{List, [], _∷_}
 use lib.ListN.{length}
 use lib.IntN.{ℤ}
@@ -56,20 +57,21 @@ use Rattle.plan.proofs.check_plan.Met as chk-thm
 use Rattle.predict.specs.declared.scratch.AngularScratch.{AngularScratch}
 use Rattle.predict.proofs.scratch.AngularScratch as G
 use Rattle.walk.specs.declared.Progress.{Progress}
-use Rattle.walk.specs.declared.still.Still.{Still}
+use Rattle.walk.specs.declared.checks.Still.{Still}
 use Rattle.walk.specs.declared.Stepped.{Stepped}
 use Rattle.walk.specs.declared.Call.{Call}
-use Rattle.walk.specs.rebuilt.Block.{replayUnit}
+use Rattle.walk.specs.block.Rebuilt.{replayUnit}
 use Rattle.walk.specs.calls.Door.{replayVerdict, replayAfter}
 use Rattle.walk.specs.Door.{steppedBy}
-use Rattle.walk.specs.still.Checks.{replayNo, settle}
+use Rattle.walk.specs.checks.Checks.{replayNo, settle}
 use Rattle.walk.specs.calls.Ready.{ReplayReady}
 use Rattle.walk.specs.calls.Laws.{found-small}
-use Rattle.walk.specs.Listed.{scratchTables, bare, callOf, replay-asks, replay-ends}
+use Rattle.walk.specs.Lent.{scratchTables}
+use Rattle.walk.specs.Listed.{bare, callOf, replay-asks, replay-ends}
 use Rattle.walk.proofs.Progress as O
 use Rattle.walk.proofs.Progress.Laws as O′
-use Rattle.walk.proofs.still.Still as Z
-use Rattle.walk.proofs.still.Still.Laws as Z′
+use Rattle.walk.proofs.checks.Still as Z
+use Rattle.walk.proofs.checks.Still.Laws as Z′
 use Rattle.walk.proofs.Stepped as E
 use Rattle.walk.proofs.Stepped.Laws as E′
 use Rattle.walk.proofs.Call as Y
@@ -195,8 +197,8 @@ module _ {M : Type 1} (𝓤 : URA M) (H : Heap 𝓤) (A : Atoms 𝓤) (W : Given
   goes-call v is-v e =
       qed W (‵ (flft κ₁ q₁) ∷ ‵ (ShrSlice (named 1) κ₁ i32 .own c (vc ∷ [])) ∷ []) ∵ says ! (found-small st (listed ys) v e) $ nothing ! $ move ! (1 ∷ 0 ∷ []) $ join ! $ frame ! $ nothing ! $ owned ! u32 (Is u32) (uint-makes 𝓤 H A W w32) grant _ (refl, grant-fits) $ fjoin ! $ owned ! Q.the-row (Is Q.the-row) ((LL.makes Q.the-type Q′.the-plain) 𝓤 H A) v _ is-v $ fjoin ! $ owned ! usize (Is usize) (uint-makes 𝓤 H A W w64) (length ys) _ (refl, g₀ .0) $ fjoin ! $ owned ! usize (Is usize) (uint-makes 𝓤 H A W w64) (length ws) _ (refl, g₂ .0) $ fjoin ! $ move ! (1 ∷ 0 ∷ []) $ fjoin ! $ owned ! Z.the-row (Is Z.the-row) ((LL.makes Z.the-type Z′.the-plain) 𝓤 H A) st _ is-st $ fjoin ! $ owned ! O.the-row (Is O.the-row) ((LL.makes O.the-type O′.the-plain) 𝓤 H A) pr _ is-pr $ fjoin ! $ done !
 
-  call-of : (v : Verdict) (r : Call) → ent 𝓤 (ensured 𝓤 H A cal.ended (cal.clauses 𝓤 H A mem run) (κ₁, tt) (pr, (st, (c, ((length ws), ((length ys), (v, (grant, tt))))))) tt r) (fact 𝓤 (r ≡ callOf (settle v (length ys) (pr .done) (replayNo st scratchTables (length ws) src)) (bare (length ys)) pr grant))
-  call-of v r = exE 𝓤 _ (λ zs. snd∗ 𝓤 (sem 𝓤 H A (lasts cal.ended (κ₁, tt) (pr, (st, (c, ((length ws), ((length ys), (v, (grant, tt))))))) zs)) (fact 𝓤 (r ≡ callOf (settle v (length ys) (pr .done) (replayNo st scratchTables (length ws) src)) (bare (length ys)) pr grant)))
+  call-of : (v : Verdict) (r : Call) → ent 𝓤 (ensured 𝓤 H A cal.ended (cal.clauses 𝓤 H A mem run) (κ₁, tt) (pr, (st, (c, ((length ws), ((length ys), (v, (grant, tt))))))) tt r) (fact 𝓤 (r ≡ callOf (settle v (length ys) (pr .done) (replayNo st true scratchTables (length ws) src)) (bare (length ys)) pr grant))
+  call-of v r = exE 𝓤 _ (λ zs. snd∗ 𝓤 (sem 𝓤 H A (lasts cal.ended (κ₁, tt) (pr, (st, (c, ((length ws), ((length ys), (v, (grant, tt))))))) zs)) (fact 𝓤 (r ≡ callOf (settle v (length ys) (pr .done) (replayNo st true scratchTables (length ws) src)) (bare (length ys)) pr grant)))
 
   abbrev args : Call → Still × (RefT (List Block) × (RefT (List ℤ) × (RefT (List ℕ) × (RefT AngularScratch × (ℕ × (ℕ × (Unit {0})))))))
   args x = (st, (p, (c, (mk₂, (scr, (pr .done, (x .upto, tt)))))))
@@ -238,7 +240,7 @@ module _ {M : Type 1} (𝓤 : URA M) (H : Heap 𝓤) (A : Atoms 𝓤) (W : Given
         move ! (6 ∷ []) $ use1 W (‵ (ShrSlice (named 1) κ₁ i32 .own c (vc ∷ [])) ⊛ ‵ (ShrSlice (named 1) κ₁ i32 .own c (vc ∷ []))) (shr-slice-copy 𝓤 H A W (named 1) κ₁ i32 .twice c (vc ∷ [])) $ split ! $ move ! (4 ∷ 0 ∷ []) $ group ! 2 $ use1 W (raw (Calling 𝓤 H A mem run .pre (to-call v))) (goes-call v is-v e₀) $
         calls-at ! fm (Calling 𝓤 H A mem run) known-call (to-call v) (and-then ! (load ! (from ! (stop !)) (look ! 33 refl)) (and-then ! (load ! (from ! (stop !)) (look ! 31 refl)) (and-then ! (load ! (from ! (stop !)) (look ! 27 refl)) (and-then ! (load ! (from ! (stop !)) (look ! 15 refl)) (and-then ! (load ! (from ! (stop !)) (look ! 13 refl)) (and-then ! (load ! (from ! (stop !)) (look ! 19 refl)) (and-then ! (load ! (from ! (stop !)) (look ! 21 refl)) (no-more !)))))))) (λ u.
         use1 W (later (some (λ (r : Call). ((‵ (flft κ₁ q₁) ⊛ ‵ ftrue) ⊛ ‵ (Y.the-row .own r (u ∷ []))) ⊛ raw (ensured 𝓤 H A cal.ended (cal.clauses 𝓤 H A mem run) (κ₁, tt) (pr, (st, (c, ((length ws), ((length ys), (v, (grant, tt))))))) tt r)))) (id⊢ 𝓤 _) $ await ! tt $ pick ! (λ x.
-        split ! $ move ! (1 ∷ []) $ use1 W (raw (fact 𝓤 (x ≡ callOf (settle v (length ys) (pr .done) (replayNo st scratchTables (length ws) src)) (bare (length ys)) pr grant))) (call-of v x) $ heard ! (x ≡ callOf (settle v (length ys) (pr .done) (replayNo st scratchTables (length ws) src)) (bare (length ys)) pr grant) (λ e₁. split ! $ move ! (1 ∷ []) $ peeks ! Y.the-row (Is Y.the-row) (shows 𝓤 H A Y.the-row) x (u ∷ []) (λ is₁.
+        split ! $ move ! (1 ∷ []) $ use1 W (raw (fact 𝓤 (x ≡ callOf (settle v (length ys) (pr .done) (replayNo st true scratchTables (length ws) src)) (bare (length ys)) pr grant))) (call-of v x) $ heard ! (x ≡ callOf (settle v (length ys) (pr .done) (replayNo st true scratchTables (length ws) src)) (bare (length ys)) pr grant) (λ e₁. split ! $ move ! (1 ∷ []) $ peeks ! Y.the-row (Is Y.the-row) (shows 𝓤 H A Y.the-row) x (u ∷ []) (λ is₁.
         land ! (from ! (stop !)) (init ! 18 refl (LL.lawful Y.the-type Y′.the-laws 𝓤 H A W .typed x _ is₁ .0)) $ rewrite ! 18 (λ (z : Val). ‵ (fat fullShare Y′.mir l₉ 0 z)) (ap only (LL.tells Y.the-type Y′.the-laws x _ is₁)) refl $
         rewrite ! 0 (λ (us : List Val). ‵ (Y.the-row .own x us)) (LL.tells Y.the-type Y′.the-laws x _ is₁) refl $ peeks ! Y.the-row (Is Y.the-row) (shows 𝓤 H A Y.the-row) x (mY x ∷ []) (λ is-x. drop ! $ split ! $ move ! (1 ∷ []) $ drop ! $
         -- the loop

@@ -1,0 +1,79 @@
+-- Document 01, 'use from C': what planar, DC, angular prediction and a chroma block on bytes give back and write, and their numbers.
+-- Numbers count bytes. Rests on the standard's clauses.
+use Prim.Native.Nat.{ℕ, _*_, _/_, _%_}
+use mathlib.Core.Bool.{Bool, true, not, _&&_}
+use mathlib.Core.List.{List, [], _∷_}
+use lib.Dec.{leb, eqb}
+use lib.ListN.{length, getD, replicate}
+use Rattle.laws.specs.Choose.{_unless_, firstFail}
+use Rattle.laws.specs.Fill.{fill}
+use Rattle.laws.specs.Bytes.{byteOf}
+use Rattle.bytes.specs.Bytes.{samplesOf}
+use Rattle.domain.specs.Domain.{depthOk, sizeOk, modeOk, predictorRow}
+use Rattle.h265.specs.Notation.{Neighbours, fromRows}
+use Rattle.h265.specs.Planar.{planar}
+use Rattle.h265.specs.Dc.{dc}
+use Rattle.h265.specs.Angular.{angular}
+use Rattle.h265.specs.Setting.{first}
+use Rattle.h265.specs.Prediction.{predSamples}
+use Rattle.predict.specs.Contents.{chromaAt}
+use Rattle.camera.specs.Written.{Written, entry}
+
+-- Rows of 65 samples, a block of n · n in rows; what is beyond is neither read nor written.
+abbrev pub rowOf : List ℕ → List ℕ
+rowOf b = fill (λ i. getD (samplesOf b) i 0) 65 (replicate 65 0)
+
+abbrev pub neighboursIn : ℕ → List ℕ → List ℕ → Neighbours
+neighboursIn corner above left = fromRows corner (rowOf above) (rowOf left)
+
+-- a buffer after a block was written into it; g is the sample in a row and a column
+unfoldable pub blockIn : (ℕ → ℕ → ℕ) → ℕ → List ℕ → List ℕ
+blockIn g n d = fill (byteOf 2 (λ i. g (i / n) (i % n))) (2 * (n * n)) d
+
+-- the rows' bytes and the block's
+abbrev pub room : ℕ → ℕ → ℕ → ℕ → Bool
+room n above left out = leb (2 * predictorRow n) above && leb (2 * predictorRow n) left && leb (2 * (n * n)) out
+
+-- planar and DC refuse 2 and 5
+unfoldable pub flatEntryNo : ℕ → ℕ → ℕ → ℕ → ℕ
+flatEntryNo n above left out = firstFail ((2 unless sizeOk n) ∷ (5 unless room n above left out) ∷ [])
+
+abbrev flatEntry : (ℕ → ℕ → ℕ) → ℕ → List ℕ → List ℕ → List ℕ → Written
+flatEntry g n above left d = entry (flatEntryNo n (length above) (length left) (length d)) (blockIn g n d) d
+
+abbrev pub planarIn : ℕ → List ℕ → List ℕ → ℕ → ℕ → ℕ
+planarIn n above left y x = planar n (neighboursIn 0 above left) x y
+
+unfoldable pub planarEntry : ℕ → List ℕ → List ℕ → List ℕ → Written
+planarEntry n above left d = flatEntry (planarIn n above left) n above left d
+
+abbrev pub dcIn : Bool → ℕ → List ℕ → List ℕ → ℕ → ℕ → ℕ
+dcIn edge n above left y x = dc edge n (neighboursIn 0 above left) x y
+
+-- an edge flag is on where it is not 0
+unfoldable pub dcEntry : ℕ → ℕ → List ℕ → List ℕ → List ℕ → Written
+dcEntry n edge above left d = flatEntry (dcIn (not (eqb edge 0)) n above left) n above left d
+
+-- angular and the chroma block refuse 1, 2, 3 and 5; whether the entry takes the mode is told
+unfoldable pub modeEntryNo : ℕ → ℕ → Bool → ℕ → ℕ → ℕ → ℕ
+modeEntryNo bits n taken above left out =
+    firstFail ((1 unless depthOk bits) ∷ (2 unless sizeOk n) ∷ (3 unless taken) ∷ (5 unless room n above left out) ∷ [])
+
+abbrev modeEntry : (ℕ → ℕ → ℕ) → ℕ → ℕ → Bool → List ℕ → List ℕ → List ℕ → Written
+modeEntry g bits n taken above left d = entry (modeEntryNo bits n taken (length above) (length left) (length d)) (blockIn g n d) d
+
+abbrev pub angularMode : ℕ → Bool
+angularMode mode = leb 2 mode && modeOk mode
+
+abbrev pub angularIn : ℕ → Bool → ℕ → ℕ → ℕ → List ℕ → List ℕ → ℕ → ℕ → ℕ
+angularIn bits edge n mode corner above left y x = angular bits edge n mode (neighboursIn corner above left) x y
+
+unfoldable pub angularEntry : ℕ → ℕ → ℕ → ℕ → ℕ → List ℕ → List ℕ → List ℕ → Written
+angularEntry bits n mode edge corner above left d =
+    modeEntry (angularIn bits (not (eqb edge 0)) n mode corner above left) bits n (angularMode mode) above left d
+
+abbrev pub chromaIn : ℕ → ℕ → ℕ → ℕ → List ℕ → List ℕ → ℕ → ℕ → ℕ
+chromaIn bits n mode corner above left y x = predSamples (chromaAt bits) (first true) n mode (neighboursIn corner above left) x y
+
+unfoldable pub chromaBlockEntry : ℕ → ℕ → ℕ → ℕ → List ℕ → List ℕ → List ℕ → Written
+chromaBlockEntry bits n mode corner above left d = modeEntry (chromaIn bits n mode corner above left) bits n (modeOk mode) above left d

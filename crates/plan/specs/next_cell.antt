@@ -1,2 +1,0 @@
--- NextCell: when a place is next.
-pub mod NextCell

@@ -1,2 +1,0 @@
--- Lent: what a call with the scratch struct lends, and a scratch of zeros.
-pub mod Lent

@@ -1,0 +1,106 @@
+// Which number a prediction's door gives, from document 01's table: the first check that fails, and 0 where none does.
+// Rests on the laws and on the domain's tests. The doors do their work where the number is 0.
+ghost use mathlib.Core.Path.{_≡_};
+ghost use Rattle.domain.specs.Domain.{predictorRow};
+ghost use Rattle.domain.specs.Facts.{Size};
+ghost use Rattle.predict.specs.refusals.Refusals.{lengths, enough, flatNo, angularNo, predictNo};
+
+// The least entries of a reference row.
+fn predictor_row(n: usize) -> usize
+    ensures { λ r. ⌜ r ≡ predictorRow n ⌝ }
+{
+    65
+}
+
+// Planar and DC: the number of a call whose rows have a and l entries and whose block buffer has p.
+pub(crate) fn flat_no(n: usize, a: usize, l: usize, p: usize) -> u32
+    ensures { λ r. ⌜ r ≡ flatNo n a l p ⌝ }
+{
+    if !domain::size_ok(n) {
+        return 2;
+    }
+    let row = predictor_row(n);
+    if (a >= row) & (l >= row) & (p >= n * n) {
+        return 0;
+    }
+    5
+}
+
+// Number 5 where tables are lent too: whether each is long enough.
+fn lent(
+    n: usize,
+    above: usize,
+    left: usize,
+    pred: usize,
+    refs: usize,
+    indices: usize,
+    fractions: usize,
+) -> bool
+    requires { ⌜ Size n ⌝ }
+    ensures { λ r. ⌜ r ≡ enough n (lengths above left pred refs indices fractions) ⌝ }
+{
+    (above >= 65)
+        & (left >= 65)
+        & (pred >= n * n)
+        & (refs >= 193)
+        & (indices >= 32)
+        & (fractions >= 32)
+}
+
+// Angular prediction.
+pub(crate) fn angular_no(
+    bits: u32,
+    n: usize,
+    mode: u8,
+    above: usize,
+    left: usize,
+    pred: usize,
+    refs: usize,
+    indices: usize,
+    fractions: usize,
+) -> u32
+    ensures { λ r. ⌜ r ≡ angularNo bits n mode (lengths above left pred refs indices fractions) ⌝ }
+{
+    if !domain::depth_ok(bits) {
+        return 1;
+    }
+    if !domain::size_ok(n) {
+        return 2;
+    }
+    if !((mode >= 2) & domain::mode_ok(mode as u32)) {
+        return 3;
+    }
+    if !lent(n, above, left, pred, refs, indices, fractions) {
+        return 5;
+    }
+    0
+}
+
+// A block in any mode.
+pub(crate) fn predict_no(
+    bits: u32,
+    n: usize,
+    mode: u8,
+    above: usize,
+    left: usize,
+    pred: usize,
+    refs: usize,
+    indices: usize,
+    fractions: usize,
+) -> u32
+    ensures { λ r. ⌜ r ≡ predictNo bits n mode (lengths above left pred refs indices fractions) ⌝ }
+{
+    if !domain::depth_ok(bits) {
+        return 1;
+    }
+    if !domain::size_ok(n) {
+        return 2;
+    }
+    if !domain::mode_ok(mode as u32) {
+        return 3;
+    }
+    if !lent(n, above, left, pred, refs, indices, fractions) {
+        return 5;
+    }
+    0
+}

@@ -1,2 +1,0 @@
--- Numbers: the number of a call to each kind of predictor.
-pub mod Numbers

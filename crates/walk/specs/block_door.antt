@@ -1,2 +1,0 @@
--- Door: what a call on a block refuses.
-pub mod Door

@@ -1,0 +1,63 @@
+-- Document 01: what a call on a still refuses before it looks at blocks, in its order, and how the verdict on a plan goes on from there. Assumes nothing.
+use Prim.Native.Nat.{ℕ, _-_, _*_, _^_}
+use mathlib.Core.Bool.{Bool, true, cond, _&&_}
+use mathlib.Core.List.{List, [], _∷_}
+use lib.Dec.{leb, eqb}
+use lib.IntN.{ℤ}
+use lib.ListN.{length}
+use Rattle.laws.specs.Choose.{_unless_, firstFail}
+use Rattle.domain.specs.Domain.{depthOk}
+use Rattle.order.specs.Order.{pictureOk}
+use Rattle.samples.specs.deltas.Deltas.{residualOk}
+use Rattle.plan.specs.declared.tiling.Verdict.{Verdict}
+use Rattle.plan.specs.tiling.Tiling.{pictureOf}
+use Rattle.walk.specs.declared.checks.Still.{Still}
+
+-- the largest sample of the depth
+abbrev pub largestIn : Still → ℕ
+largestIn s = 2 ^ s .bits - 1
+
+-- a test of every entry
+unfoldable pub every : {A : Type 0} → (A → Bool) → List A → Bool
+every p [] = true
+every p (x ∷ l) = p x && every p l
+
+-- number 5: planes and residuals of exactly the picture's samples
+abbrev pub whole : Still → ℕ → Bool
+whole s len = eqb len (s .frame .height * s .frame .width)
+
+-- number 5: the lent scratch tables
+pub record Tables : Type 0 where
+  pub refs : ℕ
+  pub indices : ℕ
+  pub fractions : ℕ
+
+abbrev pub roomy : Tables → Bool
+roomy t = leb 193 (t .refs) && leb 32 (t .indices) && leb 32 (t .fractions)
+
+-- the numbers 1, 4, 5
+abbrev pub openingNo : Still → Bool → ℕ
+openingNo s fit = firstFail ((1 unless depthOk (s .bits)) ∷ (4 unless pictureOk (pictureOf (s .frame))) ∷ (5 unless fit) ∷ [])
+
+-- the number of the checks before the plan's: the last is number k
+abbrev pub callNo : Still → Bool → ℕ → Bool → ℕ
+callNo s fit k ok = firstFail ((1 unless depthOk (s .bits)) ∷ (4 unless pictureOk (pictureOf (s .frame))) ∷ (5 unless fit) ∷ (k unless ok) ∷ [])
+
+-- Replay: 1, 4, 5, then 8 over every residual. `records` says whether the plan is of whole records.
+abbrev pub replayFits : Still → Bool → Tables → ℕ → ℕ → Bool
+replayFits s records t plane residuals = records && whole s plane && whole s residuals && roomy t
+
+abbrev pub replayNo : Still → Bool → Tables → ℕ → List ℤ → ℕ
+replayNo s records t plane residuals = callNo s (replayFits s records t plane (length residuals)) 8 (every residualOk residuals)
+
+-- Walk: 1, 4, 5, then 7 over every source sample.
+abbrev pub walkFits : Still → Bool → Tables → ℕ → ℕ → ℕ → Bool
+walkFits s records t source work residuals = records && whole s source && whole s work && whole s residuals && roomy t
+
+abbrev pub walkNo : Still → Bool → Tables → List ℕ → ℕ → ℕ → ℕ
+walkNo s records t source work residuals = callNo s (walkFits s records t (length source) work residuals) 7 (every (λ v. leb v (largestIn s)) source)
+
+-- the verdict on a call: `early` is the number of the checks before the plan's and `found` the plan's verdict, then comes number 11
+unfoldable pub settle : Verdict → ℕ → ℕ → ℕ → Verdict
+settle found count done early =
+    cond (eqb early 0) (cond (eqb (found .no) 0) (record { no = cond (leb done count) 0 11; block = 0 }) found) (record { no = early; block = 0 })

@@ -1,2 +1,0 @@
--- Laws: what joins the functions.
-pub mod Laws
