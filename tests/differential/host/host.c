@@ -11,7 +11,7 @@
 typedef unsigned long word;
 typedef struct { word low, high; } pair;
 
-enum { MOST = 20, ROOM = 16 * 1024 * 1024 };
+enum { MOST = 26, ROOM = 16 * 1024 * 1024 };
 
 #define ENTRY(name) extern char name[];
 #include "entries.h"
@@ -68,8 +68,8 @@ static void give(const void *from, word bytes) {
     }
 }
 
-typedef pair entry(word, word, word, word, word, word, word, word, word, word,
-                   word, word, word, word, word, word, word, word, word, word);
+typedef pair entry(word, word, word, word, word, word, word, word, word, word, word, word, word,
+                   word, word, word, word, word, word, word, word, word, word, word, word, word);
 
 void serve(void) {
     for (;;) {
@@ -88,7 +88,8 @@ void serve(void) {
             }
             word *a = argument;
             pair got = ((entry *)entries[number])(a[0], a[1], a[2], a[3], a[4], a[5], a[6], a[7], a[8], a[9], a[10],
-                                                  a[11], a[12], a[13], a[14], a[15], a[16], a[17], a[18], a[19]);
+                                                  a[11], a[12], a[13], a[14], a[15], a[16], a[17], a[18], a[19], a[20],
+                                                  a[21], a[22], a[23], a[24], a[25]);
             *out++ = got.low, *out++ = got.high;
             for (word i = 0; i < count; i++) {
                 word words = (given[i] + 7) / 8;

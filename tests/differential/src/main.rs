@@ -52,7 +52,7 @@ const SUBJECTS: &[(&str, Subject)] = &[
     ("differences", order::differences),
     ("rule", smooth::rule),
     ("smoothing", smooth::smoothing),
-    ("planar and DC", predict::flat),
+    ("planar and DC", predict::planar_dc),
     ("angular", predict::angular),
     ("residual", residual::residual),
     ("reconstruction", residual::reconstruction),

@@ -45,12 +45,32 @@ impl Frame {
     }
 }
 
-fn ask(t: &mut Tally, f: Frame, plan: &[Block]) -> u32 {
-    let want = f.verdict(plan);
-    let lent = bytes_32(plan.as_flattened());
+/// A plan as four slices of numbers: rows, columns, sides, modes.
+pub fn lists(plan: &[Block]) -> [Vec<u32>; 4] {
+    [0, 1, 2, 3].map(|field| plan.iter().map(|b| b[field]).collect())
+}
+
+/// The call with these slices, which are those of a plan or of other lengths.
+fn ask_lists(t: &mut Tally, f: Frame, lists: &[Vec<u32>; 4], want: [u32; 2]) -> u32 {
+    let lent = lists.each_ref().map(|list| bytes_32(list));
     let numbers = [f.width, f.height, f.ctu].map(|v| Number(v as u64));
-    let args = [&numbers[..], &[Read(&lent), Number(plan.len() as u64)]].concat();
-    t.call("salvrunde_probe_check_plan", &args, Want::fields(&want));
+    let slices = [0, 1, 2, 3].map(|k| [Read(&lent[k]), Number(lists[k].len() as u64)]);
+    t.call("salvrunde_probe_check_plan", &[&numbers[..], slices.as_flattened()].concat(), Want::fields(&want));
+    want[0]
+}
+
+fn ask(t: &mut Tally, f: Frame, plan: &[Block]) -> u32 {
+    ask_lists(t, f, &lists(plan), f.verdict(plan))
+}
+
+/// Each slice in turn has an entry less, has one more, or has none: number 5, unless the picture is refused.
+fn ask_ragged(t: &mut Tally, f: Frame, plan: &[Block]) -> u32 {
+    let want = if Picture::new(f.width, f.height, f.ctu, 4).sides_and_ctu() { [5, 0] } else { [4, 0] };
+    for (k, len) in (0..4).flat_map(|k| [plan.len() - 1, plan.len() + 1, 0].map(|len| (k, len))) {
+        let mut lists = lists(plan);
+        lists[k].resize(len, 8);
+        ask_lists(t, f, &lists, want);
+    }
     want[0]
 }
 
@@ -115,6 +135,7 @@ pub fn check(t: &mut Tally) {
                 let plan = f.good_plan(&mut random);
                 assert_eq!(f.verdict(&plan), [0, 0], "the driver's own plans are good");
                 seen[ask(t, f, &plan) as usize] += 1;
+                seen[ask_ragged(t, f, &plan) as usize] += 1;
                 // the same plan, in a picture of another CTU or of exchanged sides
                 for other in [16, 32, 64] {
                     seen[ask(t, Frame { ctu: other, ..f }, &plan) as usize] += 1;
@@ -136,6 +157,7 @@ pub fn check(t: &mut Tally) {
                 for plan in [&[][..], &[[0, 0, 8, 0]], &[[0, 0, 5, 40]]] {
                     seen[ask(t, f, plan) as usize] += 1;
                 }
+                seen[ask_ragged(t, f, &[[0, 0, 5, 40]]) as usize] += 1;
             }
         }
     }

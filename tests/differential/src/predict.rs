@@ -73,7 +73,7 @@ fn lengths(n: usize) -> Vec<usize> {
     vec![least, least - 1, 0, least + 1]
 }
 
-pub fn flat(t: &mut Tally) {
+pub fn planar_dc(t: &mut Tally) {
     let mut random = Random::new(6);
     for n in SIZES {
         for up in 0..KINDS {

@@ -242,6 +242,13 @@ fn any_side(most: u64, random: &mut Random) -> u32 {
     8 + 8 * random.below(most / 8) as u32
 }
 
+/// Places of blocks of 32 that have neighbours above and left, all of them in a plane, over and over until there are a thousand.
+fn inner_32(width: u32, height: u32) -> impl Iterator<Item = (u32, u32)> {
+    let places: Vec<_> = (1..height / 32).flat_map(|r| (1..width / 32).map(move |c| (32 * r, 32 * c))).collect();
+    let rounds = 1000usize.div_ceil(places.len());
+    (0..rounds).flat_map(move |_| places.clone())
+}
+
 type Fault<C> = fn(&mut C);
 
 const LUMA_FAULTS: &[Fault<Luma>] = &[
@@ -313,6 +320,15 @@ pub fn luma(t: &mut Tally) {
         let (row, col) = (aligned(height, n, &mut random), aligned(width, n, &mut random));
         let plane = any((width * height) as usize, &mut random);
         ask_luma(t, &Luma { bits: random.pick(&DEPTHS), picture, row, col, n, plane });
+    }
+    // blocks of 32 among neighbours, at every CTU that holds one, in a picture of several CTUs
+    for ctu in [32, 64] {
+        for (row, col) in inner_32(200, 168) {
+            let picture = Picture::new(200, 168, ctu, random.pick(&UNITS));
+            let call = Luma { bits: random.pick(&DEPTHS), picture, row, col, n: 32, plane: any(200 * 168, &mut random) };
+            assert_eq!(call.number(), 0);
+            ask_luma(t, &call);
+        }
     }
     let plane = samples(8, 1 << 24, &mut random);
     ask_luma(t, &Luma { bits: 12, picture: Picture::new(4096, 4096, 64, 8), row: 4064, col: 4064, n: 32, plane });
@@ -525,6 +541,16 @@ pub fn chroma(t: &mut Tally) {
         }
         for current in [call.own(), (random.below(sides.1 as u64) as u32, random.below(sides.0 as u64) as u32)] {
             call.current = current;
+            ask_chroma(t, &call);
+        }
+    }
+    // blocks of 32 among neighbours, in every format, in a picture of several CTUs
+    for (format, sides) in [(1, (200, 232)), (2, (200, 168)), (3, (136, 168))] {
+        let whole = place(format, sides, 4, 0, 0, 32, &mut random).sides();
+        for (row, col) in inner_32(whole.0 as u32, whole.1 as u32) {
+            let mut call = place(format, sides, random.pick(&UNITS), row, col, 32, &mut random).filled(&mut random);
+            call.current = call.own();
+            assert_eq!(call.number(), 0);
             ask_chroma(t, &call);
         }
     }

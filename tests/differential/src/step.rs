@@ -4,6 +4,7 @@ use crate::assembled::Job;
 use crate::entries;
 use crate::frame::{Block, Frame};
 use crate::host::Arg::{self, Lent, Number};
+use crate::plan::lists;
 use crate::random::Random;
 use crate::samples::{at_least, bytes, bytes_32, bytes_signed, dirt, dirt_32, largest};
 use crate::table::{self, Picture};
@@ -17,6 +18,8 @@ pub struct Call {
     pub bits: u32,
     pub frame: Frame,
     pub plan: Vec<Block>,
+    /// A slice of the plan's numbers that has so many entries more or less than the others.
+    pub ragged: Option<(usize, isize)>,
     pub source: Vec<u16>,
     pub plane: Vec<u16>,
     pub residuals: Vec<i32>,
@@ -44,7 +47,7 @@ impl Call {
             [1, 0]
         } else if !Picture::new(width, height, ctu, 4).sides_and_ctu() {
             [4, 0]
-        } else if !planes || !table::scratch(refs, indices, fractions) {
+        } else if !planes || !self.is_whole() || !table::scratch(refs, indices, fractions) {
             [5, 0]
         } else if self.walk && self.source.iter().any(|&s| s > largest(self.bits)) {
             [7, 0]
@@ -57,6 +60,19 @@ impl Call {
         } else {
             [0, 0]
         }
+    }
+
+    /// The plan as the four slices that the call over numbers is lent.
+    fn lists(&self) -> [Vec<u32>; 4] {
+        let mut lists = lists(&self.plan);
+        if let Some((k, more)) = self.ragged {
+            lists[k].resize(lists[k].len().saturating_add_signed(more), 8);
+        }
+        lists
+    }
+
+    fn is_whole(&self) -> bool {
+        self.lists().iter().all(|list| list.len() == self.plan.len())
     }
 
     /// What the call gives; the plane and, of a walk, the residuals become what it leaves.
@@ -92,7 +108,8 @@ impl Call {
     /// refused one the scratch too.
     pub fn ask(&mut self, t: &mut Tally, random: &mut Random) -> Step {
         let numbers = [self.done, self.bits, self.frame.width, self.frame.height, self.frame.ctu].map(|v| Number(v as u64));
-        let plan = Slice::new(bytes_32(self.plan.as_flattened()), self.plan.len());
+        let lists = self.lists().map(|list| Slice::new(bytes_32(&list), list.len()));
+        let records = [Slice::new(bytes_32(self.plan.as_flattened()), self.plan.len())];
         let source = Slice::new(bytes(&self.source), self.source.len());
         let plane = Slice::new(bytes(&self.plane), self.plane.len());
         let residuals = Slice::new(bytes_signed(&self.residuals), self.residuals.len());
@@ -107,26 +124,29 @@ impl Call {
         let after =
             [Slice::new(bytes(&self.plane), self.plane.len()), Slice::new(bytes_signed(&self.residuals), self.residuals.len())];
         let (names, lent, left) = if self.walk {
-            (WALK, vec![&plan, &source, &plane, &residuals], vec![&plan, &source, &after[0], &after[1]])
+            (WALK, vec![&source, &plane, &residuals], vec![&source, &after[0], &after[1]])
         } else {
-            (REPLAY, vec![&plan, &residuals, &plane], vec![&plan, &residuals, &after[0]])
+            (REPLAY, vec![&residuals, &plane], vec![&residuals, &after[0]])
         };
         let slices: Vec<Arg> = lent.into_iter().flat_map(Slice::args).collect();
         let grant = [Number(self.grant as u64)];
         let fields = [step.no, step.block, step.did, step.done];
-        let begun = || left.iter().fold(Want::fields(&fields), |want, s| want.then(s.bytes.clone()));
-        let mut want = begun();
+        let begun = |plan: &[Slice]| {
+            plan.iter().chain(left.iter().copied()).fold(Want::fields(&fields), |want, s| want.then(s.bytes.clone()))
+        };
+        let mut want = begun(&lists);
         for table in &tables {
             let open = if step.no == 0 { table.bytes.len() - GUARD.len() } else { 0 };
             want = want.then_past(open, table.bytes.clone());
         }
         let lent: Vec<Arg> = tables.iter().flat_map(Slice::args).collect();
-        t.call(names[0], &[&numbers[..], &slices, &lent, &grant].concat(), want);
-        // over block records the scratch is a struct, whose tables are long enough
-        if table::scratch(refs, indices, fractions) {
+        let plan: Vec<Arg> = lists.iter().flat_map(Slice::args).collect();
+        t.call(names[0], &[&numbers[..], &plan, &slices, &lent, &grant].concat(), want);
+        // over block records the plan is whole, and the scratch a struct whose tables are long enough
+        if self.is_whole() && table::scratch(refs, indices, fractions) {
             let scratch = Slice::new(bytes(&dirt(SCRATCH / 2, random)), 1);
-            let want = begun().then_past(if step.no == 0 { SCRATCH } else { 0 }, scratch.bytes.clone());
-            t.call(names[1], &[&numbers[..], &slices, &[Lent(&scratch.bytes)], &grant].concat(), want);
+            let want = begun(&records).then_past(if step.no == 0 { SCRATCH } else { 0 }, scratch.bytes.clone());
+            t.call(names[1], &[&numbers[..], &records[0].args(), &slices, &[Lent(&scratch.bytes)], &grant].concat(), want);
             if !self.walk {
                 entries::replay(t, &before, self, &step);
             }
