@@ -1,17 +1,18 @@
 /* Replays a still as the camera would: a few blocks a call, with the progress record passed on from call to call, and shows the plane.
+ * Every call checks the whole plan and all residuals before it writes, so grant as many blocks as the time between calls allows.
  *
  *     tests/archive camera
  *     gcc -std=c99 -Iinclude examples/replay.c target/archive/libcamera.a -o target/replay && target/replay
  *
- * The still is document 01's own: 16 by 8 samples of 130, two blocks of 8 by 8 in mode 1. The first block has no neighbour and is predicted
- * at 128, so its residuals are 2; the second is predicted from the first, and its residuals are 0. */
+ * The still is 32 by 16 samples of 130, eight blocks of 8 by 8 in mode 1, four to a CTU of 16. The first block has no neighbour and is
+ * predicted at 128, so its residuals are 2; the others are predicted from blocks before them, and their residuals are 0. */
 #include <stdint.h>
 #include <stdio.h>
 #include <string.h>
 
 #include "salvrunde.h"
 
-enum { WIDTH = 16, HEIGHT = 8, SAMPLES = WIDTH * HEIGHT, BLOCKS = 2, A_FEW = 1 };
+enum { WIDTH = 32, HEIGHT = 16, SAMPLES = WIDTH * HEIGHT, BLOCKS = 8, A_FEW = 3 };
 
 static uint32_t number_at(const uint8_t *bytes) {
     return (uint32_t)bytes[0] | (uint32_t)bytes[1] << 8 | (uint32_t)bytes[2] << 16 | (uint32_t)bytes[3] << 24;
@@ -19,7 +20,8 @@ static uint32_t number_at(const uint8_t *bytes) {
 
 int main(void) {
     /* row, column (two bytes each, the lower first), side, mode */
-    static const uint8_t plan[6 * BLOCKS] = {0, 0, 0, 0, 8, 1, 0, 0, 8, 0, 8, 1};
+    static const uint8_t plan[6 * BLOCKS] = {0, 0, 0,  0, 8, 1, 0, 0, 8,  0, 8, 1, 8, 0, 0,  0, 8, 1, 8, 0, 8,  0, 8, 1,
+                                             0, 0, 16, 0, 8, 1, 0, 0, 24, 0, 8, 1, 8, 0, 16, 0, 8, 1, 8, 0, 24, 0, 8, 1};
     static uint8_t residuals[4 * SAMPLES], plane[2 * SAMPLES];
     uint8_t result[8];
     uint32_t done = 0;

@@ -2,11 +2,13 @@
  *
  * Every entry takes numbers and byte buffers, keeps nothing between calls, allocates nothing and makes its own scratch.
  *
- * Samples are two bytes each, residuals four (two's complement), the lowest byte first, whatever the processor. A buffer is a pointer and its length in bytes. No pointer
- * may be null, the bytes must be there, and a buffer that is written must share no byte with another buffer of the same call.
+ * Samples are two bytes each, residuals four (two's complement), the lowest byte first, whatever the processor. A buffer is a pointer and
+ * its length in bytes. No pointer may be null, the bytes must be there, and a buffer that is written must share no byte with another
+ * buffer of the same call.
  *
  * Every entry gives back a number, below. Checks are made in the order that the entry's comment names; the first that fails counts.
- * A call that is refused writes nothing, but for the replay's result. A call that is served writes what its comment says; bytes beyond stay as they were. */
+ * A call that is refused writes nothing, but for the replay's result. A call that is served writes what its comment says; bytes beyond
+ * stay as they were. */
 #ifndef SALVRUNDE_H
 #define SALVRUNDE_H
 
@@ -68,17 +70,20 @@ uint32_t salvrunde_chroma_refs(uint32_t bits, uint32_t format, uint32_t luma_wid
                                const uint8_t *cr, size_t cr_bytes, uint8_t *out, size_t out_bytes);
 
 /* Prediction: above and left have at least SALVRUNDE_ROW_BYTES each; out has at least SALVRUNDE_BLOCK_BYTES(n), which are written, the
- * block's samples row by row. edge: not 0 where edges are to be filtered, as for luma; a block of side 32 has no filtered edge. */
+ * block's samples row by row. edge: not 0 where edges are to be filtered, as for luma; a block of side 32 has no filtered edge.
+ * Rows are taken as they are: no entry smooths them. A luma block is predicted from smoothed rows where H.265 8.4.4.2.3 says so (never for
+ * DC or n = 4), and smoothing is the caller's: rows of salvrunde_luma_refs handed on as they are give another block than the replay
+ * predicts, for most modes from n = 8 on. Chroma of 4:2:0 and 4:2:2 is never smoothed. */
 
-/* Planar. Numbers 2, 5. */
+/* Planar, from rows as they are. Numbers 2, 5. */
 uint32_t salvrunde_planar(uint32_t n, const uint8_t *above, size_t above_bytes, const uint8_t *left, size_t left_bytes, uint8_t *out,
                           size_t out_bytes);
 
-/* DC. Numbers 2, 5. */
+/* DC, from rows as they are; H.265 smooths none for DC. Numbers 2, 5. */
 uint32_t salvrunde_dc(uint32_t n, uint32_t edge, const uint8_t *above, size_t above_bytes, const uint8_t *left, size_t left_bytes,
                       uint8_t *out, size_t out_bytes);
 
-/* An angular mode, 2 to 34. Numbers 1, 2, 3, 5. */
+/* An angular mode, 2 to 34, from rows as they are. Numbers 1, 2, 3, 5. */
 uint32_t salvrunde_angular(uint32_t bits, uint32_t n, uint32_t mode, uint32_t edge, uint16_t corner, const uint8_t *above,
                            size_t above_bytes, const uint8_t *left, size_t left_bytes, uint8_t *out, size_t out_bytes);
 
@@ -86,13 +91,16 @@ uint32_t salvrunde_angular(uint32_t bits, uint32_t n, uint32_t mode, uint32_t ed
 uint32_t salvrunde_chroma_block(uint32_t bits, uint32_t n, uint32_t mode, uint16_t corner, const uint8_t *above, size_t above_bytes,
                                 const uint8_t *left, size_t left_bytes, uint8_t *out, size_t out_bytes);
 
-/* Decodes the next blocks of a still from their residuals, as many as are granted, in the plane's own bytes; other samples stay as they are.
+/* Decodes the next blocks of a still from their residuals, as many as are granted, in the plane's own bytes; other samples stay as they
+ * are.
  * done: the progress record, the number of blocks done, 0 at the start. grant: the most blocks that this call may do; 0 does nothing.
  * plan: SALVRUNDE_RECORD_BYTES for each block, in the order of decoding; together they cover the picture. residuals: exactly
  * 4 * width * height bytes, blocks one after the other in the plan's order, each row by row. plane: exactly 2 * width * height bytes.
  * result: at least SALVRUNDE_RESULT_BYTES, which are written: 0 and the next progress record; where the call is refused, the list number of
  * the block that number 2, 3, 6 or 9 is about (else 0) and `done` as it was given. A shorter result is number 5 and stays as it is.
- * Every call checks everything before it writes: numbers 1, 4, 5, 8, then each block by 2, 3, 6, 9, then 10, then 11. */
+ * Every call checks everything before it writes: numbers 1, 4, 5, 8, then each block by 2, 3, 6, 9, then 10, then 11. That takes about a
+ * tenth of the time of replaying the whole still, whatever the grant: 640 by 480 samples in blocks of 4, one block a call,
+ * take some two thousand times as long as in one call. Grant as many blocks as the time between calls allows. */
 uint32_t salvrunde_replay(uint32_t done, uint32_t bits, uint32_t width, uint32_t height, uint32_t ctu, uint32_t grant, const uint8_t *plan,
                           size_t plan_bytes, const uint8_t *residuals, size_t residuals_bytes, uint8_t *plane, size_t plane_bytes,
                           uint8_t *result, size_t result_bytes);

@@ -9,7 +9,7 @@
 
 #include "salvrunde.h"
 
-/* The doors, as crates probes, predict_probes and walk_probes export them: a slice is a pointer and a count of elements, and an answer of more than two words is
+/* The doors, as crate probes exports them: a slice is a pointer and a count of elements, and an answer of more than two words is
  * written where a first argument points, which comes back. */
 struct references { uint32_t no; uint16_t corner, above[65], left[65]; };
 struct pair_references { uint32_t no; struct { uint16_t corner, above[65], left[65]; } planes[2]; };
@@ -30,7 +30,8 @@ uint32_t salvrunde_probe_predict_chroma_tb_slices(uint8_t mode, uint16_t corner,
     const uint16_t *left, size_t left_length, size_t n, uint32_t bits, uint16_t *pred, size_t pred_length, uint16_t *refs,
     size_t refs_length, uint32_t *indices, size_t indices_length, uint32_t *fractions, size_t fractions_length);
 struct step salvrunde_probe_replay(uint32_t done, uint32_t bits, uint32_t width, uint32_t height, uint32_t ctu,
-    const uint32_t (*plan)[4], size_t plan_length, const int32_t *residuals, size_t residuals_length, uint16_t *plane,
+    const uint32_t *rows, size_t rows_length, const uint32_t *cols, size_t cols_length, const uint32_t *sides, size_t sides_length,
+    const uint32_t *modes, size_t modes_length, const int32_t *residuals, size_t residuals_length, uint16_t *plane,
     size_t plane_length, uint16_t *refs, size_t refs_length, uint32_t *indices, size_t indices_length, uint32_t *fractions,
     size_t fractions_length, uint32_t grant);
 
@@ -278,19 +279,20 @@ static void replay(void) {
         spell4(r.bytes + 4 * i, (uint32_t)v);
     }
     memcpy(r.before, r.bytes, r.length);
-    uint32_t (*plan)[4] = calloc(l.length / 6 + 1, sizeof *plan);
+    size_t count = l.length / 6;
+    uint32_t *rows = calloc(4 * count + 4, sizeof *rows), *cols = rows + count + 1, *sides = cols + count + 1, *modes = sides + count + 1;
     int32_t *residuals = calloc(samples + 1, sizeof *residuals);
     uint16_t *plane = decoded(&d, samples);
     uint8_t *bytes = calloc(2 * samples + 1, 1), result[8];
-    if (!plan || !residuals || !bytes) exit(2);
-    for (size_t i = 0; i < l.length / 6; i++) {
+    if (!rows || !residuals || !bytes) exit(2);
+    for (size_t i = 0; i < count; i++) {
         const uint8_t *at = l.bytes + 6 * i;
-        plan[i][0] = at[0] | at[1] << 8, plan[i][1] = at[2] | at[3] << 8, plan[i][2] = at[4], plan[i][3] = at[5];
+        rows[i] = at[0] | at[1] << 8, cols[i] = at[2] | at[3] << 8, sides[i] = at[4], modes[i] = at[5];
     }
     for (size_t i = 0; i < samples && 4 * i + 3 < r.length; i++) residuals[i] = residual(&r, i);
     int fits = l.length % 6 == 0 && r.length == 4 * samples && d.length == 2 * samples && o.length >= 8;
-    struct step door = salvrunde_probe_replay(done, bits, width, height, ctu, plan, l.length / 6, residuals, samples, plane, samples,
-        refs, REFS, indices, TABLE, fractions, TABLE, grant);
+    struct step door = salvrunde_probe_replay(done, bits, width, height, ctu, rows, count, cols, count, sides, count, modes, count,
+        residuals, samples, plane, samples, refs, REFS, indices, TABLE, fractions, TABLE, grant);
     no = salvrunde_replay(done, bits, width, height, ctu, grant, l.bytes, l.length, r.bytes, r.length, d.bytes, d.length, o.bytes, o.length);
     calls++;
     wanted = door.no == 1 || door.no == 4 || fits ? door.no : 5;
@@ -300,7 +302,7 @@ static void replay(void) {
     check("replay", &l, NULL, 0), check("replay", &r, NULL, 0);
     check("replay", &d, bytes, no ? 0 : 2 * samples), check("replay", &o, result, o.length >= 8 ? 8 : 0);
     served += no == 0;
-    free(plan), free(residuals), free(plane), free(bytes), give_back(&l), give_back(&r), give_back(&d), give_back(&o);
+    free(rows), free(residuals), free(plane), free(bytes), give_back(&l), give_back(&r), give_back(&d), give_back(&o);
 }
 
 /* entries TURNS LAYOUT: `guarded` or `exact` */

@@ -10,7 +10,7 @@ typedef unsigned long word;
 enum { WIDTH = 64, HEIGHT = 64, SAMPLES = WIDTH * HEIGHT, DEEP = 64 * 1024, PAINT = 0xA5 };
 
 static uint8_t plane[2 * SAMPLES], other[2 * SAMPLES], residuals[4 * SAMPLES], rows[524], above[130], left[130], block[2048], result[8];
-static uint8_t plan[6 * 4];
+static uint8_t plan[6 * 256];
 
 static long system_call(long number, long a, long b, long c) {
     long r;
@@ -31,19 +31,30 @@ static void say_number(word v) {
     say(digits + at);
 }
 
-static uint32_t nothing(void) { return 0; }
-static uint32_t luma(void) { return salvrunde_luma_refs(8, WIDTH, HEIGHT, 64, 4, 32, 32, 32, plane, sizeof plane, rows, sizeof rows); }
-static uint32_t chroma(void) {
-    return salvrunde_chroma_refs(8, 3, WIDTH, HEIGHT, 4, 32, 32, 32, 32, 32, plane, sizeof plane, other, sizeof other, rows, sizeof rows);
-}
 static uint32_t side, mode;
+static uint32_t nothing(void) { return 0; }
+static uint32_t luma(void) { return salvrunde_luma_refs(8, WIDTH, HEIGHT, 64, 4, 32, 32, side, plane, sizeof plane, rows, sizeof rows); }
+static uint32_t chroma(void) {
+    return salvrunde_chroma_refs(8, 3, WIDTH, HEIGHT, 4, 32, 32, side, 32, 32, plane, sizeof plane, other, sizeof other, rows, sizeof rows);
+}
 static uint32_t planar(void) { return salvrunde_planar(side, above, 130, left, 130, block, sizeof block); }
 static uint32_t dc(void) { return salvrunde_dc(side, 1, above, 130, left, 130, block, sizeof block); }
 static uint32_t angular(void) { return salvrunde_angular(8, side, mode, 1, 7, above, 130, left, 130, block, sizeof block); }
 static uint32_t chroma_block(void) { return salvrunde_chroma_block(8, side, mode, 7, above, 130, left, 130, block, sizeof block); }
 static uint32_t replay(void) {
-    for (int i = 0; i < 4; i++) plan[6 * i + 5] = (uint8_t)mode;
-    return salvrunde_replay(0, 8, WIDTH, HEIGHT, 64, 4, plan, sizeof plan, residuals, sizeof residuals, plane, sizeof plane, result, sizeof result);
+    uint32_t count = WIDTH / side * (HEIGHT / side);
+    return salvrunde_replay(0, 8, WIDTH, HEIGHT, 64, count, plan, 6 * count, residuals, sizeof residuals, plane, sizeof plane, result,
+                            sizeof result);
+}
+
+/* The plan of one CTU in blocks of `side`, all of one mode: block i lies where the bits of i say, column bit below row bit. */
+static void lay_plan(void) {
+    for (uint32_t i = 0; i < WIDTH / side * (HEIGHT / side); i++) {
+        uint32_t row = 0, col = 0;
+        for (uint32_t k = 0; k < 4; k++) col |= (i >> 2 * k & 1) << k, row |= (i >> (2 * k + 1) & 1) << k;
+        plan[6 * i] = (uint8_t)(row * side), plan[6 * i + 2] = (uint8_t)(col * side);
+        plan[6 * i + 4] = (uint8_t)side, plan[6 * i + 5] = (uint8_t)mode;
+    }
 }
 
 /* The bytes below this call's own frame that a call changed. */
@@ -60,10 +71,12 @@ static __attribute__((noinline)) word used(uint32_t (*call)(void)) {
 
 static int over;
 
-static void tell(const char *name, uint32_t (*call)(void), uint32_t modes, word most) {
+/* The greatest over every side and the modes from `first` to `last`. */
+static void tell(const char *name, uint32_t (*call)(void), uint32_t first, uint32_t last, word most) {
     word least = used(nothing), greatest = 0;
     for (side = 4; side <= 32; side *= 2)
-        for (mode = modes > 1 ? 2 : 0; mode < 2 + modes; mode++) {
+        for (mode = first; mode <= last; mode++) {
+            lay_plan();
             word depth = used(call) - least;
             if (depth > greatest) greatest = depth;
         }
@@ -72,14 +85,13 @@ static void tell(const char *name, uint32_t (*call)(void), uint32_t modes, word 
 }
 
 int main(void) {
-    for (int i = 0; i < 4; i++) plan[6 * i] = (uint8_t)(i / 2 * 32), plan[6 * i + 2] = (uint8_t)(i % 2 * 32), plan[6 * i + 4] = 32;
     for (word i = 0; i < sizeof plane; i++) plane[i] = other[i] = (uint8_t)(i * 7);
-    tell("luma_refs", luma, 0, 6144);
-    tell("chroma_refs", chroma, 0, 6144);
-    tell("planar", planar, 0, 6144);
-    tell("dc", dc, 0, 6144);
-    tell("angular", angular, 33, 6144);
-    tell("chroma_block", chroma_block, 33, 6144);
-    tell("replay", replay, 33, 8192);
+    tell("luma_refs", luma, 0, 0, 6144);
+    tell("chroma_refs", chroma, 0, 0, 6144);
+    tell("planar", planar, 0, 0, 6144);
+    tell("dc", dc, 1, 1, 6144);
+    tell("angular", angular, 2, 34, 6144);
+    tell("chroma_block", chroma_block, 0, 34, 6144);
+    tell("replay", replay, 0, 34, 8192);
     return over;
 }
