@@ -1,8 +1,9 @@
-//! The entries of crates probes, predict_probes and walk_probes as C sees them on x86-64: a slice is its address and its length, and a result of more than two
+//! The entries of crate probes as C sees them on x86-64: a slice is its address and its length, and a result of more than two
 //! words is written where a first argument says, which comes back. Said so, it holds wherever the module is compiled for.
 
 /// A call's number, and two rows.
 #[repr(C)]
+#[derive(PartialEq)]
 pub struct TwoRows {
     pub no: u32,
     pub above: [u16; 65],
@@ -11,6 +12,7 @@ pub struct TwoRows {
 
 /// A call's number, and the corner and two rows.
 #[repr(C)]
+#[derive(PartialEq)]
 pub struct References {
     pub no: u32,
     pub rows: PlaneRows,
@@ -18,13 +20,14 @@ pub struct References {
 
 /// A call's number, and the rows of Cb and of Cr.
 #[repr(C)]
+#[derive(PartialEq)]
 pub struct ReferencePair {
     pub no: u32,
     pub planes: [PlaneRows; 2],
 }
 
 #[repr(C)]
-#[derive(Clone, Copy)]
+#[derive(Clone, Copy, PartialEq)]
 pub struct PlaneRows {
     pub corner: u16,
     pub above: [u16; 65],
@@ -42,11 +45,28 @@ impl PlaneRows {
 
 /// What a call of walk or replay gives: its number and the block that it is about, how many blocks it did, how many are done.
 #[repr(C)]
+#[derive(Debug, PartialEq)]
 pub struct Step {
     pub no: u32,
     pub block: u32,
     pub did: u32,
     pub done: u32,
+}
+
+/// A call's number, and its value.
+#[repr(C)]
+#[derive(Debug, PartialEq)]
+pub struct Answer {
+    pub no: u32,
+    pub value: u32,
+}
+
+/// A plan's number, and the block that it is about.
+#[repr(C)]
+#[derive(Debug, PartialEq)]
+pub struct PlanAnswer {
+    pub no: u32,
+    pub block: u32,
 }
 
 unsafe extern "C" {
@@ -190,8 +210,14 @@ unsafe extern "C" {
         width: u32,
         height: u32,
         ctu: u32,
-        plan: *const [u32; 4],
-        plan_len: usize,
+        rows: *const u32,
+        rows_len: usize,
+        cols: *const u32,
+        cols_len: usize,
+        sides: *const u32,
+        sides_len: usize,
+        modes: *const u32,
+        modes_len: usize,
         source: *const u16,
         source_len: usize,
         work: *mut u16,
@@ -213,8 +239,14 @@ unsafe extern "C" {
         width: u32,
         height: u32,
         ctu: u32,
-        plan: *const [u32; 4],
-        plan_len: usize,
+        rows: *const u32,
+        rows_len: usize,
+        cols: *const u32,
+        cols_len: usize,
+        sides: *const u32,
+        sides_len: usize,
+        modes: *const u32,
+        modes_len: usize,
         residuals: *const i32,
         residuals_len: usize,
         plane: *mut u16,

@@ -4,9 +4,13 @@
 //! Either side costs one call that is not inlined: the Rust's function itself, through a pointer that the compiler cannot see
 //! through, and the entry with the whole door behind it. Functions that take rows are also timed built into one that knows the
 //! rows' lengths, and the better of both counts for the Rust. Buffers are lent again and again and not cleared between calls. Both sides' answers are compared
-//! before they are timed. `bench bytes` times the entries on bytes alone; `bench modes` adds a line for every angular mode and side.
+//! before they are timed. `bench against`, where the driver was built with another commit's
+//! archives too, times the entries of both; `bench bytes` times the entries on bytes alone; `bench modes` adds a line for every angular mode and side.
 //!
 //! A subject whose entries the probes do not have yet is left out; see build.rs.
+#![cfg_attr(against, allow(clashing_extern_declarations))] // the list of both sides' entries declares them without their arguments
+#[cfg(against)]
+mod against;
 #[cfg(entry = "predict_angular_slices")]
 mod angular;
 #[cfg(all(entry = "walk", entry = "replay"))]
@@ -92,6 +96,10 @@ const MISSING: &[&str] = &[
 ];
 
 fn main() {
+    #[cfg(against)]
+    if std::env::args().any(|word| word == "against") {
+        return against::time();
+    }
     let mut table = Table::new(std::env::args().any(|word| word == "modes"));
     let chosen = if std::env::args().any(|word| word == "bytes") { &SUBJECTS[SUBJECTS.len() - 1..] } else { SUBJECTS };
     for subject in chosen {

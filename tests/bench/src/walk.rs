@@ -14,7 +14,7 @@ const GROWING: [usize; 4] = [64, 256, 1024, 4096];
 
 /// A plan with as many samples in blocks of each side as of any other: a quarter of each CTU has blocks of one side, which changes
 /// from CTU to CTU. The blocks of a side have all modes in turn.
-fn mixed_plan(frame: Frame) -> Vec<Block> {
+pub fn mixed_plan(frame: Frame) -> Vec<Block> {
     let (mut plan, mut sides, mut turn) = (Vec::new(), [32, 16, 8, 4], [0; 4]);
     for (row, col) in frame.ctus() {
         for ((r, c), side) in quarters(row, col, frame.ctu).into_iter().zip(sides) {
@@ -35,6 +35,8 @@ fn mixed_plan(frame: Frame) -> Vec<Block> {
 pub struct Still {
     pub frame: Frame,
     pub plan: Vec<Block>,
+    /// The plan as rows, columns, sides and modes.
+    lists: [Vec<u32>; 4],
     pub source: Vec<u16>,
     pub work: Vec<u16>,
     pub residuals: Vec<i32>,
@@ -49,7 +51,8 @@ impl Still {
         let frame = Frame { width: width as u32, height: height as u32, ctu: 64 };
         let (plan, source) = (mixed_plan(frame), plane(&mut random, width * height, BITS));
         let (work, residuals) = (vec![0; source.len()], vec![0; source.len()]);
-        Still { frame, plan, source, work, residuals, refs: [0; 193], indices: [0; 32], fractions: [0; 32] }
+        let lists = [0, 1, 2, 3].map(|field| plan.iter().map(|b| b[field]).collect());
+        Still { frame, plan, lists, source, work, residuals, refs: [0; 193], indices: [0; 32], fractions: [0; 32] }
     }
 
     fn job(&self) -> Job<'_> {
@@ -66,8 +69,14 @@ impl Still {
                 width,
                 height,
                 ctu,
-                self.plan.as_ptr(),
-                self.plan.len(),
+                self.lists[0].as_ptr(),
+                self.lists[0].len(),
+                self.lists[1].as_ptr(),
+                self.lists[1].len(),
+                self.lists[2].as_ptr(),
+                self.lists[2].len(),
+                self.lists[3].as_ptr(),
+                self.lists[3].len(),
                 self.source.as_ptr(),
                 self.source.len(),
                 self.work.as_mut_ptr(),
@@ -95,8 +104,14 @@ impl Still {
                 width,
                 height,
                 ctu,
-                self.plan.as_ptr(),
-                self.plan.len(),
+                self.lists[0].as_ptr(),
+                self.lists[0].len(),
+                self.lists[1].as_ptr(),
+                self.lists[1].len(),
+                self.lists[2].as_ptr(),
+                self.lists[2].len(),
+                self.lists[3].as_ptr(),
+                self.lists[3].len(),
                 self.residuals.as_ptr(),
                 self.residuals.len(),
                 self.work.as_mut_ptr(),
