@@ -37,6 +37,11 @@ pub mod reach {
     ) -> (u16, [u16; 65], [u16; 65]) {
         super::substitute_refs(corner, above, left, avail_corner, avail_above, avail_left, ext, neutral)
     }
+
+    /// What the scratch holds: references, indices, fractions.
+    pub fn tables(scratch: &super::AngularScratch) -> [&[i32]; 3] {
+        [&scratch.refs, &scratch.indices, &scratch.fractions]
+    }
 }
 "#;
 

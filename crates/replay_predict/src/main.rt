@@ -14,6 +14,7 @@ use domain::rows::Rows;
 use listing::Count;
 use predict::angular;
 use predict::planar_dc;
+use predict::scratch::AngularScratch;
 
 // What a line gives a call, and the number and the value that it wants.
 struct Call {
@@ -225,7 +226,31 @@ fn luma_block_same(line: &[u8], call: Call) -> bool {
     (no == call.no) & same(line, &pred, call)
 }
 
-// Whether a door gives what the line has. Kinds 1 to 10; others never do.
+// Whether the line has this table, of so many entries.
+fn table_same(line: &[u8], table: [u32; 32], call: Call) -> bool {
+    let mut all = call.value == 32;
+    for i in 0..32u32 {
+        all = all & (listing::word(line, 11 + i) == table[i as usize]);
+    }
+    all
+}
+
+// A new scratch: mode 0 is its references, 1 its indices, 2 its fractions; the value is how many entries the table has.
+fn scratch_same(line: &[u8], call: Call) -> bool {
+    let scratch = AngularScratch::new();
+    let refs = scratch.refs;
+    let indices = scratch.indices;
+    let fractions = scratch.fractions;
+    let mode = call.mode;
+    match mode {
+        0 => (call.value == 193) & same(line, &refs, call),
+        1 => table_same(line, indices, call),
+        2 => table_same(line, fractions, call),
+        _ => false,
+    }
+}
+
+// Whether a door gives what the line has. Kinds 1 to 11; others never do.
 fn agrees(line: &[u8], kind: u32) -> bool {
     let call = call_of(line);
     let above = listing::row(call.seed, call.top);
@@ -242,6 +267,7 @@ fn agrees(line: &[u8], kind: u32) -> bool {
         8 => rebuilt_same(line, call),
         9 => chroma_block_same(line, call, &above, left),
         10 => luma_block_same(line, call),
+        11 => scratch_same(line, call),
         _ => false,
     }
 }

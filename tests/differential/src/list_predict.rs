@@ -2,7 +2,7 @@
 //! program replays with no Rust at hand. crates/replay_predict/src/main.rt says how a line is read and what a seed gives.
 use crate::block::Block;
 use crate::list::{comment_of, line_of};
-use crate::oracle::intra::AngularScratch;
+use crate::oracle::intra::{AngularScratch, reach};
 use crate::predict::{Angular, Flat};
 use crate::random::Random;
 use crate::residual::{rebuilt_answer, residual_answer};
@@ -103,6 +103,13 @@ impl Call {
                 let (first, residual) = residual_answer(&orig, &pred, rows.n, &[0; 1024]);
                 let (no, after) = rebuilt_answer(&pred, &residual, rows.n, self.bits, &[DIRT; 1024]);
                 (no, first, wide(&after))
+            }
+            11 => {
+                let scratch = AngularScratch::new();
+                let table = reach::tables(&scratch)[self.mode as usize];
+                let mut entries: Vec<u32> = table.iter().map(|&v| v as u32).collect();
+                entries.resize(table.len().next_multiple_of(WINDOW), 0);
+                (0, table.len() as u32, entries)
             }
             _ => {
                 let (no, after) = self.block(rows).answer(true, &mut AngularScratch::new());
@@ -277,6 +284,12 @@ pub fn write() {
         .expect("some seed's rows are straight");
     for mode in [0, 2, 18, 34] {
         list += &Call { mode, ..strong }.lines(&[0, 992]);
+    }
+    list += &comment(
+        "11: a new scratch; mode 0 is its references, 1 its indices, 2 its fractions; the value is how many entries they are",
+    );
+    for (mode, places) in [(0, &[0, 32, 64, 96, 128, 160, 192][..]), (1, &[0]), (2, &[0])] {
+        list += &Call { kind: 11, n: 0, mode, edge: false, bits: 0, seed: 0, top: 0, entries: 65 }.lines(places);
     }
     let lines = list.lines().filter(|l| !l.starts_with('#')).count();
     let folder = concat!(env!("CARGO_MANIFEST_DIR"), "/../../crates/replay_predict");

@@ -75,6 +75,9 @@ chroma-block-same-requires c κs = search needs
 luma-block-same-requires : tie.Need-luma-block-same-requires
 luma-block-same-requires c κs = search needs
 
+scratch-same-requires : tie.Need-scratch-same-requires
+scratch-same-requires c κs = search needs
+
 returns : tie.Need-returns
 returns c = search needs
 
@@ -108,6 +111,9 @@ returns-10 c = search needs
 returns-11 : tie.Need-returns-11
 returns-11 c = search needs
 
+returns-12 : tie.Need-returns-12
+returns-12 c = search needs
+
 pub agrees-spec : {M : Type 1} → statement M
 agrees-spec =
     tie.close
@@ -135,6 +141,7 @@ agrees-spec =
     slice-aggregate-chroma-block-same
     chroma-block-same-requires
     luma-block-same-requires
+    scratch-same-requires
     returns
     returns-2
     returns-3
@@ -145,4 +152,5 @@ agrees-spec =
     returns-8
     returns-9
     returns-10
-    returns-11)
+    returns-11
+    returns-12)
