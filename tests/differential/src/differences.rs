@@ -73,6 +73,32 @@ pub fn prediction(t: &mut Tally) {
     }));
     ask(t, 0, &[4; 129], &[4; 129], 64, &[8]);
 
+    // smoothing at side 4, where the standard never smooths; and the strong form, which its flag at 0 forbids: then the ordinary
+    // form is taken, which leaves these rows as they are up to entry 62
+    let flat = ([0; 65], [0; 65]);
+    assert_eq!(intra::filter_luma_refs(4, &flat.0, &flat.1, 4, 8).1[0], 1);
+    assert!(!intra::should_filter_refs(2, 4));
+    ask(t, 4, &flat.0, &flat.1, 4, &[8]);
+    let mut row = [0; 65];
+    row[63] = 1;
+    let (strong, ordinary) = (intra::filter_luma_refs(0, &row, &row, 32, 8).1, intra::filter_references(0, &row, &row, 32).0);
+    assert_eq!((strong[30], strong[31], ordinary[31], ordinary[62]), (0, 1, 0, 0));
+    ask(t, 0, &row, &row, 32, &[8]);
+
+    // the scratch: the Rust leaves indices and fractions there
+    let mut scratch = AngularScratch::new();
+    intra::predict_angular_into(0, &[0; 65], &[0; 65], 4, 3, false, 255, &mut [0; 16], &mut scratch);
+    let [_, indices, fractions] = intra::reach::tables(&scratch);
+    assert_eq!((&indices[..4], &fractions[..4]), (&[0, 1, 2, 3][..], &[26, 20, 14, 8][..]));
+
+    // reconstruction: the Rust trusts the largest sample that it is told; the port has the depth's
+    let mut out = [0; 16];
+    intra::reconstruct_into(&[250; 16], &[10; 16], 4, 1023, &mut out);
+    assert_eq!(out[0], 260);
+    intra::reconstruct_into(&[250; 16], &[10; 16], 4, 255, &mut out);
+    assert_eq!(out[0], 255);
+    ask_rebuilt(t, &[250; 16], &[10; 16], 4, 8, &[7; 16]);
+
     // reconstruction: the Rust adds any residual, and past the range of i32 the sum wraps round or panics
     let mut out = [0; 16];
     let mut residual = [0; 16];

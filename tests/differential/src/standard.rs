@@ -170,14 +170,14 @@ fn chroma(t: &mut Tally) {
     let left = [4, 12, 20, 28, 28, 28, 28, 28];
     assert_eq!(chroma_entries(&call, 0, 64), (4, vec![4; 8], left.to_vec()));
     ask_chroma(t, &call);
-    // the lower block of 4:2:2 with the upper one's place as the current one: above[4] to above[7] are missing
-    let mut call = chroma_call(2, (16, 16), 8, (8, 0), 8);
+    // the lower block of 4:2:2 with the upper one's place as the current one: above[2] and above[3] are missing
+    let mut call = chroma_call(2, (8, 8), 4, (4, 0), 4);
     assert_eq!(apart(&call, 64), 0);
     ask_chroma(t, &call);
     call.current = (0, 0);
     let (rows, standard) = (call.answer().1[0], chroma_entries(&call, 0, 64));
-    assert_eq!(rows.1[..8], [57, 58, 59, 60, 60, 60, 60, 60]);
-    assert_eq!(standard.1[..8], [57, 58, 59, 60, 61, 62, 63, 64]);
+    assert_eq!(rows.1[..8], [13, 14, 14, 14, 14, 14, 14, 14]);
+    assert_eq!(standard.1[..8], [13, 14, 15, 16, 16, 16, 16, 16]);
     ask_chroma(t, &call);
     // a picture of CTU 16: order is counted in CTUs of 64 all the same, and four entries of the left column are taken that
     // come later
