@@ -1,35 +1,51 @@
 -- 8.4.4.2.6, prediction in the angular modes 2 to 34. Assumes nothing.
 use Prim.Native.Nat.{ℕ, _+_, _-_, _*_}
 use mathlib.Core.Bool.{Bool, cond, _&&_}
-use mathlib.Core.List.{[], _∷_}
+use mathlib.Core.List.{List, [], _∷_}
 use lib.Dec.{leb, ltb, eqb}
-use lib.ListN.{getD}
-use lib.IntN.{ℤ, pos, negsuc, negℤ, _+ℤ_, _-ℤ_, _*ℤ_}
+use lib.IntN.{ℤ, pos, negℤ, _+ℤ_, _-ℤ_, _*ℤ_}
 use lib.Signed.{ltZ, leZ}
-use Rattle.h265.specs.Notation.{Neighbours, near, _>>_, _>>ℕ_, low5, clip1}
+use Rattle.h265.specs.Notation.{−1, Neighbours, near, _⟦_⟧⟦_⟧, _>>_, _>>ℕ_, low5, clip1}
 
--- Table 8-4, intraPredAngle by mode; the first two are no angular modes
-abbrev pub intraPredAngle : ℕ → ℤ
-intraPredAngle mode =
-    getD
-    (pos 0 ∷ pos 0 ∷ pos 32 ∷ pos 26 ∷ pos 21 ∷ pos 17 ∷ pos 13 ∷ pos 9 ∷ pos 5 ∷ pos 2 ∷ pos 0 ∷ negℤ (pos 2) ∷ negℤ (pos 5) ∷ negℤ (pos 9) ∷ negℤ (pos 13) ∷ negℤ (pos 17) ∷ negℤ (pos 21) ∷ negℤ (pos 26) ∷ negℤ (pos 32) ∷ negℤ (pos 26) ∷ negℤ (pos 21) ∷ negℤ (pos 17) ∷ negℤ (pos 13) ∷ negℤ (pos 9) ∷ negℤ (pos 5) ∷ negℤ (pos 2) ∷ pos 0 ∷ pos 2 ∷ pos 5 ∷ pos 9 ∷ pos 13 ∷ pos 17 ∷ pos 21 ∷ pos 26 ∷ pos 32 ∷ [])
-    mode (pos 0)
+-- an entry of a table: a mode and its angle, or a mode and an angle below 0
+infix 80 _⇒_ _⇒−_
+abbrev _⇒_ : ℕ → ℕ → ℕ × ℤ
+mode ⇒ angle = (mode, pos angle)
 
--- Table 8-5, invAngle by mode; 0 where there is none
-abbrev pub invAngle : ℕ → ℤ
-invAngle mode =
-    getD
-    (pos 0 ∷ pos 0 ∷ pos 0 ∷ pos 0 ∷ pos 0 ∷ pos 0 ∷ pos 0 ∷ pos 0 ∷ pos 0 ∷ pos 0 ∷ pos 0 ∷ negℤ (pos 4096) ∷ negℤ (pos 1638) ∷ negℤ (pos 910) ∷ negℤ (pos 630) ∷ negℤ (pos 482) ∷ negℤ (pos 390) ∷ negℤ (pos 315) ∷ negℤ (pos 256) ∷ negℤ (pos 315) ∷ negℤ (pos 390) ∷ negℤ (pos 482) ∷ negℤ (pos 630) ∷ negℤ (pos 910) ∷ negℤ (pos 1638) ∷ negℤ (pos 4096) ∷ pos 0 ∷ pos 0 ∷ pos 0 ∷ pos 0 ∷ pos 0 ∷ pos 0 ∷ pos 0 ∷ pos 0 ∷ pos 0 ∷ [])
-    mode (pos 0)
+abbrev _⇒−_ : ℕ → ℕ → ℕ × ℤ
+mode ⇒− angle = (mode, negℤ (pos angle))
+
+-- the angle that a table has for a mode; 0 where it has none
+abbrev lookUp : List (ℕ × ℤ) → ℕ → ℤ
+lookUp [] mode = pos 0
+lookUp (entry ∷ table) mode = cond (eqb mode (entry .0)) (entry .1) (lookUp table mode)
+
+-- Table 8-4
+unfoldable pub intraPredAngle : ℕ → ℤ
+intraPredAngle =
+    lookUp
+    (2 ⇒ 32 ∷ 3 ⇒ 26 ∷ 4 ⇒ 21 ∷ 5 ⇒ 17 ∷ 6 ⇒ 13 ∷ 7 ⇒ 9 ∷ 8 ⇒ 5 ∷ 9 ⇒ 2
+    ∷ 10 ⇒ 0 ∷ 11 ⇒− 2 ∷ 12 ⇒− 5 ∷ 13 ⇒− 9 ∷ 14 ⇒− 13 ∷ 15 ⇒− 17 ∷ 16 ⇒− 21 ∷ 17 ⇒− 26
+    ∷ 18 ⇒− 32 ∷ 19 ⇒− 26 ∷ 20 ⇒− 21 ∷ 21 ⇒− 17 ∷ 22 ⇒− 13 ∷ 23 ⇒− 9 ∷ 24 ⇒− 5 ∷ 25 ⇒− 2
+    ∷ 26 ⇒ 0 ∷ 27 ⇒ 2 ∷ 28 ⇒ 5 ∷ 29 ⇒ 9 ∷ 30 ⇒ 13 ∷ 31 ⇒ 17 ∷ 32 ⇒ 21 ∷ 33 ⇒ 26 ∷ 34 ⇒ 32
+    ∷ [])
+
+-- Table 8-5
+unfoldable pub invAngle : ℕ → ℤ
+invAngle =
+    lookUp
+    (11 ⇒− 4096 ∷ 12 ⇒− 1638 ∷ 13 ⇒− 910 ∷ 14 ⇒− 630 ∷ 15 ⇒− 482 ∷ 16 ⇒− 390 ∷ 17 ⇒− 315 ∷ 18 ⇒− 256
+    ∷ 19 ⇒− 315 ∷ 20 ⇒− 390 ∷ 21 ⇒− 482 ∷ 22 ⇒− 630 ∷ 23 ⇒− 910 ∷ 24 ⇒− 1638 ∷ 25 ⇒− 4096
+    ∷ [])
 
 -- ref[x] of a vertical mode; 0 where the text gives it no value
 unfoldable pub ref : (ℤ → ℤ → ℕ) → ℕ → ℤ → ℤ → ℤ → ℕ
 ref p n angle inv x =
     let last = pos n *ℤ angle >> 5 in
-    cond (leZ (pos 0) x && leZ x (pos n)) (p (negsuc 0 +ℤ x) (negsuc 0))
-    (cond (ltZ angle (pos 0) && (ltZ last (negsuc 0) && (leZ last x && ltZ x (pos 0))))
-    (p (negsuc 0) (negsuc 0 +ℤ (x *ℤ inv +ℤ pos 128 >> 8)))
-    (cond (leZ (pos 0) angle && (ltZ (pos n) x && leZ x (pos (2 * n)))) (p (negsuc 0 +ℤ x) (negsuc 0)) 0))
+    cond (leZ (pos 0) x && leZ x (pos n)) (p ⟦ −1 +ℤ x ⟧⟦ −1 ⟧)
+    (cond (ltZ angle (pos 0) && (ltZ last −1 && (leZ last x && ltZ x (pos 0))))
+    (p ⟦ −1 ⟧⟦ −1 +ℤ (x *ℤ inv +ℤ pos 128 >> 8) ⟧)
+    (cond (leZ (pos 0) angle && (ltZ (pos n) x && leZ x (pos (2 * n)))) (p ⟦ −1 +ℤ x ⟧⟦ −1 ⟧) 0))
 
 -- the sample in column x and row y of a vertical mode, from ref
 unfoldable pub project : (ℤ → ℕ) → ℤ → ℕ → ℕ → ℕ
@@ -47,8 +63,8 @@ angular bits edge n mode nb x y =
     let filter = edge && ltb n 32 in
     cond (leb 18 mode)
     (cond (eqb mode 26 && (eqb x 0 && filter))
-    (clip1 bits (pos (p (pos 0) (negsuc 0)) +ℤ (pos (p (negsuc 0) (pos y)) -ℤ pos (p (negsuc 0) (negsuc 0)) >> 1)))
+    (clip1 bits (pos (p ⟦ pos 0 ⟧⟦ −1 ⟧) +ℤ (pos (p ⟦ −1 ⟧⟦ pos y ⟧) -ℤ pos (p ⟦ −1 ⟧⟦ −1 ⟧) >> 1)))
     (project (ref p n angle (invAngle mode)) angle x y))
     (cond (eqb mode 10 && (eqb y 0 && filter))
-    (clip1 bits (pos (p (negsuc 0) (pos 0)) +ℤ (pos (p (pos x) (negsuc 0)) -ℤ pos (p (negsuc 0) (negsuc 0)) >> 1)))
+    (clip1 bits (pos (p ⟦ −1 ⟧⟦ pos 0 ⟧) +ℤ (pos (p ⟦ pos x ⟧⟦ −1 ⟧) -ℤ pos (p ⟦ −1 ⟧⟦ −1 ⟧) >> 1)))
     (project (ref (λ (a b : ℤ). p b a) n angle (invAngle mode)) angle y x))

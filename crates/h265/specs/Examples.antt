@@ -12,7 +12,7 @@ use Rattle.h265.specs.Substitution.{firstMarked, settled, substitutedAt,
 use Rattle.h265.specs.Filtering.{filterFlag, straight, weakAt}
 use Rattle.h265.specs.Planar.{planar}
 use Rattle.h265.specs.Dc.{sum, dcVal, dc}
-use Rattle.h265.specs.Angular.{ref, project, angular}
+use Rattle.h265.specs.Angular.{intraPredAngle, invAngle, ref, project, angular}
 use Rattle.h265.specs.Prediction.{filters, prepared, predSamples}
 
 -- a picture of 32 by 24 samples, CTU 16, cells of 8
@@ -82,7 +82,7 @@ dc-block = refl
 
 -- 8.4.4.2.6: a diagonal mode, the corner's own mode, and an edge that is clipped
 angular-block : _≡_ {A = List ℕ} (angular 8 false 4 34 counting 0 0 ∷ angular 8 false 4 34 counting 3 3 ∷ angular 8 false 4 18 counting 0 0 ∷ angular 8 false 4 18 counting 0 1 ∷ angular 8 true 4 26 steep 0 0 ∷ angular 8 true 4 26 steep 0 1 ∷ []) (1 ∷ 7 ∷ 77 ∷ 50 ∷ 255 ∷ 199 ∷ [])
-unfolding counting steep angular project ref
+unfolding counting steep angular project ref intraPredAngle invAngle
 angular-block = refl
 
 -- 8.4.4.2.1: DC of a block of 8 is not filtered, planar is

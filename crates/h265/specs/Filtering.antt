@@ -2,8 +2,8 @@
 use Prim.Native.Nat.{ℕ, _+_, _-_, _*_, _^_, min}
 use mathlib.Core.Bool.{Bool, cond, not, _&&_, _||_}
 use lib.Dec.{ltb, eqb}
-use lib.IntN.{ℤ, pos, negsuc, natAbs, _+ℤ_, _-ℤ_}
-use Rattle.h265.specs.Notation.{Neighbours, near, _>>ℕ_}
+use lib.IntN.{ℤ, pos, natAbs, _+ℤ_, _-ℤ_}
+use Rattle.h265.specs.Notation.{−1, Neighbours, near, _⟦_⟧⟦_⟧, _>>ℕ_}
 
 -- minDistVerHor, and intraHorVerDistThres for nTbS = 8, 16, 32
 abbrev pub minDistVerHor : ℕ → ℕ
@@ -23,7 +23,9 @@ straight bits corner mid end = ltb (natAbs (pos corner +ℤ pos end -ℤ pos (2 
 -- biIntFlag; allowed says that strong_intra_smoothing_enabled_flag is 1 and cIdx is 0
 unfoldable pub biIntFlag : Bool → ℕ → ℕ → Neighbours → Bool
 biIntFlag allowed bits n nb =
-    allowed && eqb n 32 && straight bits (nb .corner) (nb .above 31) (nb .above 63) && straight bits (nb .corner) (nb .left 31) (nb .left 63)
+    allowed && eqb n 32
+    && straight bits (nb .corner) (nb .above 31) (nb .above 63)
+    && straight bits (nb .corner) (nb .left 31) (nb .left 63)
 
 -- the strong form of an entry, up to 62; entry 63 is kept
 unfoldable pub strongAt : ℕ → ℕ → ℕ → ℕ
@@ -44,7 +46,7 @@ filtered allowed bits n nb =
       left = λ y. strongAt (nb .corner) (nb .left 63) y;
     })
     (record {
-      corner = p (negsuc 0) (pos 0) + 2 * p (negsuc 0) (negsuc 0) + p (pos 0) (negsuc 0) + 2 >>ℕ 2;
-      above = λ x. weakAt n (p (pos x -ℤ pos 1) (negsuc 0)) (p (pos x) (negsuc 0)) (p (pos x +ℤ pos 1) (negsuc 0)) x;
-      left = λ y. weakAt n (p (negsuc 0) (pos y -ℤ pos 1)) (p (negsuc 0) (pos y)) (p (negsuc 0) (pos y +ℤ pos 1)) y;
+      corner = p ⟦ −1 ⟧⟦ pos 0 ⟧ + 2 * p ⟦ −1 ⟧⟦ −1 ⟧ + p ⟦ pos 0 ⟧⟦ −1 ⟧ + 2 >>ℕ 2;
+      above = λ x. weakAt n (p ⟦ pos x -ℤ pos 1 ⟧⟦ −1 ⟧) (p ⟦ pos x ⟧⟦ −1 ⟧) (p ⟦ pos x +ℤ pos 1 ⟧⟦ −1 ⟧) x;
+      left = λ y. weakAt n (p ⟦ −1 ⟧⟦ pos y -ℤ pos 1 ⟧) (p ⟦ −1 ⟧⟦ pos y ⟧) (p ⟦ −1 ⟧⟦ pos y +ℤ pos 1 ⟧) y;
     })

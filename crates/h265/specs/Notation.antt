@@ -1,4 +1,5 @@
--- The notation of H.265, clauses 5 and 8.4.4.2: shifts that round down, Log2, Clip1, and the neighbours p[x][y] of a block. Assumes nothing.
+-- The notation of H.265, clauses 5 and 8.4.4.2: shifts that round down, Log2, Clip1, and the neighbours p[x][y] of a block.
+-- Assumes nothing.
 use Prim.Native.Nat.{ℕ, zero, suc, _-_, _/_, _%_, _^_, min}
 use mathlib.Core.Bool.{cond}
 use mathlib.Core.List.{List}
@@ -7,7 +8,11 @@ use lib.ListN.{getD}
 use lib.IntN.{ℤ, pos, negsuc}
 use lib.Signed.{shrZ}
 
--- the neighbours of a block: p[-1][-1], p[x][-1] and p[-1][y]
+-- −1, as it stands in p[−1][y]
+abbrev pub −1 : ℤ
+−1 = negsuc 0
+
+-- the neighbours of a block: p[−1][−1], p[x][−1] and p[−1][y]
 pub record Neighbours : Type 0 where
   pub corner : ℕ
   pub above : ℕ → ℕ
@@ -19,6 +24,11 @@ near nb (negsuc x) (negsuc y) = nb .corner
 near nb (pos x) (negsuc y) = nb .above x
 near nb (negsuc x) (pos y) = nb .left y
 near nb (pos x) (pos y) = 0
+
+-- written as in the standard, where p is `near` of a block's neighbours
+infixl 90 _⟦_⟧⟦_⟧
+abbrev pub _⟦_⟧⟦_⟧ : (ℤ → ℤ → ℕ) → ℤ → ℤ → ℕ
+p ⟦ x ⟧⟦ y ⟧ = p x y
 
 -- the neighbours that a corner and two rows of samples give; past a row's end is 0
 abbrev pub fromRows : ℕ → List ℕ → List ℕ → Neighbours

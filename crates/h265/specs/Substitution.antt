@@ -2,17 +2,17 @@
 use Prim.Native.Nat.{ℕ, zero, suc, _+_, _-_, _*_, _^_}
 use mathlib.Core.Bool.{Bool, cond}
 use lib.Dec.{leb, ltb}
-use lib.IntN.{ℤ, pos, negsuc, natAbs, _+ℤ_, _*ℤ_}
-use Rattle.h265.specs.Notation.{Neighbours}
+use lib.IntN.{ℤ, pos, natAbs, _+ℤ_, _*ℤ_}
+use Rattle.h265.specs.Notation.{−1, Neighbours}
 use Rattle.h265.specs.Setting.{Grid, Component}
 use Rattle.h265.specs.Availability.{available}
 
--- The 4n + 1 neighbours in the order of the process: place 0 is p[-1][2n-1], place 2n the corner, place 4n p[2n-1][-1].
+-- The 4n + 1 neighbours in the order of the process: place 0 is p[−1][2n−1], place 2n the corner, place 4n p[2n−1][−1].
 abbrev pub placeX : ℕ → ℕ → ℤ
-placeX n k = cond (leb k (2 * n)) (negsuc 0) (pos (k - (2 * n + 1)))
+placeX n k = cond (leb k (2 * n)) −1 (pos (k - (2 * n + 1)))
 
 abbrev pub placeY : ℕ → ℕ → ℤ
-placeY n k = cond (ltb k (2 * n)) (pos (2 * n - 1 - k)) (negsuc 0)
+placeY n k = cond (ltb k (2 * n)) (pos (2 * n - 1 - k)) −1
 
 -- the first of m places from k on that is marked as available, or k + m
 unfoldable pub firstMarked : (ℕ → Bool) → ℕ → ℕ → ℕ

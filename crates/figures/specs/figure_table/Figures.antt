@@ -1,5 +1,6 @@
--- Document 01, 'Figures to prove together': P1 to P10 as one table, what the doors give on 01's inputs beside what 01 says, and one theorem that they are the
--- same. What a door gives is what its contract names; rows are lent whole, 65 entries, and block buffers hold 9 before. Assumes nothing.
+-- Document 01, 'Figures to prove together': P1 to P10 as one table, what the doors give on 01's inputs beside what 01 says, and one theorem
+-- that they are the same. What a door gives is what its contract names; rows are lent whole, 65 entries, and block buffers hold 9 before.
+-- Assumes nothing.
 use Prim.Native.Nat.{ℕ, _+_, _*_}
 use mathlib.Core.Path.{_≡_, refl, sym, ap, _∙_}
 use mathlib.Core.Bool.{Bool, true, false, not}
@@ -15,7 +16,7 @@ use Rattle.h265.specs.Filtering as filtering
 use Rattle.h265.specs.Filtering.{filterFlag, straight, biIntFlag, weakAt, filtered}
 use Rattle.h265.specs.Planar.{planar}
 use Rattle.h265.specs.Dc.{sum, dcVal, dc}
-use Rattle.h265.specs.Angular.{ref, project, angular}
+use Rattle.h265.specs.Angular.{intraPredAngle, invAngle, ref, project, angular}
 use Rattle.order.specs.declared.Picture.{Picture}
 use Rattle.order.specs.Order.{numberAt, orderNo, decodeOrder}
 use Rattle.smooth.specs.declared.Rule.{Rule}
@@ -84,9 +85,11 @@ pub smooths-refused : {a : Rule} (n mode : ℕ) → a ≡ shouldFilterRefs mode 
 smooths-refused n mode e h = unserved (shouldFilterRefs mode n .no) _ 2 (λ z. h (ap (λ (r : Rule). r .no) e ∙ z))
 
 pub smooths-told : {a : Rule} (n mode : ℕ) → a ≡ shouldFilterRefs mode n → a .no ≡ 0 → bit (a .yes) ≡ smoothsAt n mode
-smooths-told n mode e z = ap (λ (r : Rule). bit (r .yes)) e ∙ worked (shouldFilterRefs mode n .no) _ 2 (sym (ap (λ (r : Rule). r .no) e) ∙ z)
+smooths-told n mode e z =
+    ap (λ (r : Rule). bit (r .yes)) e ∙ worked (shouldFilterRefs mode n .no) _ 2 (sym (ap (λ (r : Rule). r .no) e) ∙ z)
 
--- P8's row: 100 up to entry 62, then the entry given; entry 31 of the smoothed row above, and whether it is another than the ordinary form gives
+-- P8's row: 100 up to entry 62, then the entry given; entry 31 of the smoothed row above, and whether it is another than the ordinary form
+-- gives
 abbrev pub bent : ℕ → List ℕ
 bent end = set (level 100) 63 end
 
@@ -170,5 +173,7 @@ table corner left0 above0 = p1 ∷ p2 ∷ p3 ∷ p4 ∷ p5 corner left0 above0 �
 
 -- the calls give what document 01 says
 pub figures : (corner left0 above0 : ℕ) → map (λ f. f .given) (table corner left0 above0) ≡ map (λ f. f .said) (table corner left0 above0)
-unfolding fill rows flatNo planar dc dcVal sum angular project ref halvings decodeOrder orderNo numberAt minTbAddrZs zScan interleaved shouldFilterRefs filterFlag filterReferences filterLumaRefs smoothed rowOf filtered biIntFlag straight filtering.strongAt weakAt reconstructed reconstructNo allInRange
+unfolding fill rows flatNo planar dc dcVal sum angular project ref intraPredAngle invAngle halvings
+    decodeOrder orderNo numberAt minTbAddrZs zScan interleaved shouldFilterRefs filterFlag filterReferences filterLumaRefs smoothed rowOf
+    filtered biIntFlag straight filtering.strongAt weakAt reconstructed reconstructNo allInRange
 figures corner left0 above0 = refl

@@ -1,15 +1,14 @@
 -- 8.4.4.2.6 as the text has it and with no number below 0 are one. Assumes nothing.
 use mathlib.Core.Path.{_≡_, refl, ap, _∙_}
 use mathlib.Core.Logic.{_⊎_, ⊎-elim, inl, inr}
-use mathlib.Core.Bool.{Bool, true, cond}
-use mathlib.Core.List.{List, [], _∷_, map}
+use mathlib.Core.Bool.{Bool, true, false, cond}
 use Prim.Native.Nat.{ℕ, zero, suc, _+_, _-_, _*_, _/_, _%_, _≤_, _<_}
-use native.Mathlib.Nat.{mul-le-mul-left, mul-zero, zero-mul, not-suc-le-zero, le-of-suc-le-suc}
+use native.Mathlib.Nat.{mul-le-mul-left, mul-zero, zero-mul}
 use native.Mathlib.Omega.{arith}
 use borrow.Author.Tests.{lt-ltb, le-ltb, le-leb, lt-leb, ne-eqb}
-use lib.Dec.{leb, ltb, eqb, leb→le}
+use lib.Dec.{T, leb, ltb, eqb, leb→le, eqb→eq}
 use Rattle.laws.specs.Table.{at}
-use lib.ListN.{length, getD, List·getD-map}
+use lib.ListN.{getD}
 use lib.IntN.{ℤ, pos, negsuc, negℤ, subℕ, _+ℤ_, _*ℤ_}
 use lib.Signed.{shrZ, ltZ, leZ}
 use Rattle.h265.specs.Notation.{Neighbours, near, _>>_, low5}
@@ -20,20 +19,29 @@ use Rattle.samples.specs.taps.Taps.{interpOf}
 use Rattle.predict.specs.angular.Unsigned.{angles, inverses, startOf, sideOf, refAt, sampleAt, mirror, angularAt}
 use Rattle.laws.specs.Diff.{order, sub-neg, sub-pos, as-sub, sub-eq, sub-add, sub-mul, sub-shr, sub-le, sub-lt}
 
--- the two tables
-any : {A : Type 0} (l : List A) (i : ℕ) (a b : A) → i < length l → getD l i a ≡ getD l i b
-any [] i a b h = absurd (not-suc-le-zero h)
-any (x ∷ l) zero a b h = refl
-any (x ∷ l) (suc i) a b h = any l i a b (le-of-suc-le-suc h)
+-- the two tables, held against the standard's at every mode by a test that antt computes
+abbrev sameZ : ℤ → ℤ → Bool
+sameZ (pos a) (pos b) = eqb a b
+sameZ (pos a) (negsuc b) = false
+sameZ (negsuc a) (pos b) = false
+sameZ (negsuc a) (negsuc b) = eqb a b
+
+same : (y z : ℤ) → T (sameZ y z) → y ≡ z
+same (pos a) (pos b) t = ap pos (eqb→eq a b t)
+same (pos a) (negsuc b) t = absurd t
+same (negsuc a) (pos b) t = absurd t
+same (negsuc a) (negsuc b) t = ap negsuc (eqb→eq a b t)
 
 angle-of : (mode : ℕ) → mode < 35 → intraPredAngle mode ≡ subℕ (getD angles mode 0) 32
-angle-of mode h = any (map (λ (e : ℕ). subℕ e 32) angles) mode (pos 0) (subℕ 0 32) h ∙ List·getD-map (λ (e : ℕ). subℕ e 32) angles mode 0
+unfolding intraPredAngle
+angle-of mode h = same _ _ (at (λ k e. sameZ (intraPredAngle k) (subℕ e 32)) angles tt mode h)
 
 pub angle-most : (mode : ℕ) → mode < 35 → getD angles mode 0 ≤ 64
 angle-most mode h = leb→le (getD angles mode 0) 64 (at (λ k x. leb x 64) angles tt mode h)
 
-inverse-of : (mode : ℕ) → invAngle mode ≡ negℤ (pos (getD inverses mode 0))
-inverse-of mode = List·getD-map (λ (i : ℕ). negℤ (pos i)) inverses mode 0
+inverse-of : (mode : ℕ) → mode < 35 → invAngle mode ≡ negℤ (pos (getD inverses mode 0))
+unfolding invAngle
+inverse-of mode h = same _ _ (at (λ k i. sameZ (invAngle k) (negℤ (pos i))) inverses tt mode h)
 
 -- the low bits of a difference
 sub-low5 : (a b : ℕ) → low5 (subℕ a (b * 32)) ≡ a % 32
@@ -144,7 +152,7 @@ angular-same bits n mode edge nb x y s m hx hy =
     let t : e ≤ 64 = angle-most mode m in
     rw (
       angle-of mode m,
-      inverse-of mode,
+      inverse-of mode m,
       projected (near nb) nb (λ i. refl) (λ i. refl) refl n e inv y x s t hy hx,
       projected (λ (a b : ℤ). near nb b a) (mirror nb) (λ i. refl) (λ i. refl) refl n e inv x y s t hx hy,
     )
