@@ -5,7 +5,7 @@ use mathlib.Core.List.{List, [], _∷_}
 use Prim.Native.Nat.{ℕ, _+_, _-_, _*_}
 use lib.IntN.{pos, negsuc}
 use Rattle.h265.specs.Notation.{Neighbours, near, log2, halvings}
-use Rattle.h265.specs.Setting.{Grid, lumaAt, first}
+use Rattle.h265.specs.Setting.{Grid, lumaAt, firstEditionStrong}
 use Rattle.h265.specs.Order.{interleaved, zScan, minTbAddrZs, addressAt}
 use Rattle.h265.specs.Availability.{available}
 use Rattle.h265.specs.Substitution.{firstMarked, settled, substitutedAt, marked, neighbours}
@@ -86,6 +86,6 @@ unfolding counting steep angular project ref intraPredAngle invAngle
 angular-block = refl
 
 -- 8.4.4.2.1: DC of a block of 8 is not filtered, planar is
-whole-process : _≡_ {A = List ℕ} (predSamples (lumaAt 8) (first true) 4 1 (flat 10 20) 2 2 ∷ predSamples (lumaAt 8) (first true) 4 0 (flat 10 20) 0 0 ∷ []) (15 ∷ 15 ∷ [])
+whole-process : _≡_ {A = List ℕ} (predSamples (lumaAt 8) firstEditionStrong 4 1 (flat 10 20) 2 2 ∷ predSamples (lumaAt 8) firstEditionStrong 4 0 (flat 10 20) 0 0 ∷ []) (15 ∷ 15 ∷ [])
 unfolding flat predSamples prepared filters filterFlag dc dcVal sum planar halvings
 whole-process = refl

@@ -1,4 +1,5 @@
--- What the parameter sets and the coding unit fix for a block: the luma grid (7.4.3.2), the colour component, and the flags. Assumes nothing.
+-- What the parameter sets and the coding unit fix for a block: the luma grid (7.4.3.2), the colour component, and the flags.
+-- Assumes nothing.
 use Prim.Native.Nat.{ℕ}
 use mathlib.Core.Bool.{Bool, true, false}
 
@@ -32,9 +33,13 @@ pub record Flags : Type 0 where
   -- implicit_rdpcm_enabled_flag and cu_transquant_bypass_flag both 1: disableIntraBoundaryFilter (2014)
   pub edgeOff : Bool
 
--- luma of the first edition, with the strong form allowed or not
+-- luma
 abbrev pub lumaAt : ℕ → Component
 lumaAt bits = record { luma = true; bits = bits; subWidth = 1; subHeight = 1; full = false }
 
-abbrev pub first : Bool → Flags
-first strong = record { strong = strong; smoothingOff = false; edgeOff = false }
+-- the first edition, with strong_intra_smoothing_enabled_flag as told, and with it at 1
+abbrev pub firstEdition : Bool → Flags
+firstEdition strong = record { strong = strong; smoothingOff = false; edgeOff = false }
+
+abbrev pub firstEditionStrong : Flags
+firstEditionStrong = firstEdition true

@@ -13,7 +13,7 @@ pub mod scratch_predict;
 
 ghost use mathlib.Core.Path.{_≡_};
 ghost use mathlib.Core.Bool.{true};
-ghost use Rattle.h265.specs.Setting.{lumaAt, first};
+ghost use Rattle.h265.specs.Setting.{lumaAt, firstEditionStrong};
 ghost use Rattle.h265.specs.Prediction.{predSamples};
 ghost use Rattle.domain.specs.rows.Neighbours.{neighboursOf};
 ghost use Rattle.predict.specs.refusals.Refusals.{predictNo};
@@ -35,7 +35,7 @@ pub fn predict_chroma_tb_slices(
     fractions: &mut [u32],
 ) -> u32
     ensures { λ r. ⌜ (r ≡ predictNo bits n mode (withTables (len above) (len left) (len pred) refs indices fractions))
-        × (Predicts r n (predSamples (chromaAt bits) (first true) n mode (neighbours corner above left)) pred
+        × (Predicts r n (predSamples (chromaAt bits) firstEditionStrong n mode (neighbours corner above left)) pred
         × ((r ≡ 0 → ⊥) → Untouched refs indices fractions)) ⌝ }
 {
     let no = refusals::predict_no(
@@ -77,7 +77,7 @@ pub fn predict_luma_tb_slices(
     fractions: &mut [u32],
 ) -> u32
     ensures { λ r. ⌜ (r ≡ predictNo bits n mode (withTables 65 65 (len pred) refs indices fractions))
-        × (Predicts r n (predSamples (lumaAt bits) (first true) n mode (neighboursOf rows)) pred
+        × (Predicts r n (predSamples (lumaAt bits) firstEditionStrong n mode (neighboursOf rows)) pred
         × ((r ≡ 0 → ⊥) → Untouched refs indices fractions)) ⌝ }
 {
     let no = refusals::predict_no(

@@ -2,7 +2,7 @@
 // the form over slices. Rests on those forms. A call that makes its own scratch stands beside each entry.
 ghost use mathlib.Core.Path.{_≡_};
 ghost use mathlib.Core.Bool.{true};
-ghost use Rattle.h265.specs.Setting.{lumaAt, first};
+ghost use Rattle.h265.specs.Setting.{lumaAt, firstEditionStrong};
 ghost use Rattle.h265.specs.Prediction.{predSamples};
 ghost use Rattle.domain.specs.rows.Neighbours.{neighboursOf};
 ghost use Rattle.predict.specs.refusals.Refusals.{predictNo};
@@ -23,7 +23,7 @@ pub fn predict_chroma_tb_into(
     scratch: &mut AngularScratch,
 ) -> u32
     ensures { λ r. ⌜ (r ≡ predictNo bits n mode (withScratch (len above) (len left) (len pred)))
-        × (Predicts r n (predSamples (chromaAt bits) (first true) n mode (neighbours corner above left)) pred
+        × (Predicts r n (predSamples (chromaAt bits) firstEditionStrong n mode (neighbours corner above left)) pred
         × ((r ≡ 0 → ⊥) → now (scratch .exit) ≡ now (scratch .entry))) ⌝ }
 {
     crate::predict_chroma_tb_slices(
@@ -50,7 +50,7 @@ pub fn predict_luma_tb_into(
     scratch: &mut AngularScratch,
 ) -> u32
     ensures { λ r. ⌜ (r ≡ predictNo bits n mode (withScratch 65 65 (len pred)))
-        × (Predicts r n (predSamples (lumaAt bits) (first true) n mode (neighboursOf rows)) pred
+        × (Predicts r n (predSamples (lumaAt bits) firstEditionStrong n mode (neighboursOf rows)) pred
         × ((r ≡ 0 → ⊥) → now (scratch .exit) ≡ now (scratch .entry))) ⌝ }
 {
     crate::predict_luma_tb_slices(
@@ -76,7 +76,7 @@ pub fn predict_chroma_tb_fresh(
     pred: &mut [u16],
 ) -> u32
     ensures { λ r. ⌜ (r ≡ predictNo bits n mode (withScratch (len above) (len left) (len pred)))
-        × Predicts r n (predSamples (chromaAt bits) (first true) n mode (neighbours corner above left)) pred ⌝ }
+        × Predicts r n (predSamples (chromaAt bits) firstEditionStrong n mode (neighbours corner above left)) pred ⌝ }
 {
     let mut scratch = AngularScratch::new();
     predict_chroma_tb_into(mode, corner, above, left, n, bits, pred, &mut scratch)
@@ -91,7 +91,7 @@ pub fn predict_luma_tb_fresh(
     pred: &mut [u16],
 ) -> u32
     ensures { λ r. ⌜ (r ≡ predictNo bits n mode (withScratch 65 65 (len pred)))
-        × Predicts r n (predSamples (lumaAt bits) (first true) n mode (neighboursOf rows)) pred ⌝ }
+        × Predicts r n (predSamples (lumaAt bits) firstEditionStrong n mode (neighboursOf rows)) pred ⌝ }
 {
     let mut scratch = AngularScratch::new();
     predict_luma_tb_into(mode, rows, n, bits, pred, &mut scratch)

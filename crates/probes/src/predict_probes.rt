@@ -8,7 +8,7 @@ ghost use Rattle.h265.specs.Dc.{dc};
 ghost use Rattle.h265.specs.Angular.{angular};
 ghost use Rattle.predict.specs.refusals.Refusals.{flatNo, angularNo, predictNo};
 ghost use Rattle.residual.specs.Residual.{residualNo, residualsAfter, reconstructNo, reconstructed};
-ghost use Rattle.h265.specs.Setting.{lumaAt, first};
+ghost use Rattle.h265.specs.Setting.{lumaAt, firstEditionStrong};
 ghost use Rattle.h265.specs.Prediction.{predSamples};
 ghost use Rattle.predict.specs.Contents.{chromaAt};
 ghost use Rattle.predict.specs.Lent.{len, withTables, withScratch, neighbours, Predicts, Untouched};
@@ -119,7 +119,7 @@ pub extern "C" fn salvrunde_probe_predict_chroma_tb_slices(
     fractions: &mut [u32],
 ) -> u32
     ensures { λ r. ⌜ (r ≡ predictNo bits n mode (withTables (len above) (len left) (len pred) refs indices fractions))
-        × (Predicts r n (predSamples (chromaAt bits) (first true) n mode (neighbours corner above left)) pred
+        × (Predicts r n (predSamples (chromaAt bits) firstEditionStrong n mode (neighbours corner above left)) pred
         × ((r ≡ 0 → ⊥) → Untouched refs indices fractions)) ⌝ }
 {
     predict::predict_chroma_tb_slices(
@@ -150,7 +150,7 @@ pub extern "C" fn salvrunde_probe_predict_luma_tb_slices(
     fractions: &mut [u32],
 ) -> u32
     ensures { λ r. ⌜ (r ≡ predictNo bits n mode (withTables 65 65 (len pred) refs indices fractions))
-        × (Predicts r n (predSamples (lumaAt bits) (first true) n mode (neighbours corner above left)) pred
+        × (Predicts r n (predSamples (lumaAt bits) firstEditionStrong n mode (neighbours corner above left)) pred
         × ((r ≡ 0 → ⊥) → Untouched refs indices fractions)) ⌝ }
 {
     let rows = Rows {
@@ -208,7 +208,7 @@ pub extern "C" fn salvrunde_probe_predict_chroma_tb_scratch(
     pred: &mut [u16],
 ) -> u32
     ensures { λ r. ⌜ (r ≡ predictNo bits n mode (withScratch (len above) (len left) (len pred)))
-        × Predicts r n (predSamples (chromaAt bits) (first true) n mode (neighbours corner above left)) pred ⌝ }
+        × Predicts r n (predSamples (chromaAt bits) firstEditionStrong n mode (neighbours corner above left)) pred ⌝ }
 {
     scratch_predict::predict_chroma_tb_fresh(mode, corner, above, left, n, bits, &mut *pred)
 }
@@ -224,7 +224,7 @@ pub extern "C" fn salvrunde_probe_predict_luma_tb_scratch(
     pred: &mut [u16],
 ) -> u32
     ensures { λ r. ⌜ (r ≡ predictNo bits n mode (withScratch 65 65 (len pred)))
-        × Predicts r n (predSamples (lumaAt bits) (first true) n mode (neighbours corner above left)) pred ⌝ }
+        × Predicts r n (predSamples (lumaAt bits) firstEditionStrong n mode (neighbours corner above left)) pred ⌝ }
 {
     let rows = Rows {
         corner,

@@ -14,7 +14,7 @@ use Rattle.h265.specs.Notation.{Neighbours, fromRows}
 use Rattle.h265.specs.Planar.{planar}
 use Rattle.h265.specs.Dc.{dc}
 use Rattle.h265.specs.Angular.{angular}
-use Rattle.h265.specs.Setting.{first}
+use Rattle.h265.specs.Setting.{firstEditionStrong}
 use Rattle.h265.specs.Prediction.{predSamples}
 use Rattle.predict.specs.Contents.{chromaAt}
 use Rattle.camera.specs.Written.{Written, entry}
@@ -73,7 +73,7 @@ angularEntry bits n mode edge corner above left d =
     modeEntry (angularIn bits (not (eqb edge 0)) n mode corner above left) bits n (angularMode mode) above left d
 
 abbrev pub chromaIn : ℕ → ℕ → ℕ → ℕ → List ℕ → List ℕ → ℕ → ℕ → ℕ
-chromaIn bits n mode corner above left y x = predSamples (chromaAt bits) (first true) n mode (neighboursIn corner above left) x y
+chromaIn bits n mode corner above left y x = predSamples (chromaAt bits) firstEditionStrong n mode (neighboursIn corner above left) x y
 
 unfoldable pub chromaBlockEntry : ℕ → ℕ → ℕ → ℕ → List ℕ → List ℕ → List ℕ → Written
 chromaBlockEntry bits n mode corner above left d = modeEntry (chromaIn bits n mode corner above left) bits n (modeOk mode) above left d

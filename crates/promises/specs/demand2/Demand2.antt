@@ -10,7 +10,7 @@ use Rattle.laws.specs.Choose.{served, passed}
 use Rattle.laws.specs.Fill.{block}
 use Rattle.laws.specs.FillLaws.{rows-at}
 use Rattle.h265.specs.Notation.{Neighbours, fromRows}
-use Rattle.h265.specs.Setting.{lumaAt, first}
+use Rattle.h265.specs.Setting.{lumaAt, firstEditionStrong}
 use Rattle.h265.specs.Substitution.{neighbours}
 use Rattle.h265.specs.Filtering.{filtered}
 use Rattle.h265.specs.Prediction.{predSamples, predicted}
@@ -44,10 +44,10 @@ module _ (plane : List ℕ) (g : LumaRefGeometry) (served-call : gather.getRefer
 
   -- and predict::predict_luma_tb_slices over what it gave: smoothing where the rule says, then the mode's clause, 8.4.4.2 whole
   pub luma-block : (mode x y : ℕ) → mode ≤ 34 → x < g .n → y < g .n
-      → predSamples (lumaAt (g .bits)) (first true) (g .n) mode (neighboursOf (gather.getReferenceSamples plane g .rows)) x y
-      ≡ predicted (gridOf (g .picture)) (lumaAt (g .bits)) (first true) (g .n) mode (g .«block_col» .0) (g .«block_row» .0) (λ x y. sampleOf plane (g .picture .width) y x) x y
+      → predSamples (lumaAt (g .bits)) firstEditionStrong (g .n) mode (neighboursOf (gather.getReferenceSamples plane g .rows)) x y
+      ≡ predicted (gridOf (g .picture)) (lumaAt (g .bits)) firstEditionStrong (g .n) mode (g .«block_col» .0) (g .«block_row» .0) (λ x y. sampleOf plane (g .picture .width) y x) x y
   unfolding predicted
-  luma-block mode x y known hx hy = pred-alone (lumaAt (g .bits)) (first true) (g .n) mode x y _ _ size known hx hy gathering
+  luma-block mode x y known hx hy = pred-alone (lumaAt (g .bits)) firstEditionStrong (g .n) mode x y _ _ size known hx hy gathering
 
 -- smooth::filter_luma_refs, 8.4.4.2.3
 pub smoothed : (corner : ℕ) (above left : List ℕ) (n bits : ℕ) → smoothing.filterLumaRefs true corner above left n bits .no ≡ 0

@@ -11,7 +11,7 @@ use lib.IntN.{ℤ, pos, negsuc, natAbs, _+ℤ_, _-ℤ_}
 use lib.ListN.{getD}
 use borrow.Author.Tests.{lt-ltb, le-ltb}
 use Rattle.h265.specs.Notation.{Neighbours, near, _>>_, clipTo}
-use Rattle.h265.specs.Setting.{Grid, lumaAt, first}
+use Rattle.h265.specs.Setting.{Grid, lumaAt, firstEditionStrong}
 use Rattle.h265.specs.Substitution.{placeX, placeY, firstMarked, settled, substitutedAt, fromPlaces, neighbours}
 use Rattle.h265.specs.Filtering.{strongAt, weakAt, biIntFlag, filtered}
 use Rattle.h265.specs.Angular.{intraPredAngle, invAngle, ref, project, angular}
@@ -143,8 +143,8 @@ predicted-most s b plane depth size mode most r c hr hc =
     let m = largestIn s in
     let neutral = at-depth (λ (k : ℕ). 2 ^ (k - 1) ≤ 2 ^ k - 1) (omega arith) (omega arith) (omega arith) (s .bits) depth in
     let nb = neighbours-most m _ (s .bits) (b .side) (b .col) (b .row) (λ x y. sampleAt s plane y x) (λ x y. most _) neutral in
-    let p = either-of m (filters (lumaAt (s .bits)) (first true) (b .side) (b .mode)) (filtered-most m _ nb true (s .bits) (b .side)) nb in
-    rw (is-by-mode (lumaAt (s .bits)) (first true) (b .side) (b .mode) _ c r)
+    let p = either-of m (filters (lumaAt (s .bits)) firstEditionStrong (b .side) (b .mode)) (filtered-most m _ nb true (s .bits) (b .side)) nb in
+    rw (is-by-mode (lumaAt (s .bits)) firstEditionStrong (b .side) (b .mode) _ c r)
     (either m (eqb (b .mode) 0) (planar-between (b .side) c r size hc hr 0 m _ (over m (b .side) _) (under m _ p (b .side)) .1)
     (either m (eqb (b .mode) 1) (dc-between (b .side) c r size hc hr 0 m _ (over m (b .side) _) (under m _ p (b .side)) true .1)
     (angular-most (s .bits) (b .side) (b .mode) c r _ size mode hc hr p)))

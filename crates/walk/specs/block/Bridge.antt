@@ -6,7 +6,7 @@ use mathlib.Core.List.{List}
 use Prim.Native.Nat.{ℕ, _+_, _*_, _%_, _≤_, _<_}
 use lib.ListN.{length}
 use borrow.Author.Tests.{le-leb, eq-eqb}
-use Rattle.h265.specs.Setting.{lumaAt, first}
+use Rattle.h265.specs.Setting.{lumaAt, firstEditionStrong}
 use Rattle.h265.specs.Prediction.{predSamples, predicted}
 use Rattle.domain.specs.Domain.{depthOk, sizeOk}
 use Rattle.domain.specs.Facts.{Depth, at-size, at-depth, size-small}
@@ -53,7 +53,7 @@ module _ (s : Still) (b : Block) (good : Good (pictureOf (s .frame))) (placed : 
 
   -- the prediction from the gathered rows
   pub bridge : (plane : List ℕ) → length plane ≡ s .frame .height * s .frame .width → b .mode ≤ 34 → (r c : ℕ) → r < b .side → c < b .side
-      → predictedAt s b plane r c ≡ predSamples (lumaAt (s .bits)) (first true) (b .side) (b .mode) (neighboursOf (lumaRows plane (geoOf s b))) c r
+      → predictedAt s b plane r c ≡ predSamples (lumaAt (s .bits)) firstEditionStrong (b .side) (b .mode) (neighboursOf (lumaRows plane (geoOf s b))) c r
   unfolding predictedAt predicted
   bridge plane long mode r c hr hc =
-      sym (pred-alone (lumaAt (s .bits)) (first true) (b .side) (b .mode) c r _ _ (placed .size) mode hc hr (luma-standard plane (geoOf s b) (geo-fine plane long)))
+      sym (pred-alone (lumaAt (s .bits)) firstEditionStrong (b .side) (b .mode) c r _ _ (placed .size) mode hc hr (luma-standard plane (geoOf s b) (geo-fine plane long)))

@@ -11,7 +11,7 @@ use borrow.Author.Tests.{le-leb}
 use Rattle.laws.specs.Fill.{block}
 use Rattle.laws.specs.FillLaws.{rows-same}
 use Rattle.laws.specs.Choose.{served, both-true, worked}
-use Rattle.h265.specs.Setting.{lumaAt, first}
+use Rattle.h265.specs.Setting.{lumaAt, firstEditionStrong}
 use Rattle.h265.specs.Prediction.{predSamples}
 use Rattle.domain.specs.Domain.{depthOk, sizeOk}
 use Rattle.domain.specs.Facts.{Size, at-size, at-depth, size-small}
@@ -59,13 +59,13 @@ module _ (s : Still) (b : Block) (plane : List ℕ) (t : Tables) (h : Ready s b 
   -- what the prediction from the gathered rows leaves is H.265's
   pub predicted-is : (g : Gathered) (d out : List ℕ) (k : ℕ) → b .side * b .side ≤ length d → g ≡ getReferenceSamples plane (geoOf s b)
       → k ≡ predictNo (s .bits) (b .side) (b .mode) (record { above = 65; left = 65; pred = length d; refs = t .refs; indices = t .indices; fractions = t .fractions })
-      → out ≡ served k (block (λ (y x : ℕ). predSamples (lumaAt (s .bits)) (first true) (b .side) (b .mode) (neighboursOf (g .rows)) x y) (b .side) d) d
+      → out ≡ served k (block (λ (y x : ℕ). predSamples (lumaAt (s .bits)) firstEditionStrong (b .side) (b .mode) (neighboursOf (g .rows)) x y) (b .side) d) d
       → out ≡ block (predictedAt s b plane) (b .side) d
   predicted-is g d out k room e p o =
       o
       ∙ sym (worked k _ _ (p ∙ predicts (length d) room))
       ∙ rows-same _ _ (b .side) (b .side) d
       (λ y x l m.
-      ap (λ (q : Rows). predSamples (lumaAt (s .bits)) (first true) (b .side) (b .mode) (neighboursOf q) x y) (gathered e)
+      ap (λ (q : Rows). predSamples (lumaAt (s .bits)) firstEditionStrong (b .side) (b .mode) (neighboursOf q) x y) (gathered e)
       ∙ sym (bridge s b (h .picture) (h .placed) (h .depth) plane (h .plane-len) (h .mode) y x l m))
       (omega (arith, side b (h .placed .size)))

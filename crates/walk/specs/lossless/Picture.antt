@@ -15,7 +15,7 @@ use borrow.Author.Tests.{ltb-true}
 use Rattle.laws.specs.Choose.{both-true}
 use Rattle.laws.specs.Paint.{paint-in, paint-out}
 use Rattle.h265.specs.Notation.{clipTo}
-use Rattle.h265.specs.Setting.{lumaAt, first}
+use Rattle.h265.specs.Setting.{lumaAt, firstEditionStrong}
 use Rattle.h265.specs.Prediction.{predSamples}
 use Rattle.domain.specs.Facts.{Depth}
 use Rattle.order.specs.Order.{before}
@@ -95,7 +95,7 @@ module _ (s : Still) (plan : ℕ → Block) (count : ℕ) (ok : Accepted (s .fra
   local k a b l oa ob same t o = at a oa ∙ ap from (luma-unread (geoOf s (plan k)) a b there) ∙ sym (at b ob)
     where
       from : Rows → ℕ
-      from u = predSamples (lumaAt (s .bits)) (first true) (plan k .side) (plan k .mode) (neighboursOf u) (t .col - plan k .col) (t .row - plan k .row)
+      from u = predSamples (lumaAt (s .bits)) firstEditionStrong (plan k .side) (plan k .mode) (neighboursOf u) (t .col - plan k .col) (t .row - plan k .row)
 
       at : (p : List ℕ) → Whole s p → predict s plan k p t ≡ from (lumaRows p (geoOf s (plan k)))
       at p h = bridge s (plan k) (ok .picture) (ok .plan-good .placed k l) depth p h (ok .modes k l) (t .row - plan k .row) (t .col - plan k .col) (omega arith) (omega arith)

@@ -41,7 +41,7 @@ use denote.Exit.{yes}
 use denote.Signature.{plain}
 use Rattle.laws.specs.Fill.{block}
 use Rattle.h265.specs.Notation.{fromRows}
-use Rattle.h265.specs.Setting.{first}
+use Rattle.h265.specs.Setting.{firstEditionStrong}
 use Rattle.h265.specs.Prediction.{predSamples}
 use Rattle.predict.specs.refusals.Refusals.{predictNo, Lent as Lengths}
 use Rattle.predict.specs.Contents.{chromaAt}
@@ -139,7 +139,7 @@ module _ {M : Type 1} (𝓤 : URA M) (H : Heap 𝓤) (A : Atoms 𝓤) (W : Given
 
   -- the work of a call that is served
   abbrev work : List ℕ
-  work = block (λ (y x : ℕ). predSamples (chromaAt bits) (first true) n mode (fromRows corner aboves lefts) x y) n preds
+  work = block (λ (y x : ℕ). predSamples (chromaAt bits) firstEditionStrong n mode (fromRows corner aboves lefts) x y) n preds
 
   abbrev number : Lengths → ℕ
   number = predictNo bits n mode

@@ -41,7 +41,7 @@ use denote.Triple.Walked.{says, Stays, stay-ref, stay-none, gave-slice, walkOf, 
 use denote.Exit.{yes}
 use denote.Signature.{plain}
 use Rattle.laws.specs.Fill.{block}
-use Rattle.h265.specs.Setting.{lumaAt, first}
+use Rattle.h265.specs.Setting.{lumaAt, firstEditionStrong}
 use Rattle.h265.specs.Prediction.{predSamples}
 use Rattle.domain.specs.rows.Neighbours.{neighboursOf}
 use Rattle.domain.specs.declared.rows.Rows.{Rows}
@@ -118,7 +118,7 @@ module _ {M : Type 1} (𝓤 : URA M) (H : Heap 𝓤) (A : Atoms 𝓤) (W : Given
 
   -- the work of a call that is served
   abbrev work : List ℕ
-  work = block (λ (y x : ℕ). predSamples (lumaAt bits) (first true) n mode (neighboursOf rows) x y) n preds
+  work = block (λ (y x : ℕ). predSamples (lumaAt bits) firstEditionStrong n mode (neighboursOf rows) x y) n preds
 
   abbrev number : Lengths → ℕ
   number = predictNo bits n mode
