@@ -21,5 +21,5 @@ pub mod Angular
 pub mod Prediction
 -- neighbours that agree where prediction reads them, and predictors that are means
 pub mod Mean
--- small evaluations
+-- small evaluations, of other figures than document 01's
 pub mod Examples
