@@ -1,5 +1,5 @@
--- Neighbours compared where prediction reads them, and what a predictor without edge filter is: it never falls where references rise, and gives a constant back. Range and reach follow, once for all predictors.
--- Assumes nothing.
+-- Neighbours compared where prediction reads them, and what a predictor without edge filter is: it never falls where references rise, and
+-- gives a constant back. Range and reach follow, once for all predictors. Assumes nothing.
 use mathlib.Core.Path.{_≡_, subst}
 use Prim.Native.Nat.{ℕ, _*_, _≤_, _<_}
 use native.Mathlib.Nat.{le-antisymm}
@@ -28,8 +28,16 @@ pub record Mean (n : ℕ) (F : Neighbours → ℕ) : Type 0 where
 
 pub agree-under : (n : ℕ) (p q : Neighbours) → Agree n p q → Under n p q × Under n q p
 agree-under n p q a = (
-  record { corner = let e = a .corner in omega arith; above = λ i h. let e = a .above i h in omega arith; left = λ i h. let e = a .left i h in omega arith },
-  record { corner = let e = a .corner in omega arith; above = λ i h. let e = a .above i h in omega arith; left = λ i h. let e = a .left i h in omega arith },
+  record {
+    corner = let e = a .corner in omega arith;
+    above = λ i h. let e = a .above i h in omega arith;
+    left = λ i h. let e = a .left i h in omega arith;
+  },
+  record {
+    corner = let e = a .corner in omega arith;
+    above = λ i h. let e = a .above i h in omega arith;
+    left = λ i h. let e = a .left i h in omega arith;
+  },
 )
 
 module _ (n : ℕ) (F : Neighbours → ℕ) (m : Mean n F) where

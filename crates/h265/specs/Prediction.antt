@@ -1,4 +1,5 @@
--- 8.4.4.2.1, how a block's samples are predicted from its neighbours: filtering where it applies, then the mode's own clause. Assumes nothing.
+-- 8.4.4.2.1, how a block's samples are predicted from its neighbours: filtering where it applies, then the mode's own clause.
+-- Assumes nothing.
 use Prim.Native.Nat.{ℕ}
 use mathlib.Core.Bool.{Bool, cond, not, _&&_, _||_}
 use lib.Dec.{eqb}
