@@ -3,13 +3,12 @@
 use Prim.Native.Nat.{ℕ, _+_, _≤_}
 use mathlib.Core.Path.{_≡_, refl, ap, _∙_}
 use mathlib.Core.Bool.{Bool, true, false, cond}
-use mathlib.Core.List.{List, [], _∷_}
+use mathlib.Core.List.{List, [], _∷_, map}
 use native.Mathlib.Omega.{arith}
 use lib.Dec.{eqb}
 use lib.IntN.{ℤ}
 use lib.ListN.{length}
 use Rattle.laws.specs.Choose.{served}
-use Rattle.laws.specs.Chain.{sum}
 use Rattle.bytes.specs.Bytes.{samplesOf, residualsOf}
 use Rattle.bytes.specs.Laws.{AreBytes, length-samples}
 use Rattle.plan.specs.declared.tiling.Verdict.{Verdict}
@@ -26,7 +25,8 @@ use Rattle.camera.specs.replay.VerdictLaws.{fitting}
 use Rattle.camera.specs.replay.Door.{nextWritten, planeAfter}
 use Rattle.walk.specs.Lent.{scratchTables}
 use Rattle.camera.specs.replay.Spelt.{spelt-verdict, left}
-use Rattle.promises.specs.demand3.Calls.{Task, Held, Served, count, fresh, calls, walkVerdictAt, walkCall, replayCall}
+use Rattle.promises.specs.demand3.Calls.{Task, Ask, Roomy, granted, Each, Held, count, fresh, calls, walkCall, replayCall}
+use Rattle.promises.specs.demand3.Demand3.{WalksAll}
 use Rattle.promises.specs.demand3.Proof3.{demand-3}
 
 -- what all calls share: the still, the bytes of plan and residuals, and how long the result buffer is
@@ -36,9 +36,12 @@ pub record ByteJob : Type 0 where
   pub residuals : List ℕ
   pub result : ℕ
 
--- the job that they spell, with the tables that a call makes for itself
+-- the job that they spell, and a grant with the tables that a call makes for itself
 abbrev pub speltJob : ByteJob → Task
-speltJob j = record { still = j .still; plan = recordsOf (j .plan); tables = scratchTables }
+speltJob j = record { still = j .still; plan = recordsOf (j .plan) }
+
+abbrev pub own : ℕ → Ask
+own grant = record { grant = grant; tables = scratchTables }
 
 abbrev pub lentOf : ByteJob → List ℕ → Lent
 lentOf j plane = record { plan = j .plan; residuals = j .residuals; plane = length plane; result = j .result }
@@ -72,7 +75,7 @@ handed v plan p grant = go (eqb (v .no) 0) _ _
 module _ (j : ByteJob) where
   -- one call, refused or not
   pub one-call : (x : Held (List ℕ)) (grant : ℕ) → Fits j (x .world)
-      → (spelt (byteCall j x grant) ≡ replayCall (speltJob j) (residualsOf (j .residuals)) (spelt x) grant) × Fits j (byteCall j x grant .world)
+      → (spelt (byteCall j x grant) ≡ replayCall (speltJob j) (residualsOf (j .residuals)) (spelt x) (own grant)) × Fits j (byteCall j x grant .world)
   one-call x grant f =
       let l = left (j .still) (x .progress .done) (lentOf j (x .world)) grant (x .world) refl (f .long) (f .bytes) in
       let v = spelt-verdict (j .still) (x .progress .done) (lentOf j (x .world)) grant (x .world) refl (f .long) (f .bytes) in (
@@ -82,18 +85,24 @@ module _ (j : ByteJob) where
 
   -- any calls
   pub any-calls : (x : Held (List ℕ)) (grants : List ℕ) → Fits j (x .world)
-      → spelt (calls (byteCall j) x grants) ≡ calls (replayCall (speltJob j) (residualsOf (j .residuals))) (spelt x) grants
+      → spelt (calls (byteCall j) x grants) ≡ calls (replayCall (speltJob j) (residualsOf (j .residuals))) (spelt x) (map own grants)
   unfolding calls
   any-calls x [] f = refl
   any-calls x (g ∷ gs) f =
       let o = one-call x g f in
-      any-calls (byteCall j x g) gs (o .1) ∙ ap (λ (y : Held (List ℕ)). calls (replayCall (speltJob j) (residualsOf (j .residuals))) y gs) (o .0)
+      any-calls (byteCall j x g) gs (o .1) ∙ ap (λ (y : Held (List ℕ)). calls (replayCall (speltJob j) (residualsOf (j .residuals))) y (map own gs)) (o .0)
+
+  own-room : (grants : List ℕ) → Each Roomy (map own grants)
+  unfolding Each
+  own-room [] = tt
+  own-room (g ∷ gs) = (refl, own-room gs)
 
   -- The residuals of a walk, as bytes: replays whose grants reach the count leave the source.
-  pub source-back : (source : List ℕ) (w : World) (grants : List ℕ) → Served (walkVerdictAt (speltJob j) source (fresh w)) → count (speltJob j) ≤ sum grants
-      → residualsOf (j .residuals) ≡ calls (walkCall (speltJob j) source) (fresh w) grants .world .residuals
-      → (plane : List ℕ) → Fits j plane → (again : List ℕ) → count (speltJob j) ≤ sum again → samplesOf (calls (byteCall j) (fresh plane) again .world) ≡ source
-  source-back source w grants served enough spell plane f again all =
+  pub source-back : (source : List ℕ) (w : World) (asks : List Ask) → WalksAll (speltJob j) source w asks
+      → residualsOf (j .residuals) ≡ calls (walkCall (speltJob j) source) (fresh w) asks .world .residuals
+      → (plane : List ℕ) → Fits j plane → (again : List ℕ) → count (speltJob j) ≤ granted (map own again) → samplesOf (calls (byteCall j) (fresh plane) again .world) ≡ source
+  source-back source w asks walks spell plane f again all =
       ap (λ (x : Held (List ℕ)). x .world) (any-calls (fresh plane) again f)
-      ∙ ap (λ (r : List ℤ). calls (replayCall (speltJob j) r) (fresh (samplesOf plane)) again .world) spell
-      ∙ demand-3 .same (speltJob j) source w grants served enough (samplesOf plane) (omega (arith, length-samples plane, fitting (j .still) (lentOf j plane) (f .long) .plane)) again all
+      ∙ ap (λ (r : List ℤ). calls (replayCall (speltJob j) r) (fresh (samplesOf plane)) (map own again) .world) spell
+      ∙ demand-3 .same (speltJob j) source w asks walks (samplesOf plane) (omega (arith, length-samples plane, fitting (j .still) (lentOf j plane) (f .long) .plane))
+      (map own again) (own-room again) all

@@ -9,32 +9,36 @@ use native.Mathlib.Omega.{arith}
 use lib.Dec.{eqb}
 use lib.ListN.{length, getD, length-replicate}
 use borrow.Author.Tests.{eq-eqb, eqb-true}
-use Rattle.laws.specs.Chain.{sum}
 use Rattle.report.specs.file.File.{fileOk}
 use Rattle.report.specs.sums.Sums.{agree}
 use Rattle.report.specs.text.Text.{refusal, ending}
 use Rattle.walk.specs.Lent.{scratchTables}
 use Rattle.report.specs.Told.{zeros, blank, verdict, residuals, replayed, lines, told, printed, jobOf}
 use Rattle.report.specs.Told.{Job as File}
-use Rattle.promises.specs.demand3.Calls.{Task, calls}
+use Rattle.promises.specs.demand3.Calls.{Task, Ask, Roomy, granted, Each, calls}
 use Rattle.promises.specs.demand3.Chains.{sum-none, sum-more}
 use Rattle.promises.specs.demand3.Proof3.{demand-3}
 
 -- a file's walk and replay as demand 3 has them: one call each, which is granted every block
 abbrev job : File → Task
-job f = record { still = f .still; plan = f .plan; tables = scratchTables }
+job f = record { still = f .still; plan = f .plan }
 
-abbrev whole : File → List ℕ
-whole f = f .plan .count ∷ []
+abbrev whole : File → List Ask
+whole f = record { grant = f .plan .count; tables = scratchTables } ∷ []
 
-enough : (f : File) → f .plan .count ≤ sum (whole f)
+room : (f : File) → Each Roomy (whole f)
+unfolding Each
+room f = (refl, tt)
+
+enough : (f : File) → f .plan .count ≤ granted (whole f)
 enough f = omega (arith, sum-more (f .plan .count) [], sum-none)
 
 -- the replay over zeros gives the source
 pub source-back : (f : File) → verdict f .no ≡ 0 → replayed f ≡ f .source
 unfolding calls
 source-back f served =
-    demand-3 .same (job f) (f .source) (blank (f .still)) (whole f) served (enough f) (zeros (f .still)) (length-replicate _ 0) (whole f) (enough f)
+    demand-3 .same (job f) (f .source) (blank (f .still)) (whole f) (record { tables = scratchTables; served = served; room = room f; enough = enough f })
+    (zeros (f .still)) (length-replicate _ 0) (whole f) (room f) (enough f)
 
 agree-same : (a b : List ℕ) → a ≡ b → (k : ℕ) → agree a b k ≡ true
 unfolding agree

@@ -1,4 +1,4 @@
--- A call of walk or of replay is served exactly when its facts hold, and what it leaves is served again: the lengths stay. Rests on the plan's verdict.
+-- A call of walk or of replay whose scratch is long enough is served exactly when its facts hold, and what it leaves has them again: the lengths stay. Rests on the plan's verdict.
 use mathlib.Core.Path.{_≡_, refl, sym, ap, _∙_}
 use mathlib.Core.Bool.{Bool, true, false, cond, _&&_}
 use mathlib.Core.List.{List}
@@ -21,7 +21,7 @@ use Rattle.plan.specs.tiling.Verdict.{Accepted, good-verdict}
 use Rattle.walk.specs.declared.checks.Still.{Still}
 use Rattle.walk.specs.declared.Stepped.{Stepped}
 use Rattle.samples.specs.deltas.Deltas.{residualOk}
-use Rattle.walk.specs.checks.Checks.{largestIn, every, whole, roomy, settle}
+use Rattle.walk.specs.checks.Checks.{Tables, largestIn, every, whole, roomy, settle}
 use Rattle.walk.specs.block.Rebuilt.{replayUnit}
 use Rattle.walk.specs.block.Walked.{World, walked, walkUnit}
 use Rattle.walk.specs.calls.Door.{verdictOf, replayVerdict, replayAfter, walkVerdict, walkAfter}
@@ -30,7 +30,7 @@ use Rattle.walk.specs.block.RebuiltLaws.{rebuilt-length}
 use Rattle.walk.specs.block.Stored.{stored-length}
 use Rattle.walk.specs.lossless.Picture.{Whole}
 use Rattle.walk.specs.lossless.Replay.{units-kept}
-use Rattle.promises.specs.demand3.Calls.{Task, Held, blocks, count, walkVerdictAt, walkCall, replayVerdictAt, replayCall}
+use Rattle.promises.specs.demand3.Calls.{Task, Ask, Roomy, Held, blocks, count, walkVerdictAt, walkCall, replayVerdictAt, replayCall}
 use Rattle.promises.specs.demand3.Chains.{next, Steps}
 
 -- the verdict, where the checks before the blocks, the plan's and the record's all hold
@@ -43,12 +43,11 @@ module _ (s : Still) (plan : Plan) where
   blocks-fine w a =
       ap (λ (v : Verdict). v .no) (sym (blocks-alone (s .frame) plan (good-picture (s .frame) (a .picture)) w) ∙ good-verdict (s .frame) plan w a)
 
--- what every call asks for: the depth, the picture with its plan of whole records, the scratch, and a record of no more blocks than there are
+-- what every call asks for beside its scratch: the depth, the picture with its plan of whole records, and a record of no more blocks than there are
 pub record Asked (j : Task) (done : ℕ) : Type 0 where
   pub depth : Depth (j .still .bits)
   pub records : j .plan .whole ≡ true
   pub plan-ok : Accepted (j .still .frame) (blocks j) (count j)
-  pub room : roomy (j .tables) ≡ true
   pub few : done ≤ count j
 
 pub record Walking (j : Task) (source : List ℕ) (x : Held World) : Type 0 where
@@ -74,29 +73,29 @@ module _ (j : Task) where
   depth-fine : Depth (s .bits) → depthOk (s .bits) ≡ true
   depth-fine = at-depth (λ (k : ℕ). depthOk k ≡ true) refl refl refl (s .bits)
 
-  pub walk-told : (source : List ℕ) (x : Held World) → walkVerdictAt j source x .no ≡ 0 → Walking j source x
+  pub walk-told : (source : List ℕ) (x : Held World) (t : Tables) → walkVerdictAt j source x t .no ≡ 0 → Walking j source x
   unfolding walkVerdict
-  walk-told source x e =
+  walk-told source x t e =
       let v = verdict-zero s (j .plan) (x .progress .done) _ e in
       let depth = passed (depthOk (s .bits)) _ 1 (omega arith) (v .0) in
       let picture = passed (pictureOk (pictureOf (s .frame))) _ 4 (omega arith) (depth .1) in
-      let long = passed (j .plan .whole && whole s (length source) && whole s (length (x .world .work)) && whole s (length (x .world .residuals)) && roomy (j .tables)) _ 5 (omega arith) (picture .1) in
+      let long = passed (j .plan .whole && whole s (length source) && whole s (length (x .world .work)) && whole s (length (x .world .residuals)) && roomy t) _ 5 (omega arith) (picture .1) in
       let most = passed (every (λ v. leb v (largestIn s)) source) 0 7 (omega arith) (long .1) in
-      let c = both-true (j .plan .whole && whole s (length source) && whole s (length (x .world .work)) && whole s (length (x .world .residuals))) (roomy (j .tables)) (long .0) in
+      let c = both-true (j .plan .whole && whole s (length source) && whole s (length (x .world .work)) && whole s (length (x .world .residuals))) (roomy t) (long .0) in
       let b = both-true (j .plan .whole && whole s (length source) && whole s (length (x .world .work))) (whole s (length (x .world .residuals))) (c .0) in
       let a = both-true (j .plan .whole && whole s (length source)) (whole s (length (x .world .work))) (b .0) in
       let p = both-true (j .plan .whole) (whole s (length source)) (a .0) in
       record {
-        asked = record { depth = depth-of (s .bits) (depth .0); records = p .0; plan-ok = blocks-accepted s (j .plan) (picture .0) (p .0) (v .1 .0); room = c .1; few = v .1 .1 };
+        asked = record { depth = depth-of (s .bits) (depth .0); records = p .0; plan-ok = blocks-accepted s (j .plan) (picture .0) (p .0) (v .1 .0); few = v .1 .1 };
         source-whole = eqb-true (length source) size (p .1);
         work-whole = eqb-true (length (x .world .work)) size (a .1);
         residuals-whole = eqb-true (length (x .world .residuals)) size (b .1);
         samples = most .0;
       }
 
-  pub walk-fine : (source : List ℕ) (x : Held World) → Walking j source x → walkVerdictAt j source x .no ≡ 0
+  pub walk-fine : (source : List ℕ) (x : Held World) (t : Tables) → Walking j source x → roomy t ≡ true → walkVerdictAt j source x t .no ≡ 0
   unfolding walkVerdict
-  walk-fine source x w =
+  walk-fine source x t w room =
       verdict-fine s (j .plan) (x .progress .done) _
       (simp (
         depth-fine (w .asked .depth),
@@ -105,32 +104,32 @@ module _ (j : Task) where
         eq-eqb (length source) size (w .source-whole),
         eq-eqb (length (x .world .work)) size (w .work-whole),
         eq-eqb (length (x .world .residuals)) size (w .residuals-whole),
-        w .asked .room,
+        room,
         w .samples,
       ))
       (blocks-fine s (j .plan) (w .asked .records) (w .asked .plan-ok)) (w .asked .few)
 
-  pub replay-told : (residuals : List ℤ) (x : Held (List ℕ)) → replayVerdictAt j residuals x .no ≡ 0 → Replaying j residuals x
+  pub replay-told : (residuals : List ℤ) (x : Held (List ℕ)) (t : Tables) → replayVerdictAt j residuals x t .no ≡ 0 → Replaying j residuals x
   unfolding replayVerdict
-  replay-told residuals x e =
+  replay-told residuals x t e =
       let v = verdict-zero s (j .plan) (x .progress .done) _ e in
       let depth = passed (depthOk (s .bits)) _ 1 (omega arith) (v .0) in
       let picture = passed (pictureOk (pictureOf (s .frame))) _ 4 (omega arith) (depth .1) in
-      let long = passed (j .plan .whole && whole s (length (x .world)) && whole s (length residuals) && roomy (j .tables)) _ 5 (omega arith) (picture .1) in
+      let long = passed (j .plan .whole && whole s (length (x .world)) && whole s (length residuals) && roomy t) _ 5 (omega arith) (picture .1) in
       let most = passed (every residualOk residuals) 0 8 (omega arith) (long .1) in
-      let b = both-true (j .plan .whole && whole s (length (x .world)) && whole s (length residuals)) (roomy (j .tables)) (long .0) in
+      let b = both-true (j .plan .whole && whole s (length (x .world)) && whole s (length residuals)) (roomy t) (long .0) in
       let a = both-true (j .plan .whole && whole s (length (x .world))) (whole s (length residuals)) (b .0) in
       let p = both-true (j .plan .whole) (whole s (length (x .world))) (a .0) in
       record {
-        asked = record { depth = depth-of (s .bits) (depth .0); records = p .0; plan-ok = blocks-accepted s (j .plan) (picture .0) (p .0) (v .1 .0); room = b .1; few = v .1 .1 };
+        asked = record { depth = depth-of (s .bits) (depth .0); records = p .0; plan-ok = blocks-accepted s (j .plan) (picture .0) (p .0) (v .1 .0); few = v .1 .1 };
         plane-whole = eqb-true (length (x .world)) size (p .1);
         residuals-whole = eqb-true (length residuals) size (a .1);
         in-range = most .0;
       }
 
-  pub replay-fine : (residuals : List ℤ) (x : Held (List ℕ)) → Replaying j residuals x → replayVerdictAt j residuals x .no ≡ 0
+  pub replay-fine : (residuals : List ℤ) (x : Held (List ℕ)) (t : Tables) → Replaying j residuals x → roomy t ≡ true → replayVerdictAt j residuals x t .no ≡ 0
   unfolding replayVerdict
-  replay-fine residuals x w =
+  replay-fine residuals x t w room =
       verdict-fine s (j .plan) (x .progress .done) _
       (simp (
         depth-fine (w .asked .depth),
@@ -138,7 +137,7 @@ module _ (j : Task) where
         w .asked .records,
         eq-eqb (length (x .world)) size (w .plane-whole),
         eq-eqb (length residuals) size (w .residuals-whole),
-        w .asked .room,
+        room,
         w .in-range,
       ))
       (blocks-fine s (j .plan) (w .asked .records) (w .asked .plan-ok)) (w .asked .few)
@@ -150,35 +149,37 @@ module _ (j : Task) where
   joined false y z w v = refl
 
   further : {done : ℕ} → Asked j done → (grant : ℕ) → Asked j (done + min grant (count j - done))
-  further a grant = record { depth = a .depth; records = a .records; plan-ok = a .plan-ok; room = a .room; few = omega arith }
+  further a grant = record { depth = a .depth; records = a .records; plan-ok = a .plan-ok; few = omega arith }
 
-  pub walk-steps : (source : List ℕ) → Steps (λ (x : Held World). walkVerdictAt j source x .no) (walkUnit s (blocks j) source) (count j) (walkCall j source)
+  pub walk-steps : (source : List ℕ)
+      → Steps (λ (a : Ask). a .grant) Roomy (Walking j source) (λ x a. walkVerdictAt j source x (a .tables) .no) (walkUnit s (blocks j) source) (count j) (walkCall j source)
   unfolding walkAfter walked
   walk-steps source = record {
-    call-is = λ x grant. joined (eqb (walkVerdictAt j source x .no) 0) _ _ _ _;
-    again = λ x grant e.
-        let w = walk-told source x e in
-        walk-fine source (next (walkUnit s (blocks j) source) (count j) x grant)
-        (record {
+    call-is = λ x a. joined (eqb (walkVerdictAt j source x (a .tables) .no) 0) _ _ _ _;
+    fine = λ x a. walk-fine source x (a .tables);
+    told = λ x a. walk-told source x (a .tables);
+    again = λ x grant w.
+        record {
           asked = further (w .asked) grant;
           source-whole = w .source-whole;
           work-whole = units-kept (walkUnit s (blocks j) source) (λ (u : World). length (u .work)) _ _ (x .world) (λ k u l m. rebuilt-length s (blocks j k) (place (blocks j) k) _ (u .work)) ∙ w .work-whole;
           residuals-whole = units-kept (walkUnit s (blocks j) source) (λ (u : World). length (u .residuals)) _ _ (x .world) (λ k u l m. stored-length s source (blocks j k) (place (blocks j) k) (u .work) (u .residuals)) ∙ w .residuals-whole;
           samples = w .samples;
-        });
+        };
   }
 
-  pub replay-steps : (residuals : List ℤ) → Steps (λ (x : Held (List ℕ)). replayVerdictAt j residuals x .no) (replayUnit s (blocks j) residuals) (count j) (replayCall j residuals)
+  pub replay-steps : (residuals : List ℤ)
+      → Steps (λ (a : Ask). a .grant) Roomy (Replaying j residuals) (λ x a. replayVerdictAt j residuals x (a .tables) .no) (replayUnit s (blocks j) residuals) (count j) (replayCall j residuals)
   unfolding replayAfter
   replay-steps residuals = record {
-    call-is = λ x grant. joined (eqb (replayVerdictAt j residuals x .no) 0) _ _ _ _;
-    again = λ x grant e.
-        let w = replay-told residuals x e in
-        replay-fine residuals (next (replayUnit s (blocks j) residuals) (count j) x grant)
-        (record {
+    call-is = λ x a. joined (eqb (replayVerdictAt j residuals x (a .tables) .no) 0) _ _ _ _;
+    fine = λ x a. replay-fine residuals x (a .tables);
+    told = λ x a. replay-told residuals x (a .tables);
+    again = λ x grant w.
+        record {
           asked = further (w .asked) grant;
           plane-whole = units-kept (replayUnit s (blocks j) residuals) length _ _ (x .world) (λ k u l m. rebuilt-length s (blocks j k) (place (blocks j) k) residuals u) ∙ w .plane-whole;
           residuals-whole = w .residuals-whole;
           in-range = w .in-range;
-        });
+        };
   }

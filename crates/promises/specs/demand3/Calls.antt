@@ -1,9 +1,11 @@
 -- A call of walk or of replay as its door has it, and a chain of calls, each given the progress record that the one before handed back. Assumes nothing.
 use Prim.Native.Nat.{ℕ, _+_, _*_}
 use mathlib.Core.Path.{_≡_}
-use mathlib.Core.List.{List, [], _∷_}
+use mathlib.Core.Bool.{true}
+use mathlib.Core.List.{List, [], _∷_, map}
 use lib.IntN.{ℤ, pos}
 use lib.ListN.{length, getD}
+use Rattle.laws.specs.Chain.{sum}
 use Rattle.plan.specs.declared.tiling.Block.{Block}
 use Rattle.plan.specs.declared.tiling.Verdict.{Verdict}
 use Rattle.plan.specs.tiling.Tiling.{place}
@@ -11,15 +13,27 @@ use Rattle.plan.specs.tiling.Plan.{Plan}
 use Rattle.walk.specs.declared.checks.Still.{Still}
 use Rattle.walk.specs.declared.Progress.{Progress}
 use Rattle.walk.specs.block.Walked.{World}
-use Rattle.walk.specs.checks.Checks.{Tables}
+use Rattle.walk.specs.checks.Checks.{Tables, roomy}
 use Rattle.walk.specs.calls.Door.{walkVerdict, walkAfter, replayVerdict, replayAfter}
 use Rattle.walk.specs.Door.{steppedBy}
 
--- what all calls share: the still, its plan, and how long the lent scratch tables are
+-- what all calls share: the still and its plan
 pub record Task : Type 0 where
   pub still : Still
   pub plan : Plan
+
+-- what one call is given beside the record: how many blocks it may do, and scratch tables of such lengths
+pub record Ask : Type 0 where
+  pub grant : ℕ
   pub tables : Tables
+
+-- scratch that is long enough
+abbrev pub Roomy : Ask → Type 0
+Roomy a = roomy (a .tables) ≡ true
+
+-- all that is granted
+abbrev pub granted : List Ask → ℕ
+granted asks = sum (map (λ (a : Ask). a .grant) asks)
 
 -- the blocks of the plan, and their number
 abbrev pub blocks : Task → ℕ → Block
@@ -42,32 +56,48 @@ abbrev pub fresh : {W : Type 0} → W → Held W
 fresh w = record { progress = record { done = 0 }; world = w }
 
 -- a call of walk: the record that it hands back, the work plane and the residuals that it leaves
-abbrev pub walkVerdictAt : Task → List ℕ → Held World → Verdict
-walkVerdictAt j source x = walkVerdict (j .still) (j .plan) (j .tables) (x .progress .done) source (x .world)
+abbrev pub walkVerdictAt : Task → List ℕ → Held World → Tables → Verdict
+walkVerdictAt j source x t = walkVerdict (j .still) (j .plan) t (x .progress .done) source (x .world)
 
-abbrev pub walkCall : Task → List ℕ → Held World → ℕ → Held World
-walkCall j source x grant =
+abbrev pub walkCall : Task → List ℕ → Held World → Ask → Held World
+walkCall j source x a =
     record {
-      progress = steppedBy (walkVerdictAt j source x) (j .plan) (x .progress) grant .next;
-      world = walkAfter (j .still) (j .plan) (j .tables) (x .progress .done) grant source (x .world);
+      progress = steppedBy (walkVerdictAt j source x (a .tables)) (j .plan) (x .progress) (a .grant) .next;
+      world = walkAfter (j .still) (j .plan) (a .tables) (x .progress .done) (a .grant) source (x .world);
     }
 
 -- a call of replay: the record that it hands back, the plane that it leaves
-abbrev pub replayVerdictAt : Task → List ℤ → Held (List ℕ) → Verdict
-replayVerdictAt j residuals x = replayVerdict (j .still) (j .plan) (j .tables) (x .progress .done) (length (x .world)) residuals
+abbrev pub replayVerdictAt : Task → List ℤ → Held (List ℕ) → Tables → Verdict
+replayVerdictAt j residuals x t = replayVerdict (j .still) (j .plan) t (x .progress .done) (length (x .world)) residuals
 
-abbrev pub replayCall : Task → List ℤ → Held (List ℕ) → ℕ → Held (List ℕ)
-replayCall j residuals x grant =
+abbrev pub replayCall : Task → List ℤ → Held (List ℕ) → Ask → Held (List ℕ)
+replayCall j residuals x a =
     record {
-      progress = steppedBy (replayVerdictAt j residuals x) (j .plan) (x .progress) grant .next;
-      world = replayAfter (j .still) (j .plan) (j .tables) (x .progress .done) grant residuals (x .world);
+      progress = steppedBy (replayVerdictAt j residuals x (a .tables)) (j .plan) (x .progress) (a .grant) .next;
+      world = replayAfter (j .still) (j .plan) (a .tables) (x .progress .done) (a .grant) residuals (x .world);
     }
 
 -- a call that is not refused
 abbrev pub Served : Verdict → Type 0
 Served v = v .no ≡ 0
 
--- a chain of calls, one for each grant
-unfoldable pub calls : {S : Type 0} → (S → ℕ → S) → S → List ℕ → S
+-- a chain of calls, each given what the one before handed back
+unfoldable pub calls : {S A : Type 0} → (S → A → S) → S → List A → S
 calls call x [] = x
-calls call x (grant ∷ grants) = calls call (call x grant) grants
+calls call x (a ∷ l) = calls call (call x a) l
+
+-- every call of a chain has the number 0
+unfoldable pub AllServed : {S A : Type 0} → (S → A → ℕ) → (S → A → S) → S → List A → Type 0
+AllServed number call x [] = Unit {0}
+AllServed number call x (a ∷ l) = (number x a ≡ 0) × AllServed number call (call x a) l
+
+abbrev pub WalksServed : Task → List ℕ → Held World → List Ask → Type 0
+WalksServed j source = AllServed (λ (x : Held World) (a : Ask). walkVerdictAt j source x (a .tables) .no) (walkCall j source)
+
+abbrev pub ReplaysServed : Task → List ℤ → Held (List ℕ) → List Ask → Type 0
+ReplaysServed j residuals = AllServed (λ (x : Held (List ℕ)) (a : Ask). replayVerdictAt j residuals x (a .tables) .no) (replayCall j residuals)
+
+-- every entry of a list is so
+unfoldable pub Each : {A : Type 0} → (A → Type 0) → List A → Type 0
+Each p [] = Unit {0}
+Each p (a ∷ l) = p a × Each p l

@@ -1,12 +1,12 @@
--- A chain of calls is one call with the sum of the grants, refused or not, for any call that does units. Rests on the laws of units.
-use mathlib.Core.Path.{_≡_, refl, sym, ap, ap₂, _∙_}
-use mathlib.Core.List.{List, [], _∷_}
+-- A chain of calls is one call with the sum of the grants, refused or not, for any call that does units; and where one is served, all are. Rests on the laws of units.
+use mathlib.Core.Path.{_≡_, refl, sym, ap, ap₂, _∙_, subst}
+use mathlib.Core.List.{List, [], _∷_, map}
 use Prim.Native.Nat.{ℕ, _+_, _-_, min}
 use native.Mathlib.Omega.{arith}
 use native.Mathlib.Decide.{ℕ-discrete}
 use Rattle.laws.specs.Choose.{served, worked, unserved}
 use Rattle.laws.specs.Chain.{sum, units, State, step, chain, chain-all}
-use Rattle.promises.specs.demand3.Calls.{Held, fresh, calls}
+use Rattle.promises.specs.demand3.Calls.{Held, fresh, calls, AllServed, Each}
 
 -- the sum of the grants, grant by grant; the laws of units give it
 pub sum-none : sum [] ≡ 0
@@ -37,49 +37,65 @@ next unit count x grant =
 abbrev pub after : {W : Type 0} → (ℕ → W → W) → ℕ → W → Held W
 after unit k w = record { progress = record { done = k }; world = units unit 0 k w }
 
--- a call that goes by a number, whose number stays 0 once it is
-pub record Steps {W : Type 0} (number : Held W → ℕ) (unit : ℕ → W → W) (count : ℕ) (call : Held W → ℕ → Held W) : Type 0 where
-  pub call-is : (x : Held W) (grant : ℕ) → call x grant ≡ served (number x) (next unit count x grant) x
-  pub again : (x : Held W) (grant : ℕ) → number x ≡ 0 → number (next unit count x grant) ≡ 0
+-- A call that goes by a number: 0 where what is held is ready and what the call is given is fit, and of nothing else that is held. What such a call leaves
+-- is ready again.
+pub record Steps {W A : Type 0} (grant : A → ℕ) (Fit : A → Type 0) (Ready : Held W → Type 0) (number : Held W → A → ℕ) (unit : ℕ → W → W) (count : ℕ)
+    (call : Held W → A → Held W)
+    : Type 0
+  where
+    pub call-is : (x : Held W) (a : A) → call x a ≡ served (number x a) (next unit count x (grant a)) x
+    pub fine : (x : Held W) (a : A) → Ready x → Fit a → number x a ≡ 0
+    pub told : (x : Held W) (a : A) → number x a ≡ 0 → Ready x
+    pub again : (x : Held W) (g : ℕ) → Ready x → Ready (next unit count x g)
 
-module _ {W : Type 0} {number : Held W → ℕ} {unit : ℕ → W → W} {count : ℕ} {call : Held W → ℕ → Held W} (f : Steps number unit count call) where
-  abbrev from : Held W → State unit count
-  from x = record { done = x .progress .done; world = x .world }
+module _ {W A : Type 0} {grant : A → ℕ} {Fit : A → Type 0} {Ready : Held W → Type 0} {number : Held W → A → ℕ} {unit : ℕ → W → W} {count : ℕ}
+    {call : Held W → A → Held W} (f : Steps grant Fit Ready number unit count call)
+  where
+    abbrev from : Held W → State unit count
+    from x = record { done = x .progress .done; world = x .world }
 
-  abbrev to : State unit count → Held W
-  to s = record { progress = record { done = s .done }; world = s .world }
+    abbrev to : State unit count → Held W
+    to s = record { progress = record { done = s .done }; world = s .world }
 
-  pub does : (x : Held W) (grant : ℕ) → number x ≡ 0 → call x grant ≡ next unit count x grant
-  does x grant e = f .call-is x grant ∙ sym (worked (number x) (next unit count x grant) x e)
+    does : (x : Held W) (a : A) → number x a ≡ 0 → call x a ≡ next unit count x (grant a)
+    does x a e = f .call-is x a ∙ sym (worked (number x a) (next unit count x (grant a)) x e)
 
-  pub refuses : (x : Held W) (grant : ℕ) → (number x ≡ 0 → ⊥) → call x grant ≡ x
-  refuses x grant e = f .call-is x grant ∙ sym (unserved (number x) (next unit count x grant) x e)
+    refuses : (x : Held W) (a : A) → (number x a ≡ 0 → ⊥) → call x a ≡ x
+    refuses x a e = f .call-is x a ∙ sym (unserved (number x a) (next unit count x (grant a)) x e)
 
-  chained : (x : Held W) (gs : List ℕ) → number x ≡ 0 → calls call x gs ≡ to (chain unit count (from x) gs)
-  unfolding calls chain
-  chained x [] e = refl
-  chained x (g ∷ gs) e = ap (λ (y : Held W). calls call y gs) (does x g e) ∙ chained (next unit count x g) gs (f .again x g e)
+    chained : (x : Held W) (l : List A) → Ready x → Each Fit l → calls call x l ≡ to (chain unit count (from x) (map grant l))
+    unfolding calls chain Each
+    chained x [] r h = refl
+    chained x (a ∷ l) r h = ap (λ (y : Held W). calls call y l) (does x a (f .fine x a r (h .0))) ∙ chained (next unit count x (grant a)) l (f .again x (grant a) r) (h .1)
 
-  stays : (x : Held W) (gs : List ℕ) → (number x ≡ 0 → ⊥) → calls call x gs ≡ x
-  unfolding calls
-  stays x [] e = refl
-  stays x (g ∷ gs) e = ap (λ (y : Held W). calls call y gs) (refuses x g e) ∙ stays x gs e
+    stays : (x : Held W) (l : List A) → (Ready x → ⊥) → calls call x l ≡ x
+    unfolding calls
+    stays x [] n = refl
+    stays x (a ∷ l) n = ap (λ (y : Held W). calls call y l) (refuses x a (λ e. n (f .told x a e))) ∙ stays x l n
 
-  -- calls that are served
-  pub all-done : (x : Held W) (gs : List ℕ) → number x ≡ 0 → calls call x gs ≡ next unit count x (sum gs)
-  all-done x gs e = chained x gs e ∙ ap to (chain-all unit count (from x) gs)
+    -- calls that are served, each of them
+    pub all-done : (x : Held W) (l : List A) → Ready x → Each Fit l → calls call x l ≡ next unit count x (sum (map grant l))
+    all-done x l r h = chained x l r h ∙ ap to (chain-all unit count (from x) (map grant l))
 
-  -- any split is one call
-  pub split : (x : Held W) (gs : List ℕ) → calls call x gs ≡ call x (sum gs)
-  split x gs = go (ℕ-discrete (number x) 0)
-    where
-      go : Dec (number x ≡ 0) → calls call x gs ≡ call x (sum gs)
-      go (yes e) = all-done x gs e ∙ sym (does x (sum gs) e)
-      go (no e) = stays x gs e ∙ sym (refuses x (sum gs) e)
+    pub all-served : (x : Held W) (l : List A) → Ready x → Each Fit l → AllServed number call x l
+    unfolding AllServed Each
+    all-served x [] r h = tt
+    all-served x (a ∷ l) r h =
+        let e = f .fine x a r (h .0) in
+        (e, subst (λ (y : Held W). AllServed number call y l) (sym (does x a e)) (all-served (next unit count x (grant a)) l (f .again x (grant a) r) (h .1)))
 
-  -- from a fresh record
-  pub from-fresh : (w : W) (gs : List ℕ) → number (fresh w) ≡ 0 → calls call (fresh w) gs ≡ after unit (min (sum gs) count) w
-  from-fresh w gs e =
-      let did : min (sum gs) (count - 0) ≡ min (sum gs) count = omega arith in
-      let done : 0 + min (sum gs) (count - 0) ≡ min (sum gs) count = omega arith in
-      all-done (fresh w) gs e ∙ ap₂ (λ (a b : ℕ). record { progress = record { done = a }; world = units unit 0 b w }) done did
+    -- any split is one call
+    pub split : (x : Held W) (l : List A) (a : A) → Each Fit l → Fit a → grant a ≡ sum (map grant l) → calls call x l ≡ call x a
+    split x l a h k e = go (ℕ-discrete (number x a) 0)
+      where
+        go : Dec (number x a ≡ 0) → calls call x l ≡ call x a
+        go (yes z) = all-done x l (f .told x a z) h ∙ ap (next unit count x) (sym e) ∙ sym (does x a z)
+        go (no n) = stays x l (λ r. n (f .fine x a r k)) ∙ sym (refuses x a n)
+
+    -- from a fresh record
+    pub from-fresh : (w : W) (l : List A) → Ready (fresh w) → Each Fit l → calls call (fresh w) l ≡ after unit (min (sum (map grant l)) count) w
+    from-fresh w l r h =
+        let total = sum (map grant l) in
+        let did : min total (count - 0) ≡ min total count = omega arith in
+        let done : 0 + min total (count - 0) ≡ min total count = omega arith in
+        all-done (fresh w) l r h ∙ ap₂ (λ (a b : ℕ). record { progress = record { done = a }; world = units unit 0 b w }) done did

@@ -9,7 +9,7 @@ use lib.IntN.{ℤ, pos, natAbs}
 use lib.ListN.{length, getD}
 use borrow.Author.Tests.{le-leb}
 use Rattle.laws.specs.Choose.{worked}
-use Rattle.laws.specs.Chain.{sum, units}
+use Rattle.laws.specs.Chain.{units}
 use Rattle.domain.specs.Facts.{Depth, at-depth, size-small}
 use Rattle.plan.specs.declared.tiling.Verdict.{Verdict}
 use Rattle.plan.specs.tiling.Tiling.{In, Covered, place}
@@ -19,7 +19,7 @@ use Rattle.walk.specs.declared.checks.Still.{Still}
 use Rattle.walk.specs.declared.Progress.{Progress}
 use Rattle.walk.specs.declared.Stepped.{Stepped}
 use Rattle.samples.specs.deltas.Deltas.{residualOk}
-use Rattle.walk.specs.checks.Checks.{largestIn, every}
+use Rattle.walk.specs.checks.Checks.{Tables, largestIn, every}
 use Rattle.walk.specs.block.Predicted.{sampleAt, predictedAt}
 use Rattle.walk.specs.block.Rebuilt.{replayUnit}
 use Rattle.walk.specs.block.Walked.{World, stored, walked, walkUnit}
@@ -27,9 +27,9 @@ use Rattle.walk.specs.Door.{steppedBy}
 use Rattle.walk.specs.block.RebuiltLaws.{rebuilt-length}
 use Rattle.walk.specs.lossless.Picture.{Sample, OfS, Whole, look, predict, residual, less, local, rebuild-out, store-out, replays, sourced, walks-plan}
 use Rattle.walk.specs.lossless.Replay.{units-kept, replay-same, replay-source, walks}
-use Rattle.promises.specs.demand3.Calls.{Task, Held, Served, blocks, count, residualAt, fresh, calls, walkVerdictAt, walkCall, replayVerdictAt, replayCall}
-use Rattle.promises.specs.demand3.Chains.{next, after, all-done, split, from-fresh}
-use Rattle.promises.specs.demand3.Accept.{Walking, walk-told, replay-told, replay-fine, walk-steps, replay-steps}
+use Rattle.promises.specs.demand3.Calls.{Task, Ask, Roomy, granted, Each, Held, Served, ReplaysServed, blocks, count, residualAt, fresh, calls, walkCall, replayVerdictAt, replayCall}
+use Rattle.promises.specs.demand3.Chains.{next, after, all-done, all-served, split, from-fresh}
+use Rattle.promises.specs.demand3.Accept.{Walking, Replaying, walk-told, replay-told, walk-steps, replay-steps}
 use Rattle.promises.specs.demand3.Range.{predicted-most}
 use Rattle.promises.specs.demand3.Spots.{by-samples, every-of, most-at, less-small, in-block, part-of, spot, covered-in, spot-of, spot-residual, spot-predict}
 use Rattle.promises.specs.demand3.Demand3.{LosslessWalk, Replayed, WalkKeeps, ReplayKeeps, Demand3}
@@ -38,12 +38,9 @@ abbrev at : {s : Still} (r c : ℕ) → In (s .frame) r c → Sample s
 at r c h = record { row = r; col = c; row-in = h .0; col-in = h .1 }
 
 -- a walk of the whole picture
-module _ (j : Task) (source : List ℕ) (w : World) (served : Served (walkVerdictAt j source (fresh w))) where
+module _ (j : Task) (source : List ℕ) (w : World) (facts : Walking j source (fresh w)) where
   abbrev s : Still
   s = j .still
-
-  facts : Walking j source (fresh w)
-  facts = walk-told j source (fresh w) served
 
   ok : Accepted (s .frame) (blocks j) (count j)
   ok = facts .asked .plan-ok
@@ -74,14 +71,14 @@ module _ (j : Task) (source : List ℕ) (w : World) (served : Served (walkVerdic
       ∙ ap (less (sampleAt s source (blocks j i .row + r) (blocks j i .col + c))) (spot-predict s (blocks j) (count j) ok i r c l hr hc source)
 
   -- grants that reach the count walk it all
-  calls-are : (grants : List ℕ) → count j ≤ sum grants → calls (walkCall j source) (fresh w) grants ≡ after (walkUnit s (blocks j) source) (count j) w
-  calls-are grants h =
-      let e : min (sum grants) (count j) ≡ count j = omega arith in
-      from-fresh (walk-steps j source) w grants served ∙ ap (λ (k : ℕ). after (walkUnit s (blocks j) source) k w) e
+  calls-are : (asks : List Ask) → Each Roomy asks → count j ≤ granted asks → calls (walkCall j source) (fresh w) asks ≡ after (walkUnit s (blocks j) source) (count j) w
+  calls-are asks room h =
+      let e : min (granted asks) (count j) ≡ count j = omega arith in
+      from-fresh (walk-steps j source) w asks facts room ∙ ap (λ (k : ℕ). after (walkUnit s (blocks j) source) k w) e
 
-  walk-all : (grants : List ℕ) → count j ≤ sum grants → LosslessWalk j source (calls (walkCall j source) (fresh w) grants)
-  walk-all grants h =
-      subst (LosslessWalk j source) (sym (calls-are grants h))
+  walk-all : (asks : List Ask) → Each Roomy asks → count j ≤ granted asks → LosslessWalk j source (calls (walkCall j source) (fresh w) asks)
+  walk-all asks room h =
+      subst (LosslessWalk j source) (sym (calls-are asks room h))
       (record {
         all-done = refl;
         residuals = residual-is;
@@ -118,16 +115,18 @@ module _ (j : Task) (source : List ℕ) (w : World) (served : Served (walkVerdic
           let q = in-block (blocks j (p .0) .side) (place (blocks j) (p .0)) n (omega arith) (p .2) (p .3) in
           one (p .0) (q .0) (q .1) n (p .1) (q .2) (q .3) (q .4)
 
-  module _ (plane : List ℕ) (long : Whole s plane) where
-    replay-served : Served (replayVerdictAt j (all .residuals) (fresh plane))
-    replay-served =
-        replay-fine j (all .residuals) (fresh plane) (record { asked = facts .asked; plane-whole = long; residuals-whole = told .0; in-range = in-range })
+  module _ (plane : List ℕ) (long : Whole s plane) (again : List Ask) (room : Each Roomy again) where
+    ready : Replaying j (all .residuals) (fresh plane)
+    ready = record { asked = facts .asked; plane-whole = long; residuals-whole = told .0; in-range = in-range }
 
-    replay-back : (again : List ℕ) → Replayed j source plane (min (sum again) (count j)) (calls (replayCall j (all .residuals)) (fresh plane) again)
-    replay-back again =
-        let k = min (sum again) (count j) in
+    out : calls (replayCall j (all .residuals)) (fresh plane) again ≡ after (replayUnit s (blocks j) (all .residuals)) (min (granted again) (count j)) plane
+    out = from-fresh (replay-steps j (all .residuals)) plane again ready room
+
+    replay-back : Replayed j source plane (min (granted again) (count j)) (calls (replayCall j (all .residuals)) (fresh plane) again)
+    replay-back =
+        let k = min (granted again) (count j) in
         let most : k ≤ count j = omega arith in
-        subst (Replayed j source plane k) (sym (from-fresh (replay-steps j (all .residuals)) plane again replay-served))
+        subst (Replayed j source plane k) (sym out)
         (record {
           done = refl;
           source-back = λ r c v.
@@ -138,38 +137,37 @@ module _ (j : Task) (source : List ℕ) (w : World) (served : Served (walkVerdic
               (λ i u a b. rebuild-out s (blocks j) (count j) ok depth i (all .residuals) u (omega arith) (at r c h) (λ o. n (i, omega arith, o)));
         })
 
-    replay-same-all : (again : List ℕ) → count j ≤ sum again → calls (replayCall j (all .residuals)) (fresh plane) again .world ≡ source
-    replay-same-all again h =
-        let k = min (sum again) (count j) in
+    replay-same-all : count j ≤ granted again → calls (replayCall j (all .residuals)) (fresh plane) again .world ≡ source
+    replay-same-all h =
+        let k = min (granted again) (count j) in
         let e : count j ≡ k = omega arith in
         let some = ok .picture .wide .low in
-        let out = from-fresh (replay-steps j (all .residuals)) plane again replay-served in
         let kept = units-kept (replayUnit s (blocks j) (all .residuals)) length 0 k plane (λ i u a b. rebuilt-length s (blocks j i) (place (blocks j) i) (all .residuals) u) in
         by-samples s _ source (omega arith) (ap (λ (x : Held (List ℕ)). length (x .world)) out ∙ kept ∙ long) (facts .source-whole)
-        (λ r c i. replay-back again .source-back r c (subst (λ (n : ℕ). Covered (blocks j) n r c) e (ok .plan-good .all r c i)))
+        (λ r c i. replay-back .source-back r c (subst (λ (n : ℕ). Covered (blocks j) n r c) e (ok .plan-good .all r c i)))
 
-    replay-all : (grants : List ℕ) → count j ≤ sum grants → (again : List ℕ)
-        → let residuals = calls (walkCall j source) (fresh w) grants .world .residuals in
-        Served (replayVerdictAt j residuals (fresh plane)) × Replayed j source plane (min (sum again) (count j)) (calls (replayCall j residuals) (fresh plane) again)
-    replay-all grants h again =
-        subst (λ (x : Held World). Served (replayVerdictAt j (x .world .residuals) (fresh plane)) × Replayed j source plane (min (sum again) (count j)) (calls (replayCall j (x .world .residuals)) (fresh plane) again))
-        (sym (calls-are grants h)) (replay-served, replay-back again)
+    replay-all : (asks : List Ask) → Each Roomy asks → count j ≤ granted asks
+        → let residuals = calls (walkCall j source) (fresh w) asks .world .residuals in
+        ReplaysServed j residuals (fresh plane) again × Replayed j source plane (min (granted again) (count j)) (calls (replayCall j residuals) (fresh plane) again)
+    replay-all asks long-enough h =
+        subst (λ (x : Held World). ReplaysServed j (x .world .residuals) (fresh plane) again × Replayed j source plane (min (granted again) (count j)) (calls (replayCall j (x .world .residuals)) (fresh plane) again))
+        (sym (calls-are asks long-enough h)) (all-served (replay-steps j (all .residuals)) (fresh plane) again ready room, replay-back)
 
 -- residuals that are not the walk's
-replay-altered : (j : Task) (residuals : List ℤ) (a b : List ℕ) (grants others : List ℕ) → Served (replayVerdictAt j residuals (fresh a)) → Whole (j .still) b
-    → min (sum grants) (count j) ≡ min (sum others) (count j) → (r c : ℕ) → Covered (blocks j) (min (sum grants) (count j)) r c
-    → sampleAt (j .still) (calls (replayCall j residuals) (fresh a) grants .world) r c ≡ sampleAt (j .still) (calls (replayCall j residuals) (fresh b) others .world) r c
-replay-altered j v a b grants others served long e r c cov =
+replay-altered : (j : Task) (residuals : List ℤ) (a b : List ℕ) (asks others : List Ask) (t : Tables) → Served (replayVerdictAt j residuals (fresh a) t) → Whole (j .still) b
+    → Each Roomy asks → Each Roomy others → min (granted asks) (count j) ≡ min (granted others) (count j) → (r c : ℕ) → Covered (blocks j) (min (granted asks) (count j)) r c
+    → sampleAt (j .still) (calls (replayCall j residuals) (fresh a) asks .world) r c ≡ sampleAt (j .still) (calls (replayCall j residuals) (fresh b) others .world) r c
+replay-altered j v a b asks others t served long room roomy e r c cov =
     let s = j .still in
-    let f = replay-told j v (fresh a) served in
+    let f = replay-told j v (fresh a) t served in
     let ok = f .asked .plan-ok in
-    let k = min (sum grants) (count j) in
+    let k = min (granted asks) (count j) in
     let most : k ≤ count j = omega arith in
-    let too = replay-fine j v (fresh b) (record { asked = f .asked; plane-whole = long; residuals-whole = f .residuals-whole; in-range = f .in-range }) in
-    ap (λ (x : Held (List ℕ)). sampleAt s (x .world) r c) (from-fresh (replay-steps j v) a grants served)
+    let too : Replaying j v (fresh b) = record { asked = f .asked; plane-whole = long; residuals-whole = f .residuals-whole; in-range = f .in-range } in
+    ap (λ (x : Held (List ℕ)). sampleAt s (x .world) r c) (from-fresh (replay-steps j v) a asks f room)
     ∙ replay-same (replays s (blocks j) (count j) ok (f .asked .depth)) v k a b most (f .plane-whole) long (cov .0) (at r c (covered-in s (blocks j) (count j) ok k r c most cov)) (cov .1) (cov .2)
     ∙ ap (λ (n : ℕ). sampleAt s (units (replayUnit s (blocks j) v) 0 n b) r c) e
-    ∙ sym (ap (λ (x : Held (List ℕ)). sampleAt s (x .world) r c) (from-fresh (replay-steps j v) b others too))
+    ∙ sym (ap (λ (x : Held (List ℕ)). sampleAt s (x .world) r c) (from-fresh (replay-steps j v) b others too roomy))
 
 -- calls that are served, from any record
 calls-count : (j : Task) (v : Verdict) (p : Progress) (grant : ℕ) → Served v
@@ -177,11 +175,10 @@ calls-count : (j : Task) (v : Verdict) (p : Progress) (grant : ℕ) → Served v
     (y .did ≡ min grant (count j - p .done)) × (y .next .done ≡ p .done + y .did)
 calls-count j v p grant e = subst (λ (y : Stepped). (y .did ≡ min grant (count j - p .done)) × (y .next .done ≡ p .done + y .did)) (worked (v .no) _ _ e) (refl, refl)
 
-walk-kept : (j : Task) (source : List ℕ) (x : Held World) (grant : ℕ) → Served (walkVerdictAt j source x) → WalkKeeps j x grant (next (walkUnit (j .still) (blocks j) source) (count j) x grant)
+walk-kept : (j : Task) (source : List ℕ) (x : Held World) (grant : ℕ) → Walking j source x → WalkKeeps j x grant (next (walkUnit (j .still) (blocks j) source) (count j) x grant)
 unfolding walked
-walk-kept j source x grant served =
+walk-kept j source x grant f =
     let s = j .still in
-    let f = walk-told j source x served in
     let ok = f .asked .plan-ok in
     let depth = f .asked .depth in
     let few = f .asked .few in
@@ -199,10 +196,9 @@ walk-kept j source x grant served =
           ∙ spot-residual s (blocks j) (count j) ok i r c l hr hc (u .residuals));
     }
 
-replay-kept : (j : Task) (residuals : List ℤ) (x : Held (List ℕ)) (grant : ℕ) → Served (replayVerdictAt j residuals x) → ReplayKeeps j x grant (next (replayUnit (j .still) (blocks j) residuals) (count j) x grant)
-replay-kept j residuals x grant served =
+replay-kept : (j : Task) (residuals : List ℤ) (x : Held (List ℕ)) (grant : ℕ) → Replaying j residuals x → ReplayKeeps j x grant (next (replayUnit (j .still) (blocks j) residuals) (count j) x grant)
+replay-kept j residuals x grant f =
     let s = j .still in
-    let f = replay-told j residuals x served in
     let few = f .asked .few in
     record {
       done = omega arith;
@@ -213,19 +209,23 @@ replay-kept j residuals x grant served =
 
 pub demand-3 : Demand3
 demand-3 = record {
-  walk = λ j source w grants e h. walk-all j source w e grants h;
-  earlier-alone = λ j source other w e. alone j source w e other;
-  replay = λ j source w grants e h plane long again. replay-all j source w e plane long grants h again;
-  same = λ j source w grants e h plane long again k.
-      ap (λ (x : Held World). calls (replayCall j (x .world .residuals)) (fresh plane) again .world) (calls-are j source w e grants h) ∙ replay-same-all j source w e plane long again k;
+  walk = λ j source w asks h.
+      let f = walk-told j source (fresh w) (h .tables) (h .served) in
+      (all-served (walk-steps j source) (fresh w) asks f (h .room), walk-all j source w f asks (h .room) (h .enough));
+  earlier-alone = λ j source other w t e. alone j source w (walk-told j source (fresh w) t e) other;
+  replay = λ j source w asks h plane long again room. replay-all j source w (walk-told j source (fresh w) (h .tables) (h .served)) plane long again room asks (h .room) (h .enough);
+  same = λ j source w asks h plane long again room k.
+      let f = walk-told j source (fresh w) (h .tables) (h .served) in
+      ap (λ (x : Held World). calls (replayCall j (x .world .residuals)) (fresh plane) again .world) (calls-are j source w f asks (h .room) (h .enough))
+      ∙ replay-same-all j source w f plane long again room k;
   altered = replay-altered;
-  walk-split = λ j source x grants. split (walk-steps j source) x grants;
-  replay-split = λ j residuals x grants. split (replay-steps j residuals) x grants;
+  walk-split = λ j source x asks t room long. split (walk-steps j source) x asks (record { grant = granted asks; tables = t }) room long refl;
+  replay-split = λ j residuals x asks t room long. split (replay-steps j residuals) x asks (record { grant = granted asks; tables = t }) room long refl;
   counted = calls-count;
-  walk-keeps = λ j source x grants e.
-      subst (λ (y : Held World). WalkKeeps j x (sum grants) y × Served (walkVerdictAt j source y)) (sym (all-done (walk-steps j source) x grants e))
-      (walk-kept j source x (sum grants) e, walk-steps j source .again x (sum grants) e);
-  replay-keeps = λ j residuals x grants e.
-      subst (λ (y : Held (List ℕ)). ReplayKeeps j x (sum grants) y × Served (replayVerdictAt j residuals y)) (sym (all-done (replay-steps j residuals) x grants e))
-      (replay-kept j residuals x (sum grants) e, replay-steps j residuals .again x (sum grants) e);
+  walk-keeps = λ j source x asks t e room.
+      let f = walk-told j source x t e in
+      (all-served (walk-steps j source) x asks f room, subst (WalkKeeps j x (granted asks)) (sym (all-done (walk-steps j source) x asks f room)) (walk-kept j source x (granted asks) f));
+  replay-keeps = λ j residuals x asks t e room.
+      let f = replay-told j residuals x t e in
+      (all-served (replay-steps j residuals) x asks f room, subst (ReplayKeeps j x (granted asks)) (sym (all-done (replay-steps j residuals) x asks f room)) (replay-kept j residuals x (granted asks) f));
 }
