@@ -5,9 +5,12 @@ pub mod Calls
 pub mod Demand3
 pub mod Proof3
 pub mod Example
--- Chains: a chain of calls is one call. Accept: what it means that a call is not refused.
+-- Chains: a chain of calls is one call. Accept: what it means that a call is not refused. Gives: what one call of a door gives. Forms: one plan in its forms.
 pub mod Chains
 pub mod Accept
--- Range: a prediction is in range. Spots: samples and residuals by their block.
+pub mod Gives
+pub mod Forms
+-- Blocks: a run of blocks from any block on. Range: a prediction is in range. Spots: samples and residuals by their block.
+pub mod Blocks
 pub mod Range
 pub mod Spots

@@ -22,10 +22,16 @@ pub record Task : Type 0 where
   pub still : Still
   pub plan : Plan
 
+abbrev pub task : Still → Plan → Task
+task s p = record { still = s; plan = p }
+
 -- what one call is given beside the record: how many blocks it may do, and scratch tables of such lengths
 pub record Ask : Type 0 where
   pub grant : ℕ
   pub tables : Tables
+
+abbrev pub ask : ℕ → Tables → Ask
+ask g t = record { grant = g; tables = t }
 
 -- scratch that is long enough
 abbrev pub Roomy : Ask → Type 0
@@ -51,9 +57,12 @@ pub record Held (W : Type 0) : Type 0 where
   pub progress : Progress
   pub world : W
 
+abbrev pub held : {W : Type 0} → Progress → W → Held W
+held p w = record { progress = p; world = w }
+
 -- at the start nothing is done
 abbrev pub fresh : {W : Type 0} → W → Held W
-fresh w = record { progress = record { done = 0 }; world = w }
+fresh w = held (record { done = 0 }) w
 
 -- a call of walk: the record that it hands back, the work plane and the residuals that it leaves
 abbrev pub walkVerdictAt : Task → List ℕ → Held World → Tables → Verdict
@@ -85,6 +94,11 @@ Served v = v .no ≡ 0
 unfoldable pub calls : {S A : Type 0} → (S → A → S) → S → List A → S
 calls call x [] = x
 calls call x (a ∷ l) = calls call (call x a) l
+
+-- calls that were made one after the other, each given what the one before handed back; `gave` says what one call gave
+unfoldable pub Made : {S A : Type 0} → (S → A → S → Type 0) → S → List A → S → Type 0
+Made gave x [] y = y ≡ x
+Made {S} gave x (a ∷ l) y = (z : S) × gave x a z × Made gave z l y
 
 -- every call of a chain has the number 0
 unfoldable pub AllServed : {S A : Type 0} → (S → A → ℕ) → (S → A → S) → S → List A → Type 0

@@ -6,7 +6,7 @@ use native.Mathlib.Omega.{arith}
 use native.Mathlib.Decide.{ℕ-discrete}
 use Rattle.laws.specs.Choose.{served, worked, unserved}
 use Rattle.laws.specs.Chain.{sum, units, State, step, chain, chain-all}
-use Rattle.promises.specs.demand3.Calls.{Held, fresh, calls, AllServed, Each}
+use Rattle.promises.specs.demand3.Calls.{Held, fresh, calls, Made, AllServed, Each}
 
 -- the sum of the grants, grant by grant; the laws of units give it
 pub sum-none : sum [] ≡ 0
@@ -57,10 +57,10 @@ module _ {W A : Type 0} {grant : A → ℕ} {Fit : A → Type 0} {Ready : Held W
     abbrev to : State unit count → Held W
     to s = record { progress = record { done = s .done }; world = s .world }
 
-    does : (x : Held W) (a : A) → number x a ≡ 0 → call x a ≡ next unit count x (grant a)
+    pub does : (x : Held W) (a : A) → number x a ≡ 0 → call x a ≡ next unit count x (grant a)
     does x a e = f .call-is x a ∙ sym (worked (number x a) (next unit count x (grant a)) x e)
 
-    refuses : (x : Held W) (a : A) → (number x a ≡ 0 → ⊥) → call x a ≡ x
+    pub refuses : (x : Held W) (a : A) → (number x a ≡ 0 → ⊥) → call x a ≡ x
     refuses x a e = f .call-is x a ∙ sym (unserved (number x a) (next unit count x (grant a)) x e)
 
     chained : (x : Held W) (l : List A) → Ready x → Each Fit l → calls call x l ≡ to (chain unit count (from x) (map grant l))
@@ -99,3 +99,10 @@ module _ {W A : Type 0} {grant : A → ℕ} {Fit : A → Type 0} {Ready : Held W
         let did : min total (count - 0) ≡ min total count = omega arith in
         let done : 0 + min total (count - 0) ≡ min total count = omega arith in
         all-done (fresh w) l r h ∙ ap₂ (λ (a b : ℕ). record { progress = record { done = a }; world = units unit 0 b w }) done did
+
+-- calls made one after the other, of which each gave what the definition says
+pub made-calls : {S A : Type 0} {call : S → A → S} {gave : S → A → S → Type 0} → ((x : S) (a : A) (y : S) → gave x a y → y ≡ call x a)
+    → (x : S) (l : List A) (y : S) → Made gave x l y → y ≡ calls call x l
+unfolding calls Made
+made-calls h x [] y m = m
+made-calls {call = call} h x (a ∷ l) y m = made-calls h (m .0) l y (m .2) ∙ ap (λ z. calls call z l) (h x a (m .0) (m .1))

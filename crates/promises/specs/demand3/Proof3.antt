@@ -8,34 +8,29 @@ use native.Mathlib.Omega.{arith}
 use lib.IntN.{ℤ, pos, natAbs}
 use lib.ListN.{length, getD}
 use borrow.Author.Tests.{le-leb}
-use Rattle.laws.specs.Choose.{worked}
+use contract.Monad.{fact-mono}
 use Rattle.laws.specs.Chain.{units}
 use Rattle.domain.specs.Facts.{Depth, at-depth, size-small}
-use Rattle.plan.specs.declared.tiling.Verdict.{Verdict}
-use Rattle.plan.specs.tiling.Tiling.{In, Covered, place}
+use Rattle.plan.specs.tiling.Tiling.{Covered, place}
 use Rattle.plan.specs.tiling.Cover.{area}
 use Rattle.plan.specs.tiling.Verdict.{Accepted}
 use Rattle.walk.specs.declared.checks.Still.{Still}
-use Rattle.walk.specs.declared.Progress.{Progress}
-use Rattle.walk.specs.declared.Stepped.{Stepped}
 use Rattle.samples.specs.deltas.Deltas.{residualOk}
 use Rattle.walk.specs.checks.Checks.{Tables, largestIn, every}
 use Rattle.walk.specs.block.Predicted.{sampleAt, predictedAt}
 use Rattle.walk.specs.block.Rebuilt.{replayUnit}
-use Rattle.walk.specs.block.Walked.{World, stored, walked, walkUnit}
-use Rattle.walk.specs.Door.{steppedBy}
+use Rattle.walk.specs.block.Walked.{World, walkUnit}
 use Rattle.walk.specs.block.RebuiltLaws.{rebuilt-length}
-use Rattle.walk.specs.lossless.Picture.{Sample, OfS, Whole, look, predict, residual, less, local, rebuild-out, store-out, replays, sourced, walks-plan}
+use Rattle.walk.specs.lossless.Picture.{Sample, OfS, Whole, look, predict, residual, less, local, rebuild-out, replays, sourced, walks-plan}
 use Rattle.walk.specs.lossless.Replay.{units-kept, replay-same, replay-source, walks}
-use Rattle.promises.specs.demand3.Calls.{Task, Ask, Roomy, granted, Each, Held, Served, ReplaysServed, blocks, count, residualAt, fresh, calls, walkCall, replayVerdictAt, replayCall}
-use Rattle.promises.specs.demand3.Chains.{next, after, all-done, all-served, split, from-fresh}
+use Rattle.promises.specs.demand3.Calls.{Task, Ask, ask, Roomy, granted, Each, Held, Served, ReplaysServed, blocks, count, residualAt, fresh, calls, walkCall, replayVerdictAt, replayCall}
+use Rattle.promises.specs.demand3.Chains.{after, all-done, all-served, made-calls, split, from-fresh}
 use Rattle.promises.specs.demand3.Accept.{Walking, Replaying, walk-told, replay-told, walk-steps, replay-steps}
 use Rattle.promises.specs.demand3.Range.{predicted-most}
-use Rattle.promises.specs.demand3.Spots.{by-samples, every-of, most-at, less-small, in-block, part-of, spot, covered-in, spot-of, spot-residual, spot-predict}
-use Rattle.promises.specs.demand3.Demand3.{LosslessWalk, Replayed, WalkKeeps, ReplayKeeps, Demand3}
-
-abbrev at : {s : Still} (r c : ℕ) → In (s .frame) r c → Sample s
-at r c h = record { row = r; col = c; row-in = h .0; col-in = h .1 }
+use Rattle.promises.specs.demand3.Gives.{walk-done, replay-done, walk-gave, replay-gave}
+use Rattle.promises.specs.demand3.Forms.{numbers-listed}
+use Rattle.promises.specs.demand3.Spots.{at, by-samples, every-of, most-at, less-small, in-block, part-of, spot, covered-in, spot-of, spot-residual, spot-predict}
+use Rattle.promises.specs.demand3.Demand3.{LosslessWalk, Replayed, WalkDoes, ReplayDoes, Demand3}
 
 -- a walk of the whole picture
 module _ (j : Task) (source : List ℕ) (w : World) (facts : Walking j source (fresh w)) where
@@ -169,44 +164,6 @@ replay-altered j v a b asks others t served long room roomy e r c cov =
     ∙ ap (λ (n : ℕ). sampleAt s (units (replayUnit s (blocks j) v) 0 n b) r c) e
     ∙ sym (ap (λ (x : Held (List ℕ)). sampleAt s (x .world) r c) (from-fresh (replay-steps j v) b others too roomy))
 
--- calls that are served, from any record
-calls-count : (j : Task) (v : Verdict) (p : Progress) (grant : ℕ) → Served v
-    → let y = steppedBy v (j .plan) p grant in
-    (y .did ≡ min grant (count j - p .done)) × (y .next .done ≡ p .done + y .did)
-calls-count j v p grant e = subst (λ (y : Stepped). (y .did ≡ min grant (count j - p .done)) × (y .next .done ≡ p .done + y .did)) (worked (v .no) _ _ e) (refl, refl)
-
-walk-kept : (j : Task) (source : List ℕ) (x : Held World) (grant : ℕ) → Walking j source x → WalkKeeps j x grant (next (walkUnit (j .still) (blocks j) source) (count j) x grant)
-unfolding walked
-walk-kept j source x grant f =
-    let s = j .still in
-    let ok = f .asked .plan-ok in
-    let depth = f .asked .depth in
-    let few = f .asked .few in
-    let unit = walkUnit s (blocks j) source in
-    record {
-      done = omega arith;
-      samples = λ r c h n.
-          units-kept unit (λ (u : World). sampleAt s (u .work) r c) _ _ (x .world)
-          (λ i u a b. rebuild-out s (blocks j) (count j) ok depth i _ (u .work) (omega arith) (at r c h) (λ o. n i (a, b) o));
-      residuals = λ i r c l hr hc n.
-          units-kept unit (λ (u : World). residualAt j (u .residuals) i r c) _ _ (x .world)
-          (λ m u a b.
-          sym (spot-residual s (blocks j) (count j) ok i r c l hr hc (stored s source (blocks j m) (place (blocks j) m) (u .work) (u .residuals)))
-          ∙ store-out s (blocks j) (count j) ok depth source m (u .work) (u .residuals) i (spot s (blocks j) (count j) ok i r c l hr hc) (λ e. n (omega (arith, e), omega (arith, e))) (spot-of s (blocks j) (count j) ok i r c l hr hc)
-          ∙ spot-residual s (blocks j) (count j) ok i r c l hr hc (u .residuals));
-    }
-
-replay-kept : (j : Task) (residuals : List ℤ) (x : Held (List ℕ)) (grant : ℕ) → Replaying j residuals x → ReplayKeeps j x grant (next (replayUnit (j .still) (blocks j) residuals) (count j) x grant)
-replay-kept j residuals x grant f =
-    let s = j .still in
-    let few = f .asked .few in
-    record {
-      done = omega arith;
-      samples = λ r c h n.
-          units-kept (replayUnit s (blocks j) residuals) (λ (u : List ℕ). sampleAt s u r c) _ _ (x .world)
-          (λ i u a b. rebuild-out s (blocks j) (count j) (f .asked .plan-ok) (f .asked .depth) i residuals u (omega arith) (at r c h) (λ o. n i (a, b) o));
-    }
-
 pub demand-3 : Demand3
 demand-3 = record {
   walk = λ j source w asks h.
@@ -219,13 +176,19 @@ demand-3 = record {
       ap (λ (x : Held World). calls (replayCall j (x .world .residuals)) (fresh plane) again .world) (calls-are j source w f asks (h .room) (h .enough))
       ∙ replay-same-all j source w f plane long again room k;
   altered = replay-altered;
-  walk-split = λ j source x asks t room long. split (walk-steps j source) x asks (record { grant = granted asks; tables = t }) room long refl;
-  replay-split = λ j residuals x asks t room long. split (replay-steps j residuals) x asks (record { grant = granted asks; tables = t }) room long refl;
-  counted = calls-count;
-  walk-keeps = λ j source x asks t e room.
+  walk-split = λ j source x asks t room long. split (walk-steps j source) x asks (ask (granted asks) t) room long refl;
+  replay-split = λ j residuals x asks t room long. split (replay-steps j residuals) x asks (ask (granted asks) t) room long refl;
+  walk-does = λ j source x asks t e room.
       let f = walk-told j source x t e in
-      (all-served (walk-steps j source) x asks f room, subst (WalkKeeps j x (granted asks)) (sym (all-done (walk-steps j source) x asks f room)) (walk-kept j source x (granted asks) f));
-  replay-keeps = λ j residuals x asks t e room.
+      (all-served (walk-steps j source) x asks f room, subst (WalkDoes j source x _) (sym (all-done (walk-steps j source) x asks f room)) (walk-done j source x (granted asks) f));
+  replay-does = λ j residuals x asks t e room.
       let f = replay-told j residuals x t e in
-      (all-served (replay-steps j residuals) x asks f room, subst (ReplayKeeps j x (granted asks)) (sym (all-done (replay-steps j residuals) x asks f room)) (replay-kept j residuals x (granted asks) f));
+      (all-served (replay-steps j residuals) x asks f room, subst (ReplayDoes j residuals x _) (sym (all-done (replay-steps j residuals) x asks f room)) (replay-done j residuals x (granted asks) f));
+  by-walk-numbers = λ κs self still rows cols sides modes source work residuals refs indices fractions grant r e p. walk-gave _ _ _ _ r _ (p .0) (p .1 .0);
+  by-replay-numbers = λ κs self still rows cols sides modes residuals plane refs indices fractions grant r e p. replay-gave _ _ _ _ r _ (p .0) (p .1 .0);
+  by-walk = λ 𝓤 H A mem run κs self still plan source work residuals scratch grant r e. fact-mono 𝓤 _ _ (λ p. walk-gave _ _ _ _ r _ (p .0) (p .1 .0));
+  by-replay = λ 𝓤 H A mem run κs self still plan residuals plane scratch grant r e. fact-mono 𝓤 _ _ (λ p. replay-gave _ _ _ _ r _ (p .0) (p .1 .0));
+  one-plan = numbers-listed;
+  walk-made = λ j source x asks y m. made-calls (λ x a y g. g .1 .left) x asks y m;
+  replay-made = λ j residuals x asks y m. made-calls (λ x a y g. g .1 .left) x asks y m;
 }

@@ -46,6 +46,9 @@ pub in-block : (side at n : ℕ) → 0 < side → at ≤ n → n < at + side * s
 in-block side at n h l m =
     ((n - at) / side, (n - at) % side, div-lt-iff-lt-mul h .1 (omega arith), mod-lt (n - at) h, omega (arith, div-add-mod' (n - at) side))
 
+abbrev pub at : {s : Still} (r c : ℕ) → In (s .frame) r c → Sample s
+at r c h = record { row = r; col = c; row-in = h .0; col-in = h .1 }
+
 -- two planes of the picture's length that agree at every sample are one
 pub by-samples : (s : Still) (a b : List ℕ) → 0 < s .frame .width → Whole s a → Whole s b → ((r c : ℕ) → In (s .frame) r c → sampleAt s a r c ≡ sampleAt s b r c) → a ≡ b
 by-samples s a b some ha hb same = ext-getD 0 a b (ha ∙ sym hb) go
