@@ -1,108 +1,134 @@
--- Document 01, demand 3 on bytes: replays in a plane's own bytes, in any calls, leave bytes that spell what the replays of the spelt samples leave, so the
--- source comes back there too. Rests on demand 3, and on what one call on bytes leaves (camera's replay, Spelt).
-use Prim.Native.Nat.{ℕ, _+_, _≤_}
-use mathlib.Core.Path.{_≡_, refl, ap, _∙_}
-use mathlib.Core.Bool.{Bool, true, false, cond}
-use mathlib.Core.List.{List, [], _∷_, map}
-use native.Mathlib.Omega.{arith}
-use lib.Dec.{eqb}
+-- Document 01, demand 3 on bytes: the entry `salvrunde_replay` replays in a plane's own bytes, in any calls, each given the record that the one before wrote into
+-- its result buffer. `replayed` is what the entry's contract says; bytes spell samples, residuals and plans by `samplesOf`, `residualsOf` and `recordsOf`, and what
+-- holds of a replay of those (demand3/Demand3) holds here. demand3/ProofBytes proves it all.
+use Prim.Native.Nat.{ℕ, _-_, _*_, _≤_, _<_, min}
+use mathlib.Core.Path.{_≡_}
+use mathlib.Core.Bool.{true}
+use mathlib.Core.List.{List, map}
 use lib.IntN.{ℤ}
-use lib.ListN.{length}
-use Rattle.laws.specs.Choose.{served}
-use Rattle.bytes.specs.Bytes.{samplesOf, residualsOf}
-use Rattle.bytes.specs.Laws.{AreBytes, length-samples}
-use Rattle.plan.specs.declared.tiling.Verdict.{Verdict}
-use Rattle.plan.specs.tiling.Plan.{Plan}
+use lib.ListN.{length, getD}
+use mir.Syntax.{w32}
+use mir.Val.{SFits}
+use contract.Lifetimes.{Lfts}
+use denote.Ref.{RefT, now}
+use denote.Triple.Clauses.{AtExit}
+use Rattle.bytes.specs.Bytes.{le4, samplesOf, residualsOf}
+use Rattle.bytes.specs.Laws.{AreBytes}
+use Rattle.plan.specs.declared.tiling.Block.{Block}
+use Rattle.plan.specs.records.Records.{recordOf}
+use Rattle.plan.specs.tiling.Plan.{listed}
+use Rattle.plan.specs.tiling.Tiling.{Covered}
 use Rattle.plan.specs.RecordPlan.{recordsOf}
 use Rattle.walk.specs.declared.checks.Still.{Still}
-use Rattle.walk.specs.calls.Steps.{doing}
-use Rattle.walk.specs.block.Walked.{World}
 use Rattle.walk.specs.declared.Progress.{Progress}
-use Rattle.walk.specs.declared.Stepped.{Stepped}
-use Rattle.walk.specs.Door.{steppedBy}
-use Rattle.camera.specs.replay.Verdict.{Lent, bytesFit, byteVerdict}
-use Rattle.camera.specs.replay.VerdictLaws.{fitting}
-use Rattle.camera.specs.replay.Door.{nextWritten, planeAfter}
+use Rattle.walk.specs.block.Predicted.{sampleAt}
+use Rattle.walk.specs.block.Walked.{World}
 use Rattle.walk.specs.Lent.{scratchTables}
-use Rattle.camera.specs.replay.Spelt.{spelt-verdict, left}
-use Rattle.promises.specs.demand3.Calls.{Task, Ask, Roomy, granted, Each, Held, count, fresh, calls, walkCall, replayCall}
-use Rattle.promises.specs.demand3.Demand3.{WalksAll}
-use Rattle.promises.specs.demand3.Proof3.{demand-3}
+use Rattle.camera.specs.replay.Door.{After, replayed}
+use Rattle.camera.proofs.salvrunde_replay as salvrunde-replay
+use Rattle.camera.proofs.salvrunde_replay.Reads as salvrunde-replay-contract
+use Rattle.promises.specs.demand3.Calls.{Task, task, Ask, ask, granted, Each, Made, AllServed, Held, held, blocks, count, fresh, calls, walkCall}
+use Rattle.promises.specs.demand3.Demand3.{Replayed, ReplayDoes, WalksAll}
 
--- what all calls share: the still, the bytes of plan and residuals, and how long the result buffer is
+-- what all calls share: the still, and the bytes of plan and residuals; and the task that they spell
 pub record ByteJob : Type 0 where
   pub still : Still
   pub plan : List ℕ
   pub residuals : List ℕ
-  pub result : ℕ
 
--- the job that they spell, and a grant with the tables that a call makes for itself
-abbrev pub speltJob : ByteJob → Task
-speltJob j = record { still = j .still; plan = recordsOf (j .plan) }
+abbrev pub speltTask : ByteJob → Task
+speltTask b = task (b .still) (recordsOf (b .plan))
 
-abbrev pub own : ℕ → Ask
-own grant = record { grant = grant; tables = scratchTables }
+-- what one call is given beside the record: how many blocks it may do, and a result buffer; it makes its own scratch
+pub record ByteAsk : Type 0 where
+  pub grant : ℕ
+  pub result : List ℕ
 
-abbrev pub lentOf : ByteJob → List ℕ → Lent
-lentOf j plane = record { plan = j .plan; residuals = j .residuals; plane = length plane; result = j .result }
+abbrev pub speltAsk : ByteAsk → Ask
+speltAsk a = ask (a .grant) scratchTables
 
--- a call: the record that it writes, the plane that it leaves
-abbrev pub byteCall : ByteJob → Held (List ℕ) → ℕ → Held (List ℕ)
-byteCall j x grant =
-    record {
-      progress = record { done = nextWritten (j .still) (x .progress .done) (lentOf j (x .world)) grant };
-      world = planeAfter (j .still) (x .progress .done) (lentOf j (x .world)) grant (x .world);
-    }
+abbrev pub bytesGranted : List ByteAsk → ℕ
+bytesGranted asks = granted (map speltAsk asks)
 
--- a record and the samples that the plane's bytes spell
+-- between two calls: the record and the plane's bytes; and the samples that these spell
 abbrev pub spelt : Held (List ℕ) → Held (List ℕ)
-spelt x = record { progress = x .progress; world = samplesOf (x .world) }
+spelt x = held (x .progress) (samplesOf (x .world))
 
--- bytes, and as many as number 5 asks for
-pub record Fits (j : ByteJob) (plane : List ℕ) : Type 0 where
-  pub long : bytesFit (j .still) (lentOf j plane) ≡ true
-  pub bytes : AreBytes plane
+-- the record that the next call is given: bytes 4 to 7 of the result buffer
+abbrev pub recordIn : List ℕ → Progress
+recordIn d = record { done = le4 (getD d 4 0) (getD d 5 0) (getD d 6 0) (getD d 7 0) }
 
--- the number written is that of the record that a replay hands back
-handed : (v : Verdict) (plan : Plan) (p : Progress) (grant : ℕ)
-    → record { done = served (v .no) (p .done + doing (plan .count) (p .done) grant) (p .done) } ≡ steppedBy v plan p grant .next
-handed v plan p grant = go (eqb (v .no) 0) _ _
-  where
-    go : (b : Bool) (x y : Stepped) → record { done = cond b (x .next .done) (y .next .done) } ≡ cond b x y .next
-    go true x y = refl
-    go false x y = refl
+-- a call by the entry's contract, and what is held after it
+abbrev pub byteAfter : ByteJob → Held (List ℕ) → ByteAsk → After
+byteAfter b x a = replayed (b .still) (x .progress .done) (b .plan) (b .residuals) (a .grant) (x .world) (a .result)
 
-module _ (j : ByteJob) where
-  -- one call, refused or not
-  pub one-call : (x : Held (List ℕ)) (grant : ℕ) → Fits j (x .world)
-      → (spelt (byteCall j x grant) ≡ replayCall (speltJob j) (residualsOf (j .residuals)) (spelt x) (own grant)) × Fits j (byteCall j x grant .world)
-  one-call x grant f =
-      let l = left (j .still) (x .progress .done) (lentOf j (x .world)) grant (x .world) refl (f .long) (f .bytes) in
-      let v = spelt-verdict (j .still) (x .progress .done) (lentOf j (x .world)) grant (x .world) refl (f .long) (f .bytes) in (
-        λ i. record { progress = (handed (byteVerdict (j .still) (x .progress .done) (lentOf j (x .world))) (recordsOf (j .plan)) (x .progress) grant ∙ ap (λ (u : Verdict). steppedBy u (recordsOf (j .plan)) (x .progress) grant .next) v) i; world = l .spells i },
-        record { long = ap (λ (k : ℕ). bytesFit (j .still) (record { plan = j .plan; residuals = j .residuals; plane = k; result = j .result })) (l .long) ∙ f .long; bytes = l .are },
-      )
+abbrev pub byteCall : ByteJob → Held (List ℕ) → ByteAsk → Held (List ℕ)
+byteCall b x a = held (recordIn (byteAfter b x a .result)) (byteAfter b x a .plane)
 
-  -- any calls
-  pub any-calls : (x : Held (List ℕ)) (grants : List ℕ) → Fits j (x .world)
-      → spelt (calls (byteCall j) x grants) ≡ calls (replayCall (speltJob j) (residualsOf (j .residuals))) (spelt x) (map own grants)
-  unfolding calls
-  any-calls x [] f = refl
-  any-calls x (g ∷ gs) f =
-      let o = one-call x g f in
-      any-calls (byteCall j x g) gs (o .1) ∙ ap (λ (y : Held (List ℕ)). calls (replayCall (speltJob j) (residualsOf (j .residuals))) y (map own gs)) (o .0)
+abbrev pub EachServed : ByteJob → Held (List ℕ) → List ByteAsk → Type 0
+EachServed b = AllServed (λ (x : Held (List ℕ)) (a : ByteAsk). byteAfter b x a .number) (byteCall b)
 
-  own-room : (grants : List ℕ) → Each Roomy (map own grants)
-  unfolding Each
-  own-room [] = tt
-  own-room (g ∷ gs) = (refl, own-room gs)
+-- what a u8 slice and a u32 hold
+abbrev pub Lent : Held (List ℕ) → Type 0
+Lent x = AreBytes (x .world) × (x .progress .done < 4294967296)
 
-  -- The residuals of a walk, as bytes: replays whose grants reach the count leave the source.
-  pub source-back : (source : List ℕ) (w : World) (asks : List Ask) → WalksAll (speltJob j) source w asks
-      → residualsOf (j .residuals) ≡ calls (walkCall (speltJob j) source) (fresh w) asks .world .residuals
-      → (plane : List ℕ) → Fits j plane → (again : List ℕ) → count (speltJob j) ≤ granted (map own again) → samplesOf (calls (byteCall j) (fresh plane) again .world) ≡ source
-  source-back source w asks walks spell plane f again all =
-      ap (λ (x : Held (List ℕ)). x .world) (any-calls (fresh plane) again f)
-      ∙ ap (λ (r : List ℤ). calls (replayCall (speltJob j) r) (fresh (samplesOf plane)) (map own again) .world) spell
-      ∙ demand-3 .same (speltJob j) source w asks walks (samplesOf plane) (omega (arith, length-samples plane, fitting (j .still) (lentOf j plane) (f .long) .plane))
-      (map own again) (own-room again) all
+-- as many bytes as number 5 asks for: two a sample, four a residual, whole records, eight in a result buffer
+pub record Fits (b : ByteJob) (x : Held (List ℕ)) : Type 0 where
+  pub plane : length (x .world) ≡ 2 * (b .still .frame .height * b .still .frame .width)
+  pub residuals : length (b .residuals) ≡ 4 * (b .still .frame .height * b .still .frame .width)
+  pub records : recordsOf (b .plan) .whole ≡ true
+  pub lent : Lent x
+
+abbrev pub Long : ByteAsk → Type 0
+Long a = 8 ≤ length (a .result)
+
+-- One call from x by the entry's contract: its number r, and what is held after it. Served, it did the lesser of the grant and what remains, those blocks and no
+-- others, and the record in the result buffer says so. Refused, the plane stays, and the record in the buffer is the one given.
+pub record ByteGave (b : ByteJob) (x : Held (List ℕ)) (a : ByteAsk) (r : ℕ) (y : Held (List ℕ)) : Type 0 where
+  pub number : r ≡ byteAfter b x a .number
+  pub left : y ≡ byteCall b x a
+  pub counted : r ≡ 0
+      → ReplayDoes (speltTask b) (residualsOf (b .residuals)) (spelt x) (min (a .grant) (count (speltTask b) - x .progress .done)) (spelt y)
+  pub refused : (r ≡ 0 → ⊥) → (y .world ≡ x .world) × (Long a → y ≡ x)
+
+pub record OnBytes : Type 1 where
+  -- The entry, by its contract, with what is lent named as in the code: `now` is what it holds, e what there is at exit, of which two parts are the plane and
+  -- the result buffer. Calls of it, one after the other, are the chains below.
+  pub by-replay : (κs : Lfts 4) (done bits width height ctu grant : ℕ) (plan residuals plane result : RefT (List ℕ)) (r : ℕ)
+      (e : AtExit salvrunde-replay.ended κs)
+      → salvrunde-replay-contract.Post κs (done, (bits, (width, (height, (ctu, (grant, (plan, (residuals, (plane, (result, tt)))))))))) r e
+      → let still : Still = record { bits = bits; frame = record { width = width; height = height; ctu = ctu } } in
+      let x = held (record { done = done }) (now plane) in Lent x
+      → ByteGave (record { still = still; plan = now plan; residuals = now residuals }) x (record { grant = grant; result = now result }) r
+      (held (recordIn (now (e .1 .1 .1 .1 .1 .1 .1 .1 .1 .0))) (now (e .1 .1 .1 .1 .1 .1 .1 .1 .0)))
+  pub made : (b : ByteJob) (x : Held (List ℕ)) (asks : List ByteAsk) (y : Held (List ℕ)) → Made (λ x a y. (r : ℕ) × ByteGave b x a r y) x asks y
+      → y ≡ calls (byteCall b) x asks
+  -- The residuals of a walk, in whatever form it was made, as bytes: every call is served, and after k blocks those k hold the source, and all else what it held.
+  pub replay : (j : Task) (source : List ℕ) (w : World) (asks : List Ask) → WalksAll j source w asks
+      → (b : ByteJob) → speltTask b ≡ j → residualsOf (b .residuals) ≡ calls (walkCall j source) (fresh w) asks .world .residuals
+      → (plane : List ℕ) → Fits b (fresh plane) → (again : List ByteAsk) → Each Long again
+      → EachServed b (fresh plane) again
+      × Replayed j source (samplesOf plane) (min (bytesGranted again) (count j)) (spelt (calls (byteCall b) (fresh plane) again))
+  -- Where the grants reach the count the plane's bytes spell the source.
+  pub same : (j : Task) (source : List ℕ) (w : World) (asks : List Ask) → WalksAll j source w asks
+      → (b : ByteJob) → speltTask b ≡ j → residualsOf (b .residuals) ≡ calls (walkCall j source) (fresh w) asks .world .residuals
+      → (plane : List ℕ) → Fits b (fresh plane) → (again : List ByteAsk) → Each Long again → count j ≤ bytesGranted again
+      → samplesOf (calls (byteCall b) (fresh plane) again .world) ≡ source
+  -- Any residuals in range: two replays of as many blocks agree on those blocks, however their planes began.
+  pub altered : (b : ByteJob) (plane other : List ℕ) → Fits b (fresh plane) → Fits b (fresh other)
+      → (first : ByteAsk) → byteAfter b (fresh plane) first .number ≡ 0
+      → (asks others : List ByteAsk) → Each Long asks → Each Long others
+      → let j = speltTask b in min (bytesGranted asks) (count j) ≡ min (bytesGranted others) (count j)
+      → (r c : ℕ) → Covered (blocks j) (min (bytesGranted asks) (count j)) r c
+      → sampleAt (b .still) (samplesOf (calls (byteCall b) (fresh plane) asks .world)) r c
+      ≡ sampleAt (b .still) (samplesOf (calls (byteCall b) (fresh other) others .world)) r c
+  -- Any split into calls is one call with the sum of the grants, from any record, refused or not.
+  pub split : (b : ByteJob) (x : Held (List ℕ)) → Fits b x → (asks : List ByteAsk) (a : ByteAsk) → Each Long asks → Long a → a .grant ≡ bytesGranted asks
+      → calls (byteCall b) x asks ≡ byteCall b x a
+  -- Bytes there are for every list of residuals in an i32's range, and a walk's residuals are such.
+  pub spelling : (v : List ℤ) → Each (SFits w32) v → (d : List ℕ) × AreBytes d × (length d ≡ 4 * length v) × (residualsOf d ≡ v)
+  pub walk-spelt : (j : Task) (source : List ℕ) (w : World) (asks : List Ask) → WalksAll j source w asks
+      → Each (SFits w32) (calls (walkCall j source) (fresh w) asks .world .residuals)
+  -- Bytes and a list of records that agree block by block are one plan.
+  pub one-plan : (d : List ℕ) (l : List Block) → length d ≡ 6 * length l → ((k : ℕ) → k < length l → recordOf d (6 * k) ≡ listed l .block k)
+      → recordsOf d ≡ listed l

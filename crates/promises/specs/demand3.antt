@@ -14,3 +14,7 @@ pub mod Forms
 pub mod Blocks
 pub mod Range
 pub mod Spots
+-- On bytes: Words has numbers and residuals as bytes.
+pub mod Words
+pub mod ProofBytes
+pub mod ExampleBytes

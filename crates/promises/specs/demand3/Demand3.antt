@@ -37,10 +37,11 @@ use Rattle.walk.proofs.Progress.walk as walk-records
 use Rattle.walk.proofs.Progress.replay as replay-records
 use Rattle.promises.specs.demand3.Calls.{Task, task, Ask, ask, Roomy, granted, Each, Held, held, Served, WalksServed, ReplaysServed, Made, blocks, count, residualAt, fresh, calls, walkVerdictAt, walkCall, replayVerdictAt, replayCall}
 
--- The whole picture is walked: the record says so, each block's residual is the source less H.265's prediction from the source itself, and the
--- work plane holds the source.
+-- The whole picture is walked: the record says so, there are as many residuals as samples, each block's are the source less H.265's prediction from the
+-- source itself, and the work plane holds the source.
 pub record LosslessWalk (j : Task) (source : List ℕ) (x : Held World) : Type 0 where
   pub all-done : x .progress .done ≡ count j
+  pub long : Whole (j .still) (x .world .residuals)
   pub residuals : (i r c : ℕ) → i < count j → r < blocks j i .side → c < blocks j i .side
       → residualAt j (x .world .residuals) i r c
       ≡ pos (sampleAt (j .still) source (blocks j i .row + r) (blocks j i .col + c)) -ℤ pos (predictedAt (j .still) (blocks j i) source r c)

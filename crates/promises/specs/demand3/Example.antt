@@ -17,19 +17,20 @@ use Rattle.walk.specs.checks.Checks.{every, settle}
 use Rattle.walk.specs.calls.Door.{verdictOf, walkVerdict}
 use Rattle.promises.specs.demand3.Calls.{Task, Ask, Roomy, granted, Each, Served, count, fresh, calls, walkVerdictAt, walkCall, replayCall}
 use Rattle.promises.specs.demand3.Chains.{sum-none, sum-more}
+use Rattle.promises.specs.demand3.Demand3.{WalksAll}
 use Rattle.promises.specs.demand3.Proof3.{demand-3}
 
-abbrev two : Task
+abbrev pub two : Task
 two =
     record {
       still = record { bits = 8; frame = record { width = 16; height = 8; ctu = 16 } };
       plan = planOf (0 ∷ 0 ∷ []) (0 ∷ 8 ∷ []) (8 ∷ 8 ∷ []) (1 ∷ 1 ∷ []);
     }
 
-abbrev source : List ℕ
+abbrev pub source : List ℕ
 source = replicate 128 130
 
-abbrev blank : World
+abbrev pub blank : World
 blank = record { work = replicate 128 0; residuals = replicate 128 (pos 0) }
 
 served : Served (walkVerdictAt two source (fresh blank) scratchTables)
@@ -40,7 +41,7 @@ served = refl
 abbrev one : ℕ → Ask
 one more = record { grant = 1; tables = record { refs = 193 + more; indices = 32; fractions = 32 + more } }
 
-abbrev there : List Ask
+abbrev pub there : List Ask
 there = one 0 ∷ one 1 ∷ []
 
 abbrev back : List Ask
@@ -56,7 +57,9 @@ room a b = (wide a, (wide b, tt))
 enough : (a b : ℕ) → count two ≤ granted (one a ∷ one b ∷ [])
 enough a b = omega (arith, sum-more 1 (1 ∷ []), sum-more 1 [], sum-none)
 
+pub walked : WalksAll two source blank there
+walked = record { tables = scratchTables; served = served; room = room 0 1; enough = enough 0 1 }
+
 -- over zeros
 pub same : calls (replayCall two (calls (walkCall two source) (fresh blank) there .world .residuals)) (fresh (replicate 128 0)) back .world ≡ source
-same =
-    demand-3 .same two source blank there (record { tables = scratchTables; served = served; room = room 0 1; enough = enough 0 1 }) (replicate 128 0) refl back (room 7 0) (enough 7 0)
+same = demand-3 .same two source blank there walked (replicate 128 0) refl back (room 7 0) (enough 7 0)

@@ -76,6 +76,7 @@ module _ (j : Task) (source : List ℕ) (w : World) (facts : Walking j source (f
       subst (LosslessWalk j source) (sym (calls-are asks room h))
       (record {
         all-done = refl;
+        long = told .0;
         residuals = residual-is;
         reconstructed = λ r c i. let v = ok .plan-good .all r c i in told .1 (v .0) (at r c i) (v .1) (v .2);
       })
