@@ -27,10 +27,10 @@ use Rattle.walk.specs.checks.Checks.{largestIn}
 use Rattle.walk.specs.block.Predicted.{sampleAt, predictedAt}
 
 -- neighbours that are all at most m
-record Most (m : ℕ) (nb : Neighbours) : Type 0 where
-  corner : nb .corner ≤ m
-  above : (i : ℕ) → nb .above i ≤ m
-  left : (i : ℕ) → nb .left i ≤ m
+pub record Most (m : ℕ) (nb : Neighbours) : Type 0 where
+  pub corner : nb .corner ≤ m
+  pub above : (i : ℕ) → nb .above i ≤ m
+  pub left : (i : ℕ) → nb .left i ≤ m
 
 module _ (m : ℕ) where
   either : (b : Bool) {x y : ℕ} → x ≤ m → y ≤ m → cond b x y ≤ m
@@ -58,7 +58,7 @@ module _ (m : ℕ) where
       at : (k : ℕ) → substitutedAt bits n marked value k ≤ m
       at k = let found = firstMarked marked 0 (4 * n + 1) in either (ltb found (4 * n + 1)) (settled-most marked value found h k) l
 
-  neighbours-most : (g : Grid) (bits n x y : ℕ) (samples : ℕ → ℕ → ℕ) → ((a b : ℕ) → samples a b ≤ m) → 2 ^ (bits - 1) ≤ m → Most m (neighbours g (lumaAt bits) n x y samples)
+  pub neighbours-most : (g : Grid) (bits n x y : ℕ) (samples : ℕ → ℕ → ℕ) → ((a b : ℕ) → samples a b ≤ m) → 2 ^ (bits - 1) ≤ m → Most m (neighbours g (lumaAt bits) n x y samples)
   unfolding neighbours
   neighbours-most g bits n x y samples h l = places-most bits n _ _ (λ k. h (natAbs (pos x +ℤ placeX n k)) (natAbs (pos y +ℤ placeY n k))) l
 
@@ -105,10 +105,10 @@ module _ (m : ℕ) where
           left = λ i. weak-most n (negsuc 0) (pos i -ℤ pos 1) (negsuc 0) (pos i) (negsuc 0) (pos i +ℤ pos 1) i;
         })
 
-    under : (n : ℕ) → Under n nb (even m)
+    pub under : (n : ℕ) → Under n nb (even m)
     under n = record { corner = a .corner; above = λ i l. a .above i; left = λ i l. a .left i }
 
-  over : (n : ℕ) (nb : Neighbours) → Under n (even 0) nb
+  pub over : (n : ℕ) (nb : Neighbours) → Under n (even 0) nb
   over n nb = record { corner = omega arith; above = λ i l. omega arith; left = λ i l. omega arith }
 
   -- an edge that is filtered is clipped
@@ -123,17 +123,18 @@ module _ (m : ℕ) where
   edges-most true b c d e f x y z w h k l = edge-most b c f x y h l
   edges-most false b c d e f x y z w h k l = edge-most d e f z w k l
 
-angular-most : (bits n mode x y : ℕ) (nb : Neighbours) → Size n → mode ≤ 34 → x < n → y < n → Most (2 ^ bits - 1) nb → angular bits true n mode nb x y ≤ 2 ^ bits - 1
+-- where the depth's largest is at most m
+pub angular-most : (m bits : ℕ) (edge : Bool) (n mode x y : ℕ) (nb : Neighbours) → Size n → mode ≤ 34 → x < n → y < n → 2 ^ bits - 1 ≤ m → Most m nb
+    → angular bits edge n mode nb x y ≤ m
 unfolding angular
-angular-most bits n mode x y nb s h hx hy a =
-    let m = 2 ^ bits - 1 in
+angular-most m bits edge n mode x y nb s h hx hy largest a =
     let p = near nb in
     let angle = intraPredAngle mode in
     let up = pos (p (pos 0) (negsuc 0)) +ℤ (pos (p (negsuc 0) (pos y)) -ℤ pos (p (negsuc 0) (negsuc 0)) >> 1) in
     let across = pos (p (negsuc 0) (pos 0)) +ℤ (pos (p (pos x) (negsuc 0)) -ℤ pos (p (negsuc 0) (negsuc 0)) >> 1) in
-    edges-most m (leb 18 mode) (eqb mode 26) (eqb x 0) (eqb mode 10) (eqb y 0) (ltb n 32)
-    (clipTo m up) (project (ref p n angle (invAngle mode)) angle x y) (clipTo m across) (project (ref (λ (a b : ℤ). p b a) n angle (invAngle mode)) angle y x)
-    (clip-most m up) (clip-most m across)
+    edges-most m (leb 18 mode) (eqb mode 26) (eqb x 0) (eqb mode 10) (eqb y 0) (edge && ltb n 32)
+    (clipTo (2 ^ bits - 1) up) (project (ref p n angle (invAngle mode)) angle x y) (clipTo (2 ^ bits - 1) across) (project (ref (λ (a b : ℤ). p b a) n angle (invAngle mode)) angle y x)
+    (omega (arith, clip-most (2 ^ bits - 1) up)) (omega (arith, clip-most (2 ^ bits - 1) across))
     (between n (λ (k : Neighbours). angular bits false n mode k x y) (mean-angular n mode s (omega arith) bits x y hx hy) 0 m nb (over m n nb) (under m nb a n) .1)
 
 pub predicted-most : (s : Still) (b : Block) (plane : List ℕ) → Depth (s .bits) → Size (b .side) → b .mode ≤ 34 → ((i : ℕ) → getD plane i 0 ≤ largestIn s)
@@ -147,4 +148,4 @@ predicted-most s b plane depth size mode most r c hr hc =
     rw (is-by-mode (lumaAt (s .bits)) firstEditionStrong (b .side) (b .mode) _ c r)
     (either m (eqb (b .mode) 0) (planar-between (b .side) c r size hc hr 0 m _ (over m (b .side) _) (under m _ p (b .side)) .1)
     (either m (eqb (b .mode) 1) (dc-between (b .side) c r size hc hr 0 m _ (over m (b .side) _) (under m _ p (b .side)) true .1)
-    (angular-most (s .bits) (b .side) (b .mode) c r _ size mode hc hr p)))
+    (angular-most m (s .bits) true (b .side) (b .mode) c r _ size mode hc hr (omega arith) p)))
