@@ -1,0 +1,260 @@
+-- What the bytes that the camera's entries leave spell: the standard's samples, where what is lent as bytes is bytes. Rests on what the
+-- entries write, on the clauses reading entries 0 .. 2n - 1 alone, and on their staying in range.
+use mathlib.Core.Path.{_≡_, refl, sym, ap, ap₂, _∙_}
+use mathlib.Core.Bool.{Bool, true, false, cond, not}
+use mathlib.Core.List.{List}
+use Prim.Native.Nat.{ℕ, suc, _+_, _-_, _*_, _/_, _%_, _^_, _≤_, _<_}
+use native.Mathlib.Nat.{div-one}
+use native.Mathlib.Omega.{arith}
+use lib.Dec.{leb, ltb, eqb}
+use lib.Arith.{digits-lt, digits-div, digits-mod}
+use lib.ListN.{length, getD, replicate, length-replicate, List·getD-append}
+use lib.Seq.{getD-append-add}
+use Rattle.laws.specs.Choose.{worked, passed, both-true}
+use Rattle.laws.specs.Fill.{fill, run}
+use Rattle.laws.specs.FillLaws.{length-fill, fill-none, fill-at, fill-run}
+use Rattle.laws.specs.Bytes.{byteOf}
+use Rattle.bytes.specs.Bytes.{samplesOf}
+use Rattle.bytes.specs.Laws.{AreBytes, samples-below, sample-at, two-bytes}
+use Rattle.h265.specs.Notation.{Neighbours, fromRows}
+use Rattle.h265.specs.Setting.{firstEditionStrong}
+use Rattle.h265.specs.Substitution.{firstMarked, settled}
+use Rattle.h265.specs.Planar.{planar}
+use Rattle.h265.specs.Dc.{dc}
+use Rattle.h265.specs.Angular.{angular}
+use Rattle.h265.specs.Mean.{Agree}
+use Rattle.domain.specs.Domain.{depthOk, sizeOk, modeOk}
+use Rattle.domain.specs.Facts.{Depth, Size, depth-of, at-depth, size-of, size-small}
+use Rattle.domain.specs.declared.rows.Rows.{Rows}
+use Rattle.domain.specs.rows.Neighbours.{neighboursOf, levelRows}
+use Rattle.order.specs.Order.{gridOf}
+use Rattle.refs.specs.declared.LumaRefGeometry.{LumaRefGeometry}
+use Rattle.refs.specs.declared.substitution.Flags.{Flags}
+use Rattle.refs.specs.substitution.Substitution.{flagsOn, samplesOn, substituted}
+use Rattle.refs.specs.substitution.Substitution as substitution
+use Rattle.refs.specs.Gather.{gatheredBy}
+use Rattle.refs.specs.Door.{lumaNo, lumaRows}
+use Rattle.refs.specs.standard.Standard.{luma-standard}
+use Rattle.predict.specs.by_mode.Door.{side, highest}
+use Rattle.predict.specs.modes.Flat.{planar-alone, planar-between, dc-alone, dc-between}
+use Rattle.predict.specs.modes.Angular.{angular-alone}
+use Rattle.predict.specs.modes.Modes.{pred-alone, pred-between}
+use Rattle.predict.specs.Contents.{chromaAt, chroma-plain}
+use Rattle.camera.specs.Written.{Written, wrote, entry}
+use Rattle.camera.specs.gather.Line.{inLine, rowsAt}
+use Rattle.camera.specs.gather.Entry.{lumaEntryNo, lumaEntry}
+use Rattle.camera.specs.gather.Room.{luma-entry-no, luma-entry-fine}
+use Rattle.camera.specs.gather.Spelt.{luma-spelt-fine}
+use Rattle.camera.specs.prediction.Entries.{rowOf, neighboursIn, blockIn, planarEntry, dcEntry, angularMode, angularEntry, chromaBlockEntry}
+use Rattle.camera.specs.prediction.Checks.{flat-fit, mode-fit}
+use Rattle.promises.specs.demand3.Range.{Most, neighbours-most, under, over, angular-most}
+use Rattle.promises.specs.demand2.Demand2.{Holds, fromLine, inPlane, standardNeighbours, chromaBlock}
+
+-- an entry that gives 0 has done its work
+done : (k : ℕ) (work kept : List ℕ) {number : ℕ} {out : List ℕ} → wrote number out ≡ entry k work kept → number ≡ 0 → (k ≡ 0) × (out ≡ work)
+unfolding entry
+done k work kept e zero =
+    let q : k ≡ 0 = ap (λ (w : Written). w .number) (sym e) ∙ zero in
+    (q, ap (λ (w : Written). w .bytes) e ∙ sym (worked k work kept q))
+
+-- sample j of k that were stored, the lower byte first
+module _ (f : ℕ → ℕ) (k : ℕ) (d : List ℕ) (room : 2 * k ≤ length d) (j : ℕ) (h : j < k) where
+  byte-is : (at i : ℕ) → at < 2 * k → at / 2 ≡ j → at % 2 ≡ i → getD (fill (byteOf 2 f) (2 * k) d) at 0 ≡ f j / 256 ^ i % 256
+  byte-is at i l p q = fill-at (byteOf 2 f) (2 * k) d at 0 l (omega arith) ∙ ap₂ (λ (u v : ℕ). f u / 256 ^ v % 256) p q
+
+  stored-at : f j ≤ 65535 → getD (samplesOf (fill (byteOf 2 f) (2 * k) d)) j 0 ≡ f j
+  stored-at small =
+      sample-at (fill (byteOf 2 f) (2 * k) d) j (2 * j) refl (omega (arith, length-fill (byteOf 2 f) (2 * k) d))
+      ∙ sym
+      (two-bytes (f j) _ _ (omega arith)
+      (byte-is (2 * j) 0 (omega arith) (omega arith) (omega arith) ∙ ap (λ (v : ℕ). v % 256) (div-one (f j)))
+      (byte-is (2 * j + 1) 1 (omega arith) (omega arith) (omega arith)))
+
+-- the neighbours that bytes spell
+abbrev spelt : ℕ → List ℕ → List ℕ → Neighbours
+spelt corner above left = fromRows corner (samplesOf above) (samplesOf left)
+
+-- a row as an entry reads it, as far as prediction reads
+alike : (b : List ℕ) (i : ℕ) → i < 65 → getD (rowOf b) i 0 ≡ getD (samplesOf b) i 0
+alike b i h = fill-at (λ j. getD (samplesOf b) j 0) 65 (replicate 65 0) i 0 h (omega (arith, length-replicate {A = ℕ} 65 0))
+
+-- a clause that reads the corner and entries 0 .. 2n - 1 alone, and that gives samples of samples
+record Plain (n : ℕ) (clause : Neighbours → ℕ → ℕ → ℕ) : Type 0 where
+  alone : (x y : ℕ) → x < n → y < n → (a b : Neighbours) → Agree n a b → clause a x y ≡ clause b x y
+  most : (x y : ℕ) → x < n → y < n → (nb : Neighbours) → Most 65535 nb → clause nb x y ≤ 65535
+
+-- the block that an entry writes
+module _ (n corner : ℕ) (above left : List ℕ) (size : Size n) (sample : corner < 65536) (a : AreBytes above) (l : AreBytes left) where
+  read : Agree n (neighboursIn corner above left) (spelt corner above left)
+  read =
+      let h = size-small n size in
+      record { corner = refl; above = λ i q. alike above i (omega arith); left = λ i q. alike left i (omega arith) }
+
+  in-range : Most 65535 (spelt corner above left)
+  in-range = record {
+    corner = omega arith;
+    above = λ i. let h = samples-below above a i in omega arith;
+    left = λ i. let h = samples-below left l i in omega arith;
+  }
+
+  module _ (clause : Neighbours → ℕ → ℕ → ℕ) (c : Plain n clause) (d : List ℕ) (room : 2 * (n * n) ≤ length d) where
+    abbrev inRow : ℕ → ℕ → ℕ
+    inRow y x = clause (neighboursIn corner above left) x y
+
+    block-spelt : {out : List ℕ} → out ≡ blockIn inRow n d → Holds n (clause (spelt corner above left)) (samplesOf out)
+    unfolding blockIn
+    block-spelt wrote x y hx hy =
+        let j = y * n + x in
+        let at = ap₂ inRow (digits-div y hx) (digits-mod y hx) ∙ c .alone x y hx hy _ _ read in
+        ap (λ (b : List ℕ). getD (samplesOf b) j 0) wrote
+        ∙ stored-at (λ i. inRow (i / n) (i % n)) (n * n) d room j (digits-lt hy hx) (rw at (c .most x y hx hy _ in-range))
+        ∙ at
+
+-- the clauses, each of which is such
+module _ (n : ℕ) (size : Size n) where
+  planar-plain : Plain n (planar n)
+  planar-plain = record {
+    alone = λ x y hx hy a b e. planar-alone n x y size hx hy a b (e .above) (e .left);
+    most = λ x y hx hy nb m. planar-between n x y size hx hy 0 65535 nb (over 65535 n nb) (under 65535 nb m n) .1;
+  }
+
+  dc-plain : (edge : Bool) → Plain n (dc edge n)
+  dc-plain edge = record {
+    alone = λ x y hx hy a b e. dc-alone n x y size hx hy a b (e .above) (e .left) edge;
+    most = λ x y hx hy nb m. dc-between n x y size hx hy 0 65535 nb (over 65535 n nb) (under 65535 nb m n) edge .1;
+  }
+
+  angular-plain : (bits : ℕ) (edge : Bool) (mode : ℕ) → Depth bits → mode ≤ 34 → Plain n (angular bits edge n mode)
+  angular-plain bits edge mode depth known = record {
+    alone = λ x y hx hy a b e. angular-alone n mode size (omega arith) bits edge x y hx hy a b e;
+    most = λ x y hx hy nb m.
+        angular-most 65535 bits edge n mode x y nb size known hx hy
+        (at-depth (λ (k : ℕ). 2 ^ k - 1 ≤ 65535) (omega arith) (omega arith) (omega arith) bits depth) m;
+  }
+
+  chroma-block-plain : (bits mode : ℕ) → mode ≤ 34 → Plain n (chromaBlock bits n mode)
+  chroma-block-plain bits mode known = record {
+    alone = λ x y hx hy a b e. pred-alone (chromaAt bits) firstEditionStrong n mode x y a b size known hx hy e;
+    most = λ x y hx hy nb m.
+        rw (chroma-plain (chromaAt bits) true n mode nb x y refl refl)
+        (pred-between bits n mode x y 0 65535 nb size known hx hy (over 65535 n nb) (under 65535 nb m n) .1);
+  }
+
+-- the entries of the predictors
+module _ (n : ℕ) (above left d : List ℕ) (a : AreBytes above) (l : AreBytes left) {number : ℕ} {out : List ℕ} where
+  pub planar-spelt : wrote number out ≡ planarEntry n above left d → number ≡ 0 → Holds n (planar n (spelt 0 above left)) (samplesOf out)
+  unfolding planarEntry
+  planar-spelt met zero =
+      let w = done _ _ d met zero in
+      let f = flat-fit n _ _ _ (w .0) 8 0 refl refl in
+      let s = side (f .0) in
+      block-spelt n 0 above left s (omega arith) a l (planar n) (planar-plain n s) d (f .1 .block-long) (w .1)
+
+  pub dc-spelt : (edge : ℕ) → wrote number out ≡ dcEntry n edge above left d → number ≡ 0
+      → Holds n (dc (not (eqb edge 0)) n (spelt 0 above left)) (samplesOf out)
+  unfolding dcEntry
+  dc-spelt edge met zero =
+      let w = done _ _ d met zero in
+      let f = flat-fit n _ _ _ (w .0) 8 0 refl refl in
+      let s = side (f .0) in
+      let e = not (eqb edge 0) in
+      block-spelt n 0 above left s (omega arith) a l (dc e n) (dc-plain n s e) d (f .1 .block-long) (w .1)
+
+  module _ (bits mode corner : ℕ) (c : corner < 65536) where
+    pub angular-spelt : (edge : ℕ) → wrote number out ≡ angularEntry bits n mode edge corner above left d → number ≡ 0
+        → Holds n (angular bits (not (eqb edge 0)) n mode (spelt corner above left)) (samplesOf out)
+    unfolding angularEntry
+    angular-spelt edge met zero =
+        let w = done _ _ d met zero in
+        let f = mode-fit bits n mode _ _ _ (angularMode mode) (λ t. both-true (leb 2 mode) (modeOk mode) t .1) (w .0) in
+        let s = side (f .0) in
+        let e = not (eqb edge 0) in
+        block-spelt n corner above left s c a l (angular bits e n mode)
+        (angular-plain n s bits e mode (depth-of bits (f .0 .depth)) (highest (f .0))) d (f .1 .0 .block-long) (w .1)
+
+    pub chroma-spelt : wrote number out ≡ chromaBlockEntry bits n mode corner above left d → number ≡ 0
+        → Holds n (chromaBlock bits n mode (spelt corner above left)) (samplesOf out)
+    unfolding chromaBlockEntry
+    chroma-spelt met zero =
+        let w = done _ _ d met zero in
+        let f = mode-fit bits n mode _ _ _ (modeOk mode) (λ t. t) (w .0) in
+        let s = side (f .0) in
+        block-spelt n corner above left s c a l (chromaBlock bits n mode) (chroma-block-plain n s bits mode (highest (f .0))) d
+        (f .1 .0 .block-long) (w .1)
+
+-- the rows that a gather writes
+module _ (r : Rows) (d : List ℕ) (long : length (r .above) ≡ 65) (room : 262 ≤ length d) where
+  abbrev at : ℕ → ℕ
+  at i = getD (inLine r) i 0
+
+  as-fill : run (byteOf 2 at) 0 262 d ≡ fill (byteOf 2 at) 262 d
+  as-fill =
+      ap (run (byteOf 2 at) 0 262) (fill-none (byteOf 2 at) d)
+      ∙ fill-run (byteOf 2 at) (byteOf 2 at) 0 262 d (λ i q. ap (byteOf 2 at) (let e : i ≡ 0 + i = omega arith in e))
+
+  at-place : (j v : ℕ) → j < 131 → at j ≡ v → v ≤ 65535 → getD (samplesOf (rowsAt 0 r d)) j 0 ≡ v
+  unfolding rowsAt
+  at-place j v h e small = ap (λ (b : List ℕ). getD (samplesOf b) j 0) as-fill ∙ stored-at at 131 d room j h (rw e small) ∙ e
+
+  rows-spelt : (n : ℕ) (nb : Neighbours) → n ≤ 32 → Agree n (neighboursOf r) nb → Most 65535 nb
+      → Agree n (fromLine (samplesOf (rowsAt 0 r d))) nb
+  rows-spelt n nb h a m = record {
+    corner = at-place 0 (nb .corner) (omega arith) (a .corner) (m .corner);
+    above = λ i q.
+        let e : 1 + i ≡ suc i = omega arith in
+        at-place (1 + i) (nb .above i) (omega arith)
+        (ap at e ∙ List·getD-append (r .above) (r .left) 0 i (omega arith) ∙ a .above i q) (m .above i);
+    left = λ i q.
+        let e : 66 + i ≡ suc (length (r .above) + i) = omega arith in
+        at-place (66 + i) (nb .left i) (omega arith) (ap at e ∙ getD-append-add (r .above) (r .left) i 0 ∙ a .left i q) (m .left i);
+  }
+
+-- a luma gather that is served
+module _ (len : ℕ) (g : LumaRefGeometry) (zero : lumaNo len g ≡ 0) where
+  luma-depth : Depth (g .bits)
+  unfolding lumaNo
+  luma-depth = depth-of (g .bits) (passed (depthOk (g .bits)) _ 1 (omega arith) zero .0)
+
+  pub luma-size : Size (g .n)
+  unfolding lumaNo
+  luma-size = size-of (g .n) (passed (sizeOk (g .n)) _ 2 (omega arith) (passed (depthOk (g .bits)) _ 1 (omega arith) zero .1) .0)
+
+-- its rows have 65 entries
+module _ (n neutral : ℕ) (flags : Flags) (rows : Rows) (h : length (rows .above) ≡ 65) where
+  abbrev found : ℕ
+  found = firstMarked (flagsOn flags (2 * n)) 0 (2 * (2 * n) + 3)
+
+  abbrev made : Rows
+  made = substitution.fromLine (2 * n) (settled (flagsOn flags (2 * n)) (samplesOn rows (2 * n)) found) rows
+
+  substituted-long : length (substituted n neutral flags rows .above) ≡ 65
+  unfolding substituted
+  substituted-long = go (ltb found (2 * (2 * n) + 3))
+    where
+      go : (b : Bool) → length (cond b made (levelRows neutral) .above) ≡ 65
+      go true = length-fill _ (2 * n + 1) (rows .above) ∙ h
+      go false = length-replicate 65 neutral
+
+luma-long : (plane : List ℕ) (g : LumaRefGeometry) → length (lumaRows plane g .above) ≡ 65
+unfolding lumaRows gatheredBy
+luma-long plane g = substituted-long _ _ _ _ (length-fill {A = ℕ} _ (2 * g .n + 1) (replicate 65 0) ∙ length-replicate {A = ℕ} 65 0)
+
+module _ (plane : List ℕ) (g : LumaRefGeometry) (d : List ℕ) (bytes : AreBytes plane) where
+  -- the standard's neighbours are samples
+  most : Depth (g .bits) → Most 65535 (standardNeighbours (samplesOf plane) g)
+  most depth =
+      neighbours-most 65535 (gridOf (g .picture)) (g .bits) (g .n) (g .«block_col» .0) (g .«block_row» .0) (inPlane (samplesOf plane) g)
+      (λ x y. let h = samples-below plane bytes (y * g .picture .width + x) in omega arith)
+      (at-depth (λ (k : ℕ). 2 ^ (k - 1) ≤ 65535) (omega arith) (omega arith) (omega arith) (g .bits) depth)
+
+  pub luma-refs-spelt : {number : ℕ} {out : List ℕ} → wrote number out ≡ lumaEntry plane g d → number ≡ 0
+      → Agree (g .n) (fromLine (samplesOf out)) (standardNeighbours (samplesOf plane) g)
+  unfolding lumaEntry
+  luma-refs-spelt met zero =
+      let rows = lumaRows (samplesOf plane) g in
+      let w = done (lumaEntryNo (length plane) (length d) g) (rowsAt 0 rows d) d met zero in
+      let fine = luma-entry-fine (length plane) (length d) g refl refl (luma-entry-no (length plane) (length d) g refl refl ∙ w .0) in
+      let no-is = luma-spelt-fine plane g (fine .1) .1 in
+      rw (w .1)
+      (rows-spelt rows d (luma-long (samplesOf plane) g) (fine .0) (g .n) _ (size-small (g .n) (luma-size _ g no-is) .1)
+      (luma-standard (samplesOf plane) g no-is) (most (luma-depth _ g no-is)))
