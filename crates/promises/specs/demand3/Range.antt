@@ -58,7 +58,8 @@ module _ (m : ℕ) where
       at : (k : ℕ) → substitutedAt bits n marked value k ≤ m
       at k = let found = firstMarked marked 0 (4 * n + 1) in either (ltb found (4 * n + 1)) (settled-most marked value found h k) l
 
-  pub neighbours-most : (g : Grid) (bits n x y : ℕ) (samples : ℕ → ℕ → ℕ) → ((a b : ℕ) → samples a b ≤ m) → 2 ^ (bits - 1) ≤ m → Most m (neighbours g (lumaAt bits) n x y samples)
+  pub neighbours-most : (g : Grid) (bits n x y : ℕ) (samples : ℕ → ℕ → ℕ) → ((a b : ℕ) → samples a b ≤ m) → 2 ^ (bits - 1) ≤ m
+      → Most m (neighbours g (lumaAt bits) n x y samples)
   unfolding neighbours
   neighbours-most g bits n x y samples h l = places-most bits n _ _ (λ k. h (natAbs (pos x +ℤ placeX n k)) (natAbs (pos y +ℤ placeY n k))) l
 
@@ -124,8 +125,8 @@ module _ (m : ℕ) where
   edges-most false b c d e f x y z w h k l = edge-most d e f z w k l
 
 -- where the depth's largest is at most m
-pub angular-most : (m bits : ℕ) (edge : Bool) (n mode x y : ℕ) (nb : Neighbours) → Size n → mode ≤ 34 → x < n → y < n → 2 ^ bits - 1 ≤ m → Most m nb
-    → angular bits edge n mode nb x y ≤ m
+pub angular-most : (m bits : ℕ) (edge : Bool) (n mode x y : ℕ) (nb : Neighbours) → Size n → mode ≤ 34 → x < n → y < n
+    → 2 ^ bits - 1 ≤ m → Most m nb → angular bits edge n mode nb x y ≤ m
 unfolding angular
 angular-most m bits edge n mode x y nb s h hx hy largest a =
     let p = near nb in
@@ -133,7 +134,8 @@ angular-most m bits edge n mode x y nb s h hx hy largest a =
     let up = pos (p (pos 0) (negsuc 0)) +ℤ (pos (p (negsuc 0) (pos y)) -ℤ pos (p (negsuc 0) (negsuc 0)) >> 1) in
     let across = pos (p (negsuc 0) (pos 0)) +ℤ (pos (p (pos x) (negsuc 0)) -ℤ pos (p (negsuc 0) (negsuc 0)) >> 1) in
     edges-most m (leb 18 mode) (eqb mode 26) (eqb x 0) (eqb mode 10) (eqb y 0) (edge && ltb n 32)
-    (clipTo (2 ^ bits - 1) up) (project (ref p n angle (invAngle mode)) angle x y) (clipTo (2 ^ bits - 1) across) (project (ref (λ (a b : ℤ). p b a) n angle (invAngle mode)) angle y x)
+    (clipTo (2 ^ bits - 1) up) (project (ref p n angle (invAngle mode)) angle x y)
+    (clipTo (2 ^ bits - 1) across) (project (ref (λ (a b : ℤ). p b a) n angle (invAngle mode)) angle y x)
     (omega (arith, clip-most (2 ^ bits - 1) up)) (omega (arith, clip-most (2 ^ bits - 1) across))
     (between n (λ (k : Neighbours). angular bits false n mode k x y) (mean-angular n mode s (omega arith) bits x y hx hy) 0 m nb (over m n nb) (under m nb a n) .1)
 
