@@ -1,6 +1,7 @@
--- Document 01, demand 3 on bytes: the entry `salvrunde_replay` replays in a plane's own bytes, in any calls, each given the record that the one before wrote into
--- its result buffer. `replayed` is what the entry's contract says; bytes spell samples, residuals and plans by `samplesOf`, `residualsOf` and `recordsOf`, and what
--- holds of a replay of those (demand3/Demand3) holds here. demand3/ProofBytes proves it all.
+-- Document 01, demand 3 on bytes: the entry `salvrunde_replay` replays in a plane's own bytes, in any calls, each given the record that the
+-- one before wrote into its result buffer. `replayed` is what the entry's contract says; bytes spell samples, residuals and plans by
+-- `samplesOf`, `residualsOf` and `recordsOf`, and what holds of a replay of those (demand3/Demand3) holds here. demand3/ProofBytes proves
+-- it all.
 use Prim.Native.Nat.{ℕ, _-_, _*_, _≤_, _<_, min}
 use mathlib.Core.Path.{_≡_}
 use mathlib.Core.Bool.{true}
@@ -82,8 +83,9 @@ pub record Fits (b : ByteJob) (x : Held (List ℕ)) : Type 0 where
 abbrev pub Long : ByteAsk → Type 0
 Long a = 8 ≤ length (a .result)
 
--- One call from x by the entry's contract: its number r, and what is held after it. Served, it did the lesser of the grant and what remains, those blocks and no
--- others, and the record in the result buffer says so. Refused, the plane stays, and the record in the buffer is the one given.
+-- One call from x by the entry's contract: its number r, and what is held after it. Served, it did the lesser of the grant and what
+-- remains, those blocks and no others, and the record in the result buffer says so. Refused, the plane stays, and the record there is the
+-- one given.
 pub record ByteGave (b : ByteJob) (x : Held (List ℕ)) (a : ByteAsk) (r : ℕ) (y : Held (List ℕ)) : Type 0 where
   pub number : r ≡ byteAfter b x a .number
   pub left : y ≡ byteCall b x a
@@ -92,8 +94,8 @@ pub record ByteGave (b : ByteJob) (x : Held (List ℕ)) (a : ByteAsk) (r : ℕ) 
   pub refused : (r ≡ 0 → ⊥) → (y .world ≡ x .world) × (Long a → y ≡ x)
 
 pub record OnBytes : Type 1 where
-  -- The entry, by its contract, with what is lent named as in the code: `now` is what it holds, e what there is at exit, of which two parts are the plane and
-  -- the result buffer. Calls of it, one after the other, are the chains below.
+  -- The entry, by its contract, with what is lent named as in the code: `now` is what it holds, e what there is at exit, of which two parts
+  -- are the result buffer and the plane. Calls of it, one after the other, are the chains below.
   pub by-replay : (κs : Lfts 4) (done bits width height ctu grant : ℕ) (plan residuals plane result : RefT (List ℕ)) (r : ℕ)
       (e : AtExit salvrunde-replay.ended κs)
       → salvrunde-replay-contract.Post κs (done, (bits, (width, (height, (ctu, (grant, (plan, (residuals, (plane, (result, tt)))))))))) r e
@@ -101,9 +103,11 @@ pub record OnBytes : Type 1 where
       let x = held (record { done = done }) (now plane) in Lent x
       → ByteGave (record { still = still; plan = now plan; residuals = now residuals }) x (record { grant = grant; result = now result }) r
       (held (recordIn (now (e .1 .1 .1 .1 .1 .1 .1 .1 .1 .0))) (now (e .1 .1 .1 .1 .1 .1 .1 .1 .0)))
-  pub made : (b : ByteJob) (x : Held (List ℕ)) (asks : List ByteAsk) (y : Held (List ℕ)) → Made (λ x a y. (r : ℕ) × ByteGave b x a r y) x asks y
+  pub made : (b : ByteJob) (x : Held (List ℕ)) (asks : List ByteAsk) (y : Held (List ℕ))
+      → Made (λ x a y. (r : ℕ) × ByteGave b x a r y) x asks y
       → y ≡ calls (byteCall b) x asks
-  -- The residuals of a walk, in whatever form it was made, as bytes: every call is served, and after k blocks those k hold the source, and all else what it held.
+  -- The residuals of a walk, in whatever form it was made, as bytes: every call is served, and after k blocks those k hold the source, and
+  -- all else what it held.
   pub replay : (j : Task) (source : List ℕ) (w : World) (asks : List Ask) → WalksAll j source w asks
       → (b : ByteJob) → speltTask b ≡ j → residualsOf (b .residuals) ≡ calls (walkCall j source) (fresh w) asks .world .residuals
       → (plane : List ℕ) → Fits b (fresh plane) → (again : List ByteAsk) → Each Long again
@@ -123,12 +127,12 @@ pub record OnBytes : Type 1 where
       → sampleAt (b .still) (samplesOf (calls (byteCall b) (fresh plane) asks .world)) r c
       ≡ sampleAt (b .still) (samplesOf (calls (byteCall b) (fresh other) others .world)) r c
   -- Any split into calls is one call with the sum of the grants, from any record, refused or not.
-  pub split : (b : ByteJob) (x : Held (List ℕ)) → Fits b x → (asks : List ByteAsk) (a : ByteAsk) → Each Long asks → Long a → a .grant ≡ bytesGranted asks
-      → calls (byteCall b) x asks ≡ byteCall b x a
+  pub split : (b : ByteJob) (x : Held (List ℕ)) → Fits b x → (asks : List ByteAsk) (a : ByteAsk) → Each Long asks → Long a
+      → a .grant ≡ bytesGranted asks → calls (byteCall b) x asks ≡ byteCall b x a
   -- Bytes there are for every list of residuals in an i32's range, and a walk's residuals are such.
   pub spelling : (v : List ℤ) → Each (SFits w32) v → (d : List ℕ) × AreBytes d × (length d ≡ 4 * length v) × (residualsOf d ≡ v)
   pub walk-spelt : (j : Task) (source : List ℕ) (w : World) (asks : List Ask) → WalksAll j source w asks
       → Each (SFits w32) (calls (walkCall j source) (fresh w) asks .world .residuals)
   -- Bytes and a list of records that agree block by block are one plan.
-  pub one-plan : (d : List ℕ) (l : List Block) → length d ≡ 6 * length l → ((k : ℕ) → k < length l → recordOf d (6 * k) ≡ listed l .block k)
-      → recordsOf d ≡ listed l
+  pub one-plan : (d : List ℕ) (l : List Block) → length d ≡ 6 * length l
+      → ((k : ℕ) → k < length l → recordOf d (6 * k) ≡ listed l .block k) → recordsOf d ≡ listed l

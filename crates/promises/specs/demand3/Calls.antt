@@ -1,4 +1,5 @@
--- A call of walk or of replay as its door has it, and a chain of calls, each given the progress record that the one before handed back. Assumes nothing.
+-- A call of walk or of replay as its door has it, and a chain of calls, each given the progress record that the one before handed back.
+-- Assumes nothing.
 use Prim.Native.Nat.{ℕ, _+_, _*_}
 use mathlib.Core.Path.{_≡_}
 use mathlib.Core.Bool.{true}
@@ -109,7 +110,8 @@ abbrev pub WalksServed : Task → List ℕ → Held World → List Ask → Type 
 WalksServed j source = AllServed (λ (x : Held World) (a : Ask). walkVerdictAt j source x (a .tables) .no) (walkCall j source)
 
 abbrev pub ReplaysServed : Task → List ℤ → Held (List ℕ) → List Ask → Type 0
-ReplaysServed j residuals = AllServed (λ (x : Held (List ℕ)) (a : Ask). replayVerdictAt j residuals x (a .tables) .no) (replayCall j residuals)
+ReplaysServed j residuals =
+    AllServed (λ (x : Held (List ℕ)) (a : Ask). replayVerdictAt j residuals x (a .tables) .no) (replayCall j residuals)
 
 -- every entry of a list is so
 unfoldable pub Each : {A : Type 0} → (A → Type 0) → List A → Type 0

@@ -1,4 +1,5 @@
--- A chain of calls is one call with the sum of the grants, refused or not, for any call that does units; and where one is served, all are. Rests on the laws of units.
+-- A chain of calls is one call with the sum of the grants, refused or not, for any call that does units; and where one is served, all are.
+-- Rests on the laws of units.
 use mathlib.Core.Path.{_≡_, refl, sym, ap, ap₂, _∙_, subst}
 use mathlib.Core.List.{List, [], _∷_, map}
 use Prim.Native.Nat.{ℕ, _+_, _-_, min}
@@ -37,9 +38,10 @@ next unit count x grant =
 abbrev pub after : {W : Type 0} → (ℕ → W → W) → ℕ → W → Held W
 after unit k w = record { progress = record { done = k }; world = units unit 0 k w }
 
--- A call that goes by a number: 0 where what is held is ready and what the call is given is fit, and of nothing else that is held. What such a call leaves
--- is ready again.
-pub record Steps {W A : Type 0} (grant : A → ℕ) (Fit : A → Type 0) (Ready : Held W → Type 0) (number : Held W → A → ℕ) (unit : ℕ → W → W) (count : ℕ)
+-- A call that goes by a number: 0 where what is held is ready and what the call is given is fit, and of nothing else that is held. What
+-- such a call leaves is ready again.
+pub record Steps {W A : Type 0} (grant : A → ℕ) (Fit : A → Type 0) (Ready : Held W → Type 0) (number : Held W → A → ℕ) (unit : ℕ → W → W)
+    (count : ℕ)
     (call : Held W → A → Held W)
     : Type 0
   where
@@ -48,7 +50,8 @@ pub record Steps {W A : Type 0} (grant : A → ℕ) (Fit : A → Type 0) (Ready 
     pub told : (x : Held W) (a : A) → number x a ≡ 0 → Ready x
     pub again : (x : Held W) (g : ℕ) → Ready x → Ready (next unit count x g)
 
-module _ {W A : Type 0} {grant : A → ℕ} {Fit : A → Type 0} {Ready : Held W → Type 0} {number : Held W → A → ℕ} {unit : ℕ → W → W} {count : ℕ}
+module _ {W A : Type 0} {grant : A → ℕ} {Fit : A → Type 0} {Ready : Held W → Type 0} {number : Held W → A → ℕ} {unit : ℕ → W → W}
+    {count : ℕ}
     {call : Held W → A → Held W} (f : Steps grant Fit Ready number unit count call)
   where
     abbrev from : Held W → State unit count
@@ -66,7 +69,9 @@ module _ {W A : Type 0} {grant : A → ℕ} {Fit : A → Type 0} {Ready : Held W
     chained : (x : Held W) (l : List A) → Ready x → Each Fit l → calls call x l ≡ to (chain unit count (from x) (map grant l))
     unfolding calls chain Each
     chained x [] r h = refl
-    chained x (a ∷ l) r h = ap (λ (y : Held W). calls call y l) (does x a (f .fine x a r (h .0))) ∙ chained (next unit count x (grant a)) l (f .again x (grant a) r) (h .1)
+    chained x (a ∷ l) r h =
+        ap (λ (y : Held W). calls call y l) (does x a (f .fine x a r (h .0)))
+        ∙ chained (next unit count x (grant a)) l (f .again x (grant a) r) (h .1)
 
     stays : (x : Held W) (l : List A) → (Ready x → ⊥) → calls call x l ≡ x
     unfolding calls
@@ -81,8 +86,11 @@ module _ {W A : Type 0} {grant : A → ℕ} {Fit : A → Type 0} {Ready : Held W
     unfolding AllServed Each
     all-served x [] r h = tt
     all-served x (a ∷ l) r h =
-        let e = f .fine x a r (h .0) in
-        (e, subst (λ (y : Held W). AllServed number call y l) (sym (does x a e)) (all-served (next unit count x (grant a)) l (f .again x (grant a) r) (h .1)))
+        let e = f .fine x a r (h .0) in (
+          e,
+          subst (λ (y : Held W). AllServed number call y l) (sym (does x a e))
+              (all-served (next unit count x (grant a)) l (f .again x (grant a) r) (h .1)),
+        )
 
     -- any split is one call
     pub split : (x : Held W) (l : List A) (a : A) → Each Fit l → Fit a → grant a ≡ sum (map grant l) → calls call x l ≡ call x a
@@ -93,7 +101,8 @@ module _ {W A : Type 0} {grant : A → ℕ} {Fit : A → Type 0} {Ready : Held W
         go (no n) = stays x l (λ r. n (f .fine x a r k)) ∙ sym (refuses x a n)
 
     -- from a fresh record
-    pub from-fresh : (w : W) (l : List A) → Ready (fresh w) → Each Fit l → calls call (fresh w) l ≡ after unit (min (sum (map grant l)) count) w
+    pub from-fresh : (w : W) (l : List A) → Ready (fresh w) → Each Fit l
+        → calls call (fresh w) l ≡ after unit (min (sum (map grant l)) count) w
     from-fresh w l r h =
         let total = sum (map grant l) in
         let did : min total (count - 0) ≡ min total count = omega arith in

@@ -1,5 +1,6 @@
 -- Document 01, demand 3: what a walk of a still gives, and that a replay of it gives the still back, however either is split into calls.
--- A call, a chain of calls and the names used here are in Calls; `predictedAt` is H.265's own prediction of a block from a plane. Proof3 proves it all.
+-- A call, a chain of calls and the names used here are in Calls; that the doors make such calls is said of their contracts, at the end.
+-- `predictedAt` is H.265's own prediction of a block from a plane. Proof3 proves it all.
 use Prim.Native.Nat.{ℕ, _+_, _-_, _≤_, _<_, min}
 use mathlib.Core.Path.{_≡_}
 use mathlib.Core.Bool.{true}
@@ -37,8 +38,8 @@ use Rattle.walk.proofs.Progress.walk as walk-records
 use Rattle.walk.proofs.Progress.replay as replay-records
 use Rattle.promises.specs.demand3.Calls.{Task, task, Ask, ask, Roomy, granted, Each, Held, held, Served, WalksServed, ReplaysServed, Made, blocks, count, residualAt, fresh, calls, walkVerdictAt, walkCall, replayVerdictAt, replayCall}
 
--- The whole picture is walked: the record says so, there are as many residuals as samples, each block's are the source less H.265's prediction from the
--- source itself, and the work plane holds the source.
+-- The whole picture is walked: the record says so, there are as many residuals as samples, each block's are the source less H.265's
+-- prediction from the source itself, and the work plane holds the source.
 pub record LosslessWalk (j : Task) (source : List ℕ) (x : Held World) : Type 0 where
   pub all-done : x .progress .done ≡ count j
   pub long : Whole (j .still) (x .world .residuals)
@@ -51,21 +52,24 @@ pub record LosslessWalk (j : Task) (source : List ℕ) (x : Held World) : Type 0
 pub record Replayed (j : Task) (source plane : List ℕ) (k : ℕ) (x : Held (List ℕ)) : Type 0 where
   pub done : x .progress .done ≡ k
   pub source-back : (r c : ℕ) → Covered (blocks j) k r c → sampleAt (j .still) (x .world) r c ≡ sampleAt (j .still) source r c
-  pub others-kept : (r c : ℕ) → In (j .still .frame) r c → (Covered (blocks j) k r c → ⊥) → sampleAt (j .still) (x .world) r c ≡ sampleAt (j .still) plane r c
+  pub others-kept : (r c : ℕ) → In (j .still .frame) r c → (Covered (blocks j) k r c → ⊥)
+      → sampleAt (j .still) (x .world) r c ≡ sampleAt (j .still) plane r c
 
 -- a block that is done on the way from x to y
 abbrev pub Done : {W : Type 0} → Held W → Held W → ℕ → Type 0
 Done x y i = (x .progress .done ≤ i) × (i < y .progress .done)
 
--- From x to y so many blocks are done, the next ones and no others: the record goes on by so many, their residuals are the source less H.265's prediction
--- from the work plane, which holds the source there, and all other samples and residuals stay.
+-- From x to y so many blocks are done, the next ones and no others: the record goes on by so many, their residuals are the source less
+-- H.265's prediction from the work plane, which holds the source there, and all other samples and residuals stay.
 pub record WalkDoes (j : Task) (source : List ℕ) (x : Held World) (did : ℕ) (y : Held World) : Type 0 where
   pub done : y .progress .done ≡ x .progress .done + did
   pub residuals : (i r c : ℕ) → Done x y i → r < blocks j i .side → c < blocks j i .side
       → residualAt j (y .world .residuals) i r c
-      ≡ pos (sampleAt (j .still) source (blocks j i .row + r) (blocks j i .col + c)) -ℤ pos (predictedAt (j .still) (blocks j i) (y .world .work) r c)
+      ≡ pos (sampleAt (j .still) source (blocks j i .row + r) (blocks j i .col + c))
+      -ℤ pos (predictedAt (j .still) (blocks j i) (y .world .work) r c)
   pub reconstructed : (i r c : ℕ) → Done x y i → r < blocks j i .side → c < blocks j i .side
-      → sampleAt (j .still) (y .world .work) (blocks j i .row + r) (blocks j i .col + c) ≡ sampleAt (j .still) source (blocks j i .row + r) (blocks j i .col + c)
+      → sampleAt (j .still) (y .world .work) (blocks j i .row + r) (blocks j i .col + c)
+      ≡ sampleAt (j .still) source (blocks j i .row + r) (blocks j i .col + c)
   pub samples-kept : (r c : ℕ) → In (j .still .frame) r c → ((i : ℕ) → Done x y i → Of (blocks j i) r c → ⊥)
       → sampleAt (j .still) (y .world .work) r c ≡ sampleAt (j .still) (x .world .work) r c
   pub residuals-kept : (i r c : ℕ) → i < count j → r < blocks j i .side → c < blocks j i .side → (Done x y i → ⊥)
@@ -80,8 +84,9 @@ pub record ReplayDoes (j : Task) (residuals : List ℤ) (x : Held (List ℕ)) (d
   pub samples-kept : (r c : ℕ) → In (j .still .frame) r c → ((i : ℕ) → Done x y i → Of (blocks j i) r c → ⊥)
       → sampleAt (j .still) (y .world) r c ≡ sampleAt (j .still) (x .world) r c
 
--- One call from x by its door's contract: its answer r, and what is held after it. It is the call of Calls, and its number that call's. Served, its count is
--- the lesser of the grant and what remains, and so many blocks are done; that they and no others are is what no unfolding of the count gives. Refused, all stays.
+-- One call from x by its door's contract: its answer r, and what is held after it. It is the call of Calls, and its number that call's.
+-- A count is worth what it says of the planes: served, it is the lesser of the grant and what remains, and so many blocks and no others are
+-- done; refused, it is 0 and all stays.
 pub record WalkGave (j : Task) (source : List ℕ) (x : Held World) (a : Ask) (r : Stepped) (y : Held World) : Type 0 where
   pub number : r .no ≡ walkVerdictAt j source x (a .tables) .no
   pub left : y ≡ walkCall j source x a
@@ -94,8 +99,8 @@ pub record ReplayGave (j : Task) (residuals : List ℤ) (x : Held (List ℕ)) (a
   pub counted : r .no ≡ 0 → (r .did ≡ min (a .grant) (count j - x .progress .done)) × ReplayDoes j residuals x (r .did) y
   pub refused : (r .no ≡ 0 → ⊥) → (r .did ≡ 0) × (y ≡ x)
 
--- A walk of every block that is not refused: some scratch with which it is served from the start, scratch of every call that is long enough, and grants
--- that reach the count.
+-- A walk of every block that is not refused: some scratch with which it is served from the start, scratch of every call that is long
+-- enough, and grants that reach the count.
 pub record WalksAll (j : Task) (source : List ℕ) (w : World) (asks : List Ask) : Type 0 where
   pub tables : Tables
   pub served : Served (walkVerdictAt j source (fresh w) tables)
@@ -107,59 +112,74 @@ pub record Demand3 : Type 2 where
   pub walk : (j : Task) (source : List ℕ) (w : World) (asks : List Ask) → WalksAll j source w asks
       → WalksServed j source (fresh w) asks × LosslessWalk j source (calls (walkCall j source) (fresh w) asks)
   -- The prediction of block k is made from samples of earlier blocks alone: another source that agrees there gives the same.
-  pub earlier-alone : (j : Task) (source other : List ℕ) (w : World) (t : Tables) → Served (walkVerdictAt j source (fresh w) t) → Whole (j .still) other
+  pub earlier-alone : (j : Task) (source other : List ℕ) (w : World) (t : Tables) → Served (walkVerdictAt j source (fresh w) t)
+      → Whole (j .still) other
       → (k : ℕ) → k < count j → ((r c : ℕ) → Covered (blocks j) k r c → sampleAt (j .still) source r c ≡ sampleAt (j .still) other r c)
       → (r c : ℕ) → r < blocks j k .side → c < blocks j k .side
       → predictedAt (j .still) (blocks j k) source r c ≡ predictedAt (j .still) (blocks j k) other r c
-  -- The walk's residuals, replayed in any calls with any scratch over a plane of any contents: every call is served, and they give the source back, block by block.
+  -- The walk's residuals, replayed in any calls with any scratch over a plane of any contents: every call is served, and they give the
+  -- source back, block by block.
   pub replay : (j : Task) (source : List ℕ) (w : World) (asks : List Ask) → WalksAll j source w asks
       → (plane : List ℕ) → Whole (j .still) plane → (again : List Ask) → Each Roomy again
       → let residuals = calls (walkCall j source) (fresh w) asks .world .residuals in
-      ReplaysServed j residuals (fresh plane) again × Replayed j source plane (min (granted again) (count j)) (calls (replayCall j residuals) (fresh plane) again)
+      ReplaysServed j residuals (fresh plane) again
+      × Replayed j source plane (min (granted again) (count j)) (calls (replayCall j residuals) (fresh plane) again)
   -- Where the grants reach the count the plane is the source: the program never prints `differs`.
   pub same : (j : Task) (source : List ℕ) (w : World) (asks : List Ask) → WalksAll j source w asks
       → (plane : List ℕ) → Whole (j .still) plane → (again : List Ask) → Each Roomy again → count j ≤ granted again
       → calls (replayCall j (calls (walkCall j source) (fresh w) asks .world .residuals)) (fresh plane) again .world ≡ source
   -- Any residuals in range: two replays of as many blocks agree on those blocks, however their planes began.
-  pub altered : (j : Task) (residuals : List ℤ) (a b : List ℕ) (asks others : List Ask) (t : Tables) → Served (replayVerdictAt j residuals (fresh a) t) → Whole (j .still) b
+  pub altered : (j : Task) (residuals : List ℤ) (a b : List ℕ) (asks others : List Ask) (t : Tables)
+      → Served (replayVerdictAt j residuals (fresh a) t) → Whole (j .still) b
       → Each Roomy asks → Each Roomy others → min (granted asks) (count j) ≡ min (granted others) (count j)
       → (r c : ℕ) → Covered (blocks j) (min (granted asks) (count j)) r c
-      → sampleAt (j .still) (calls (replayCall j residuals) (fresh a) asks .world) r c ≡ sampleAt (j .still) (calls (replayCall j residuals) (fresh b) others .world) r c
+      → sampleAt (j .still) (calls (replayCall j residuals) (fresh a) asks .world) r c
+      ≡ sampleAt (j .still) (calls (replayCall j residuals) (fresh b) others .world) r c
   -- Any split into calls is one call with the sum of the grants, from any record, refused or not.
   pub walk-split : (j : Task) (source : List ℕ) (x : Held World) (asks : List Ask) (t : Tables) → Each Roomy asks → roomy t ≡ true
       → calls (walkCall j source) x asks ≡ walkCall j source x (ask (granted asks) t)
   pub replay-split : (j : Task) (residuals : List ℤ) (x : Held (List ℕ)) (asks : List Ask) (t : Tables) → Each Roomy asks → roomy t ≡ true
       → calls (replayCall j residuals) x asks ≡ replayCall j residuals x (ask (granted asks) t)
   -- Calls that are served, from any record, do the lesser of what is granted and what remains.
-  pub walk-does : (j : Task) (source : List ℕ) (x : Held World) (asks : List Ask) (t : Tables) → Served (walkVerdictAt j source x t) → Each Roomy asks
-      → WalksServed j source x asks × WalkDoes j source x (min (granted asks) (count j - x .progress .done)) (calls (walkCall j source) x asks)
-  pub replay-does : (j : Task) (residuals : List ℤ) (x : Held (List ℕ)) (asks : List Ask) (t : Tables) → Served (replayVerdictAt j residuals x t) → Each Roomy asks
-      → ReplaysServed j residuals x asks × ReplayDoes j residuals x (min (granted asks) (count j - x .progress .done)) (calls (replayCall j residuals) x asks)
-  -- The doors, by their contracts, with what is lent named as in the code: `now` is what it holds, e what there is at exit. The plan is what the lent numbers or
-  -- records list, so that calls of both forms, with whatever scratch, are calls of one task where they list one plan.
-  pub by-walk-numbers : (κs : Lfts 10) (self : Progress) (still : Still) (rows cols sides modes source work : RefT (List ℕ)) (residuals : RefT (List ℤ))
-      (refs indices fractions : RefT (List ℕ)) (grant : ℕ) (r : Stepped) (e : AtExit walk-numbers.ended κs)
+  pub walk-does : (j : Task) (source : List ℕ) (x : Held World) (asks : List Ask) (t : Tables) → Served (walkVerdictAt j source x t)
+      → Each Roomy asks
+      → WalksServed j source x asks
+      × WalkDoes j source x (min (granted asks) (count j - x .progress .done)) (calls (walkCall j source) x asks)
+  pub replay-does : (j : Task) (residuals : List ℤ) (x : Held (List ℕ)) (asks : List Ask) (t : Tables)
+      → Served (replayVerdictAt j residuals x t) → Each Roomy asks
+      → ReplaysServed j residuals x asks
+      × ReplayDoes j residuals x (min (granted asks) (count j - x .progress .done)) (calls (replayCall j residuals) x asks)
+  -- The doors, by their contracts, with what is lent named as in the code: `now` is what it holds, e what there is at exit. The plan is
+  -- what the lent numbers or records list, so that calls of both forms, with whatever scratch, are calls of one task where they list one
+  -- plan.
+  pub by-walk-numbers : (κs : Lfts 10) (self : Progress) (still : Still) (rows cols sides modes source work : RefT (List ℕ))
+      (residuals : RefT (List ℤ)) (refs indices fractions : RefT (List ℕ)) (grant : ℕ) (r : Stepped) (e : AtExit walk-numbers.ended κs)
       → walk-numbers-contract.Post κs
       (self, (still, (rows, (cols, (sides, (modes, (source, (work, (residuals, (refs, (indices, (fractions, (grant, tt))))))))))))) r e
-      → WalkGave (task still (planOf (now rows) (now cols) (now sides) (now modes))) (now source) (held self (world (now work) (now residuals)))
+      → WalkGave (task still (planOf (now rows) (now cols) (now sides) (now modes))) (now source)
+      (held self (world (now work) (now residuals)))
       (ask grant (tables (now refs) (now indices) (now fractions))) r
       (held (r .next) (world (now (e .1 .1 .1 .1 .1 .1 .1 .0)) (now (e .1 .1 .1 .1 .1 .1 .1 .1 .0))))
-  pub by-replay-numbers : (κs : Lfts 9) (self : Progress) (still : Still) (rows cols sides modes : RefT (List ℕ)) (residuals : RefT (List ℤ))
+  pub by-replay-numbers : (κs : Lfts 9) (self : Progress) (still : Still) (rows cols sides modes : RefT (List ℕ))
+      (residuals : RefT (List ℤ))
       (plane refs indices fractions : RefT (List ℕ)) (grant : ℕ) (r : Stepped) (e : AtExit replay-numbers.ended κs)
-      → replay-numbers-contract.Post κs (self, (still, (rows, (cols, (sides, (modes, (residuals, (plane, (refs, (indices, (fractions, (grant, tt)))))))))))) r e
+      → replay-numbers-contract.Post κs
+      (self, (still, (rows, (cols, (sides, (modes, (residuals, (plane, (refs, (indices, (fractions, (grant, tt)))))))))))) r e
       → ReplayGave (task still (planOf (now rows) (now cols) (now sides) (now modes))) (now residuals) (held self (now plane))
       (ask grant (tables (now refs) (now indices) (now fractions))) r (held (r .next) (now (e .1 .1 .1 .1 .1 .1 .1 .0)))
   -- the doors over records are proved by hand: their clause is an assertion of any model, and entails the same
   pub by-walk : {M : Type 1} (𝓤 : URA M) (H : Heap 𝓤) (A : Atoms 𝓤) (mem : Memory → SProp 𝓤) (run : Routine → Fun 𝓤) (κs : Lfts 5)
       (self : Progress) (still : Still) (plan : RefT (List Block)) (source work : RefT (List ℕ)) (residuals : RefT (List ℤ))
       (scratch : RefT AngularScratch) (grant : ℕ) (r : Stepped) (e : AtExit walk-records.ended κs)
-      → ent 𝓤 (walk-records.clauses 𝓤 H A mem run κs (self, (still, (plan, (source, (work, (residuals, (scratch, (grant, tt)))))))) .ensures tt r e)
-      (fact 𝓤 (WalkGave (task still (listed (now plan))) (now source) (held self (world (now work) (now residuals))) (ask grant scratchTables) r
-      (held (r .next) (world (now (e .1 .1 .1 .1 .0)) (now (e .1 .1 .1 .1 .1 .0))))))
+      → ent 𝓤
+      (walk-records.clauses 𝓤 H A mem run κs (self, (still, (plan, (source, (work, (residuals, (scratch, (grant, tt)))))))) .ensures tt r e)
+      (fact 𝓤 (WalkGave (task still (listed (now plan))) (now source) (held self (world (now work) (now residuals)))
+      (ask grant scratchTables) r (held (r .next) (world (now (e .1 .1 .1 .1 .0)) (now (e .1 .1 .1 .1 .1 .0))))))
   pub by-replay : {M : Type 1} (𝓤 : URA M) (H : Heap 𝓤) (A : Atoms 𝓤) (mem : Memory → SProp 𝓤) (run : Routine → Fun 𝓤) (κs : Lfts 4)
       (self : Progress) (still : Still) (plan : RefT (List Block)) (residuals : RefT (List ℤ)) (plane : RefT (List ℕ))
       (scratch : RefT AngularScratch) (grant : ℕ) (r : Stepped) (e : AtExit replay-records.ended κs)
-      → ent 𝓤 (replay-records.clauses 𝓤 H A mem run κs (self, (still, (plan, (residuals, (plane, (scratch, (grant, tt))))))) .ensures tt r e)
+      → ent 𝓤 (replay-records.clauses 𝓤 H A mem run κs
+      (self, (still, (plan, (residuals, (plane, (scratch, (grant, tt))))))) .ensures tt r e)
       (fact 𝓤 (ReplayGave (task still (listed (now plan))) (now residuals) (held self (now plane)) (ask grant scratchTables) r
       (held (r .next) (now (e .1 .1 .1 .1 .0)))))
   -- Lists of numbers and a list of records that agree block by block are one plan.

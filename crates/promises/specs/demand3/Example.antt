@@ -1,4 +1,5 @@
--- A walk that is served: document 01's example for the program, two blocks of 8 by 8 in mode 1, all samples 130. So demand 3 speaks of something.
+-- A walk that is served: document 01's example for the program, two blocks of 8 by 8 in mode 1, all samples 130. So demand 3 speaks of
+-- something.
 use Prim.Native.Nat.{ℕ, _+_, _≤_}
 use mathlib.Core.Path.{_≡_, refl}
 use mathlib.Core.List.{List, [], _∷_}
@@ -61,5 +62,6 @@ pub walked : WalksAll two source blank there
 walked = record { tables = scratchTables; served = served; room = room 0 1; enough = enough 0 1 }
 
 -- over zeros
-pub same : calls (replayCall two (calls (walkCall two source) (fresh blank) there .world .residuals)) (fresh (replicate 128 0)) back .world ≡ source
+pub same : calls (replayCall two (calls (walkCall two source) (fresh blank) there .world .residuals)) (fresh (replicate 128 0)) back .world
+    ≡ source
 same = demand-3 .same two source blank there walked (replicate 128 0) refl back (room 7 0) (enough 7 0)

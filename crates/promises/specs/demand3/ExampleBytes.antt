@@ -1,5 +1,5 @@
--- A replay on bytes that is served: Example's walk over numbers, its plan and its residuals spelt in bytes, replayed over zeros block by block. So demand 3 on
--- bytes speaks of something.
+-- A replay on bytes that is served: Example's walk over numbers, its plan and its residuals spelt in bytes, replayed over zeros block by
+-- block. So demand 3 on bytes speaks of something.
 use Prim.Native.Nat.{ℕ, zero, suc, _*_, _≤_, _<_}
 use mathlib.Core.Path.{_≡_, refl, sym, ap, _∙_}
 use mathlib.Core.List.{List, [], _∷_}

@@ -1,4 +1,5 @@
--- One plan in its forms: lists of numbers, records and bytes that agree block by block are one plan. Past its end every form reads the same. Assumes nothing.
+-- One plan in its forms: lists of numbers, records and bytes that agree block by block are one plan. Past its end every form reads the
+-- same. Assumes nothing.
 use mathlib.Core.Path.{_≡_, refl, sym, _∙_}
 use mathlib.Core.List.{List, [], _∷_}
 use Prim.Native.Nat.{ℕ, zero, suc, _*_, _/_, _%_, _≤_, _<_}
@@ -25,7 +26,8 @@ pub numbers-listed : (rows cols sides modes : List ℕ) (l : List Block)
     → length rows ≡ length l → length cols ≡ length l → length sides ≡ length l → length modes ≡ length l
     → ((k : ℕ) → k < length l → planOf rows cols sides modes .block k ≡ listed l .block k) → planOf rows cols sides modes ≡ listed l
 numbers-listed rows cols sides modes l a b c d h =
-    plans (both-same (both-same (eq-eqb _ _ (b ∙ sym a)) (eq-eqb _ _ (c ∙ sym a))) (eq-eqb _ _ (d ∙ sym a))) a (λ k. go k (decLt k (length l)))
+    plans (both-same (both-same (eq-eqb _ _ (b ∙ sym a)) (eq-eqb _ _ (c ∙ sym a))) (eq-eqb _ _ (d ∙ sym a))) a
+    (λ k. go k (decLt k (length l)))
   where
     go : (k : ℕ) → Dec (k < length l) → planOf rows cols sides modes .block k ≡ listed l .block k
     go k (yes m) = h k m
@@ -36,7 +38,8 @@ numbers-listed rows cols sides modes l a b c d h =
         let mode = past modes k 0 (omega arith) in
         (λ i. record { row = row i; col = col i; side = side i; mode = mode i }) ∙ sym (past l k noBlock (omega arith))
 
-pub bytes-listed : (b : List ℕ) (l : List Block) → length b ≡ 6 * length l → ((k : ℕ) → k < length l → recordOf b (6 * k) ≡ listed l .block k) → recordsOf b ≡ listed l
+pub bytes-listed : (b : List ℕ) (l : List Block) → length b ≡ 6 * length l
+    → ((k : ℕ) → k < length l → recordOf b (6 * k) ≡ listed l .block k) → recordsOf b ≡ listed l
 unfolding recordAt
 bytes-listed b l e h = plans (eq-eqb (length b % 6) 0 (omega (arith, e))) (omega (arith, e)) (λ k. go k (decLt k (length l)))
   where

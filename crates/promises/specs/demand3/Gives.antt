@@ -1,5 +1,5 @@
--- What one call of a door gives, from the two equations of its contract: the call of Calls, and, of one that is served, the blocks that it does. Rests on what
--- a run of blocks leaves (Blocks) and on what it means that a call is served (Accept).
+-- What one call of a door gives, from the two equations of its contract: the call of Calls, and, of one that is served, the blocks that it
+-- does. Rests on what a run of blocks leaves (Blocks) and on what it means that a call is served (Accept).
 use mathlib.Core.Path.{_≡_, refl, sym, ap, ap₂, _∙_, subst}
 use mathlib.Core.List.{List}
 use Prim.Native.Nat.{ℕ, _+_, _-_, _<_, min}
@@ -41,15 +41,18 @@ module _ (j : Task) where
       let few = f .asked .few in
       let unit = walkUnit s (blocks j) source in
       let y = next unit (count j) x grant in
-      let settled = walk-settled (replays s (blocks j) (count j) ok depth) (sourced s (blocks j) (count j) ok depth source (f .source-whole) (λ t. most-at _ source (f .samples) _))
-      (walks-plan s (blocks j) (count j) ok depth source) (x .progress .done) (min grant (count j - x .progress .done)) (x .world) (omega arith) (f .work-whole) (f .residuals-whole) in
+      let settled = walk-settled (replays s (blocks j) (count j) ok depth)
+      (sourced s (blocks j) (count j) ok depth source (f .source-whole) (λ t. most-at _ source (f .samples) _))
+      (walks-plan s (blocks j) (count j) ok depth source) (x .progress .done) (min grant (count j - x .progress .done)) (x .world)
+      (omega arith) (f .work-whole) (f .residuals-whole) in
       record {
         done = refl;
         residuals = λ i r c d hr hc.
             let l : i < count j = omega (arith, d .1) in
             sym (spot-residual s (blocks j) (count j) ok i r c l hr hc (y .world .residuals))
             ∙ settled i (spot s (blocks j) (count j) ok i r c l hr hc) (d .0) (d .1) (spot-of s (blocks j) (count j) ok i r c l hr hc) .1
-            ∙ ap (less (sampleAt s source (blocks j i .row + r) (blocks j i .col + c))) (spot-predict s (blocks j) (count j) ok i r c l hr hc (y .world .work));
+            ∙ ap (less (sampleAt s source (blocks j i .row + r) (blocks j i .col + c)))
+            (spot-predict s (blocks j) (count j) ok i r c l hr hc (y .world .work));
         reconstructed = λ i r c d hr hc.
             let l : i < count j = omega (arith, d .1) in
             settled i (spot s (blocks j) (count j) ok i r c l hr hc) (d .0) (d .1) (spot-of s (blocks j) (count j) ok i r c l hr hc) .0;
@@ -59,8 +62,10 @@ module _ (j : Task) where
         residuals-kept = λ i r c l hr hc n.
             units-kept unit (λ (u : World). residualAt j (u .residuals) i r c) _ _ (x .world)
             (λ m u a b.
-            sym (spot-residual s (blocks j) (count j) ok i r c l hr hc (stored s source (blocks j m) (place (blocks j) m) (u .work) (u .residuals)))
-            ∙ store-out s (blocks j) (count j) ok depth source m (u .work) (u .residuals) i (spot s (blocks j) (count j) ok i r c l hr hc) (λ e. n (omega (arith, e), omega (arith, e))) (spot-of s (blocks j) (count j) ok i r c l hr hc)
+            sym (spot-residual s (blocks j) (count j) ok i r c l hr hc
+            (stored s source (blocks j m) (place (blocks j) m) (u .work) (u .residuals)))
+            ∙ store-out s (blocks j) (count j) ok depth source m (u .work) (u .residuals) i (spot s (blocks j) (count j) ok i r c l hr hc)
+            (λ e. n (omega (arith, e), omega (arith, e))) (spot-of s (blocks j) (count j) ok i r c l hr hc)
             ∙ spot-residual s (blocks j) (count j) ok i r c l hr hc (u .residuals));
       }
 
@@ -76,9 +81,11 @@ module _ (j : Task) where
         done = refl;
         rebuilt = λ i r c d hr hc.
             let l : i < count j = omega (arith, d .1) in
-            replay-settled (replays s (blocks j) (count j) ok depth) residuals (x .progress .done) (min grant (count j - x .progress .done)) (x .world) (omega arith) (f .plane-whole)
+            replay-settled (replays s (blocks j) (count j) ok depth) residuals (x .progress .done)
+            (min grant (count j - x .progress .done)) (x .world) (omega arith) (f .plane-whole)
             i (spot s (blocks j) (count j) ok i r c l hr hc) (d .0) (d .1) (spot-of s (blocks j) (count j) ok i r c l hr hc)
-            ∙ ap₂ (added s) (spot-predict s (blocks j) (count j) ok i r c l hr hc (y .world)) (spot-residual s (blocks j) (count j) ok i r c l hr hc residuals);
+            ∙ ap₂ (added s) (spot-predict s (blocks j) (count j) ok i r c l hr hc (y .world))
+            (spot-residual s (blocks j) (count j) ok i r c l hr hc residuals);
         samples-kept = λ r c h n.
             units-kept unit (λ (u : List ℕ). sampleAt s u r c) _ _ (x .world)
             (λ i u a b. rebuild-out s (blocks j) (count j) ok depth i residuals u (omega arith) (at r c h) (λ o. n i (a, b) o));
@@ -101,7 +108,8 @@ module _ (v : Verdict) (plan : Plan) (p : Progress) (grant : ℕ) {r : Stepped} 
 
 pub walk-gave : (j : Task) (source : List ℕ) (x : Held World) (a : Ask) (r : Stepped) (after : World)
     → r ≡ steppedBy (walkVerdictAt j source x (a .tables)) (j .plan) (x .progress) (a .grant)
-    → after ≡ walkAfter (j .still) (j .plan) (a .tables) (x .progress .done) (a .grant) source (x .world) → WalkGave j source x a r (held (r .next) after)
+    → after ≡ walkAfter (j .still) (j .plan) (a .tables) (x .progress .done) (a .grant) source (x .world)
+    → WalkGave j source x a r (held (r .next) after)
 walk-gave j source x a r after e f =
     let v = walkVerdictAt j source x (a .tables) in
     let no = number-of v (j .plan) (x .progress) (a .grant) e in
@@ -124,7 +132,8 @@ walk-gave j source x a r after e f =
 
 pub replay-gave : (j : Task) (residuals : List ℤ) (x : Held (List ℕ)) (a : Ask) (r : Stepped) (after : List ℕ)
     → r ≡ steppedBy (replayVerdictAt j residuals x (a .tables)) (j .plan) (x .progress) (a .grant)
-    → after ≡ replayAfter (j .still) (j .plan) (a .tables) (x .progress .done) (a .grant) residuals (x .world) → ReplayGave j residuals x a r (held (r .next) after)
+    → after ≡ replayAfter (j .still) (j .plan) (a .tables) (x .progress .done) (a .grant) residuals (x .world)
+    → ReplayGave j residuals x a r (held (r .next) after)
 replay-gave j residuals x a r after e f =
     let v = replayVerdictAt j residuals x (a .tables) in
     let no = number-of v (j .plan) (x .progress) (a .grant) e in
@@ -137,7 +146,8 @@ replay-gave j residuals x a r after e f =
           let did = did-served v (j .plan) (x .progress) (a .grant) e zero in (
             did,
             subst (ReplayDoes j residuals x (r .did)) (sym (left ∙ does (replay-steps j residuals) x a zero))
-                (subst (λ (k : ℕ). ReplayDoes j residuals x k (next (replayUnit (j .still) (blocks j) residuals) (count j) x (a .grant))) (sym did)
+                (subst (λ (k : ℕ). ReplayDoes j residuals x k (next (replayUnit (j .still) (blocks j) residuals) (count j) x (a .grant)))
+                (sym did)
                 (replay-done j residuals x (a .grant) (replay-told j residuals x (a .tables) zero))),
           );
       refused = λ n.

@@ -71,18 +71,25 @@ module _ (b : ByteJob) where
 
     module _ (f : Fits b x) (long : Long a) where
       fit : bytesFit (b .still) given ≡ true
-      fit = both-same (both-same (both-same (eq-eqb _ _ (f .plane)) (eq-eqb _ _ (f .residuals))) (f .records)) (le-leb 8 (length (a .result)) long)
+      fit = both-same (both-same (both-same (eq-eqb _ _ (f .plane)) (eq-eqb _ _ (f .residuals))) (f .records))
+          (le-leb 8 (length (a .result)) long)
 
       verdict-is : verdict ≡ replayVerdictAt j v (spelt x) scratchTables
       verdict-is = spelt-verdict (b .still) (x .progress .done) given (a .grant) (x .world) refl fit (f .lent .0)
 
       -- the next record is a word, and it is the one that the replay hands back
-      next-is : record { done = nextWritten (b .still) (x .progress .done) given (a .grant) } ≡ steppedBy verdict (recordsOf (b .plan)) (x .progress) (a .grant) .next
+      next-is : record { done = nextWritten (b .still) (x .progress .done) given (a .grant) }
+          ≡ steppedBy verdict (recordsOf (b .plan)) (x .progress) (a .grant) .next
       next-is = go (ℕ-discrete (verdict .no) 0)
         where
-          go : Dec (verdict .no ≡ 0) → record { done = nextWritten (b .still) (x .progress .done) given (a .grant) } ≡ steppedBy verdict (recordsOf (b .plan)) (x .progress) (a .grant) .next
-          go (yes z) = ap (λ (k : ℕ). record { done = k }) (sym (worked (verdict .no) _ _ z)) ∙ ap (λ (t : Stepped). t .next) (worked (verdict .no) _ _ z)
-          go (no n) = ap (λ (k : ℕ). record { done = k }) (sym (unserved (verdict .no) _ _ n)) ∙ ap (λ (t : Stepped). t .next) (unserved (verdict .no) _ _ n)
+          go : Dec (verdict .no ≡ 0) → record { done = nextWritten (b .still) (x .progress .done) given (a .grant) }
+              ≡ steppedBy verdict (recordsOf (b .plan)) (x .progress) (a .grant) .next
+          go (yes z) =
+              ap (λ (k : ℕ). record { done = k }) (sym (worked (verdict .no) _ _ z))
+              ∙ ap (λ (t : Stepped). t .next) (worked (verdict .no) _ _ z)
+          go (no n) =
+              ap (λ (k : ℕ). record { done = k }) (sym (unserved (verdict .no) _ _ n))
+              ∙ ap (λ (t : Stepped). t .next) (unserved (verdict .no) _ _ n)
 
       next-word : nextWritten (b .still) (x .progress .done) given (a .grant) < 4294967296
       next-word = go (ℕ-discrete (verdict .no) 0)
@@ -124,16 +131,23 @@ module _ (b : ByteJob) where
     fits-of z lent =
         let e = served-fits (b .still) (x .progress .done) given (sym number-is ∙ z) in
         let f = fitting (b .still) given e in
-        let fitted = wholeBy (b .still) 2 (length (x .world)) && wholeBy (b .still) 4 (length (b .residuals)) && recordsOf (b .plan) .whole in
-        (record { plane = f .plane; residuals = f .residuals; records = f .records; lent = lent }, leb-true 8 (length (a .result)) (both-true fitted (leb 8 (length (a .result))) e .1))
+        let fitted = wholeBy (b .still) 2 (length (x .world)) && wholeBy (b .still) 4 (length (b .residuals)) && recordsOf
+        (b .plan) .whole in (
+          record { plane = f .plane; residuals = f .residuals; records = f .records; lent = lent },
+          leb-true 8 (length (a .result))
+              (both-true fitted (leb 8 (length (a .result))) e .1),
+        )
 
     -- one that is refused changes nothing
-    refused-keeps : (byteAfter b x a .number ≡ 0 → ⊥) → Lent x → (byteAfter b x a .plane ≡ x .world) × (Long a → recordIn (byteAfter b x a .result) ≡ x .progress)
+    refused-keeps : (byteAfter b x a .number ≡ 0 → ⊥) → Lent x → (byteAfter b x a .plane ≡ x .world)
+        × (Long a → recordIn (byteAfter b x a .result) ≡ x .progress)
     unfolding replayed planeAfter resultAfter
     refused-keeps n lent =
-        let next = unserved (verdict .no) (x .progress .done + doing (recordsOf (b .plan) .count) (x .progress .done) (a .grant)) (x .progress .done) n in (
+        let next = unserved (verdict .no) (x .progress .done + doing (recordsOf (b .plan) .count) (x .progress .done) (a .grant))
+        (x .progress .done) n in (
           sym (unserved (verdict .no) _ (x .world) n),
-          λ long. read-back _ _ (a .result) long (subst (λ (k : ℕ). k < 4294967296) next (lent .1)) ∙ ap (λ (k : ℕ). record { done = k }) (sym next),
+          λ long. read-back _ _ (a .result) long (subst (λ (k : ℕ). k < 4294967296) next (lent .1))
+              ∙ ap (λ (k : ℕ). record { done = k }) (sym next),
         )
 
   -- any calls
@@ -145,12 +159,14 @@ module _ (b : ByteJob) where
       let r = chain-spells (byteCall b x a) l (call-fits x a f (h .0)) (h .1) in
       (r .0 ∙ ap (λ (y : Held (List ℕ)). calls (replayCall j v) y (map speltAsk l)) (call-spells x a f (h .0)), r .1)
 
-  chain-served : (x : Held (List ℕ)) (asks : List ByteAsk) → Fits b x → Each Long asks → ReplaysServed j v (spelt x) (map speltAsk asks) → EachServed b x asks
+  chain-served : (x : Held (List ℕ)) (asks : List ByteAsk) → Fits b x → Each Long asks → ReplaysServed j v (spelt x) (map speltAsk asks)
+      → EachServed b x asks
   unfolding AllServed Each
   chain-served x [] f h s = tt
   chain-served x (a ∷ l) f h s = (
     served-is x a f (h .0) ∙ s .0,
-    chain-served (byteCall b x a) l (call-fits x a f (h .0)) (h .1) (subst (λ (y : Held (List ℕ)). ReplaysServed j v y (map speltAsk l)) (sym (call-spells x a f (h .0))) (s .1)),
+    chain-served (byteCall b x a) l (call-fits x a f (h .0)) (h .1)
+        (subst (λ (y : Held (List ℕ)). ReplaysServed j v y (map speltAsk l)) (sym (call-spells x a f (h .0))) (s .1)),
   )
 
   samples-whole : (plane : List ℕ) → Fits b (fresh plane) → length (samplesOf plane) ≡ b .still .frame .height * b .still .frame .width
@@ -160,12 +176,14 @@ module _ (b : ByteJob) where
   as-bytes : (x y : Held (List ℕ)) → Fits b x → Fits b y → spelt x ≡ spelt y → x ≡ y
   as-bytes x y f g e =
       let p = ap (λ (z : Held (List ℕ)). z .progress) e in
-      let even : (z : Held (List ℕ)) → Fits b z → bytesOf (samplesOf (z .world)) ≡ z .world = λ z h. bytes-back (z .world) (omega (arith, h .plane)) (h .lent .0) in
+      let even : (z : Held (List ℕ)) → Fits b z → bytesOf (samplesOf (z .world))
+      ≡ z .world = λ z h. bytes-back (z .world) (omega (arith, h .plane)) (h .lent .0) in
       let q = sym (even x f) ∙ ap (λ (z : Held (List ℕ)). bytesOf (z .world)) e ∙ even y g in
       λ i. held (p i) (q i)
 
   -- what one call gives, from its contract
-  gave : (x : Held (List ℕ)) (a : ByteAsk) (r : ℕ) (plane result : List ℕ) → record { number = r; plane = plane; result = result } ≡ byteAfter b x a
+  gave : (x : Held (List ℕ)) (a : ByteAsk) (r : ℕ) (plane result : List ℕ)
+      → record { number = r; plane = plane; result = result } ≡ byteAfter b x a
       → Lent x → ByteGave b x a r (held (recordIn result) plane)
   gave x a r plane result e lent =
       let no = ap (λ (y : After). y .number) e in
@@ -186,31 +204,43 @@ module _ (b : ByteJob) where
 
 -- demand 3 for the task that the bytes spell
 module _ (b : ByteJob) (source : List ℕ) (w : World) (asks : List Ask) (all : WalksAll (speltTask b) source w asks)
-    (spell : residualsOf (b .residuals) ≡ calls (walkCall (speltTask b) source) (fresh w) asks .world .residuals) (plane : List ℕ) (f : Fits b (fresh plane)) (again : List ByteAsk)
+    (spell : residualsOf (b .residuals) ≡ calls (walkCall (speltTask b) source) (fresh w) asks .world .residuals) (plane : List ℕ)
+    (f : Fits b (fresh plane)) (again : List ByteAsk)
     (long : Each Long again)
   where
-    out : spelt (calls (byteCall b) (fresh plane) again) ≡ calls (replayCall (speltTask b) (residualsOf (b .residuals))) (fresh (samplesOf plane)) (map speltAsk again)
+    out : spelt (calls (byteCall b) (fresh plane) again)
+        ≡ calls (replayCall (speltTask b) (residualsOf (b .residuals))) (fresh (samplesOf plane)) (map speltAsk again)
     out = chain-spells b (fresh plane) again f long .0
 
     back : EachServed b (fresh plane) again
-        × Replayed (speltTask b) source (samplesOf plane) (min (bytesGranted again) (count (speltTask b))) (spelt (calls (byteCall b) (fresh plane) again))
+        × Replayed (speltTask b) source (samplesOf plane) (min (bytesGranted again) (count (speltTask b)))
+        (spelt (calls (byteCall b) (fresh plane) again))
     back =
-        let d = subst (λ (r : List ℤ). ReplaysServed (speltTask b) r (fresh (samplesOf plane)) (map speltAsk again) × Replayed (speltTask b) source (samplesOf plane) (min (bytesGranted again) (count (speltTask b))) (calls (replayCall (speltTask b) r) (fresh (samplesOf plane)) (map speltAsk again)))
-        (sym spell) (demand-3 .replay (speltTask b) source w asks all (samplesOf plane) (samples-whole b plane f) (map speltAsk again) (own-room again)) in
-        (chain-served b (fresh plane) again f long (d .0), subst (Replayed (speltTask b) source (samplesOf plane) (min (bytesGranted again) (count (speltTask b)))) (sym out) (d .1))
+        let d = subst (λ (r : List ℤ). ReplaysServed (speltTask b) r (fresh (samplesOf plane)) (map speltAsk again)
+        × Replayed (speltTask b) source (samplesOf plane) (min (bytesGranted again) (count (speltTask b)))
+        (calls (replayCall (speltTask b) r) (fresh (samplesOf plane)) (map speltAsk again)))
+        (sym spell) (demand-3 .replay (speltTask b) source w asks all (samplesOf plane) (samples-whole b plane f) (map speltAsk again)
+        (own-room again)) in (
+          chain-served b (fresh plane) again f long (d .0),
+          subst
+              (Replayed (speltTask b) source (samplesOf plane) (min (bytesGranted again) (count (speltTask b)))) (sym out) (d .1),
+        )
 
     whole : count (speltTask b) ≤ bytesGranted again → samplesOf (calls (byteCall b) (fresh plane) again .world) ≡ source
     whole enough =
         ap (λ (x : Held (List ℕ)). x .world) out
         ∙ ap (λ (r : List ℤ). calls (replayCall (speltTask b) r) (fresh (samplesOf plane)) (map speltAsk again) .world) spell
-        ∙ demand-3 .same (speltTask b) source w asks all (samplesOf plane) (samples-whole b plane f) (map speltAsk again) (own-room again) enough
+        ∙ demand-3 .same (speltTask b) source w asks all (samplesOf plane) (samples-whole b plane f) (map speltAsk again)
+        (own-room again) enough
 
 -- a walk's residuals are a replay's
-in-range : (j : Task) (source : List ℕ) (w : World) (asks : List Ask) → WalksAll j source w asks → Each (SFits w32) (calls (walkCall j source) (fresh w) asks .world .residuals)
+in-range : (j : Task) (source : List ℕ) (w : World) (asks : List Ask) → WalksAll j source w asks
+    → Each (SFits w32) (calls (walkCall j source) (fresh w) asks .world .residuals)
 unfolding AllServed Each
 in-range j source w asks all =
     let residuals = calls (walkCall j source) (fresh w) asks .world .residuals in
-    let d = demand-3 .replay j source w asks all source (walk-told j source (fresh w) (all .tables) (all .served) .source-whole) (ask 0 scratchTables ∷ []) (refl, tt) in
+    let d = demand-3 .replay j source w asks all source (walk-told j source (fresh w) (all .tables) (all .served) .source-whole)
+    (ask 0 scratchTables ∷ []) (refl, tt) in
     in-words residuals (replay-told j residuals (fresh source) scratchTables (d .0 .0) .in-range)
 
 pub on-bytes : OnBytes
@@ -218,25 +248,31 @@ on-bytes = record {
   by-replay = λ κs done bits width height ctu grant plan residuals plane result r e p lent. gave _ _ _ r _ _ p lent;
   made = λ b x asks y m. made-calls (λ x a y g. g .1 .left) x asks y m;
   replay = λ j source w asks all b e spell plane f again long.
-      subst (λ (k : Task). (all : WalksAll k source w asks) → residualsOf (b .residuals) ≡ calls (walkCall k source) (fresh w) asks .world .residuals
-      → EachServed b (fresh plane) again × Replayed k source (samplesOf plane) (min (bytesGranted again) (count k)) (spelt (calls (byteCall b) (fresh plane) again))) e
+      subst (λ (k : Task). (all : WalksAll k source w asks) → residualsOf (b .residuals)
+      ≡ calls (walkCall k source) (fresh w) asks .world .residuals
+      → EachServed b (fresh plane) again
+      × Replayed k source (samplesOf plane) (min (bytesGranted again) (count k)) (spelt (calls (byteCall b) (fresh plane) again))) e
       (λ all spell. back b source w asks all spell plane f again long) all spell;
   same = λ j source w asks all b e spell plane f again long enough.
-      subst (λ (k : Task). (all : WalksAll k source w asks) → residualsOf (b .residuals) ≡ calls (walkCall k source) (fresh w) asks .world .residuals → count k ≤ bytesGranted again
+      subst (λ (k : Task). (all : WalksAll k source w asks) → residualsOf (b .residuals)
+      ≡ calls (walkCall k source) (fresh w) asks .world .residuals → count k ≤ bytesGranted again
       → samplesOf (calls (byteCall b) (fresh plane) again .world) ≡ source) e
       (λ all spell enough. whole b source w asks all spell plane f again long enough) all spell enough;
   altered = λ b plane other f g first z asks others long too e r c cov.
       let v = residualsOf (b .residuals) in
       let k = fits-of b (fresh plane) first z (f .lent) in
       ap (λ (x : Held (List ℕ)). sampleAt (b .still) (x .world) r c) (chain-spells b (fresh plane) asks f long .0)
-      ∙ demand-3 .altered (speltTask b) v (samplesOf plane) (samplesOf other) (map speltAsk asks) (map speltAsk others) scratchTables (sym (served-is b (fresh plane) first (k .0) (k .1)) ∙ z)
+      ∙ demand-3 .altered (speltTask b) v (samplesOf plane) (samplesOf other) (map speltAsk asks) (map speltAsk others) scratchTables
+      (sym (served-is b (fresh plane) first (k .0) (k .1)) ∙ z)
       (samples-whole b other g) (own-room asks) (own-room others) e r c cov
       ∙ sym (ap (λ (x : Held (List ℕ)). sampleAt (b .still) (x .world) r c) (chain-spells b (fresh other) others g too .0));
   split = λ b x f asks a long one e.
       let chain = chain-spells b x asks f long in
       as-bytes b (calls (byteCall b) x asks) (byteCall b x a) (chain .1) (call-fits b x a f one)
-      (chain .0 ∙ demand-3 .replay-split (speltTask b) (residualsOf (b .residuals)) (spelt x) (map speltAsk asks) scratchTables (own-room asks) refl
-      ∙ ap (λ (k : ℕ). replayCall (speltTask b) (residualsOf (b .residuals)) (spelt x) (ask k scratchTables)) (sym e) ∙ sym (call-spells b x a f one));
+      (chain .0 ∙ demand-3 .replay-split (speltTask b) (residualsOf (b .residuals)) (spelt x) (map speltAsk asks) scratchTables
+      (own-room asks) refl
+      ∙ ap (λ (k : ℕ). replayCall (speltTask b) (residualsOf (b .residuals)) (spelt x) (ask k scratchTables)) (sym e)
+      ∙ sym (call-spells b x a f one));
   spelling = λ v h. (wordsOf v, words-are v, length-words v, residuals-back v h);
   walk-spelt = in-range;
   one-plan = bytes-listed;

@@ -50,13 +50,16 @@ pub residuals-back : (v : List ℤ) → Each (SFits w32) v → residualsOf (word
 unfolding wordsOf residualsOf Each
 residuals-back [] h = refl
 residuals-back (z ∷ v) h =
-    ap₂ (λ (a : ℤ) (l : List ℤ). a ∷ l) (ap (toZ w32) (word-back (ofZ w32 z) (fits-ofZ {w = w32} {z = z} (h .0) .fits)) ∙ toZ-ofZ {w = w32} {z = z} (h .0)) (residuals-back v (h .1))
+    ap₂ (λ (a : ℤ) (l : List ℤ). a ∷ l)
+    (ap (toZ w32) (word-back (ofZ w32 z) (fits-ofZ {w = w32} {z = z} (h .0) .fits)) ∙ toZ-ofZ {w = w32} {z = z} (h .0))
+    (residuals-back v (h .1))
 
 -- residuals in replay's range
 pub in-words : (v : List ℤ) → every residualOk v ≡ true → Each (SFits w32) v
 unfolding every Each
 in-words [] e = tt
-in-words (z ∷ v) e = let b = both-true (residualOk z) (every residualOk v) e in (one z (leb-true (natAbs z) 65535 (b .0)), in-words v (b .1))
+in-words (z ∷ v) e =
+    let b = both-true (residualOk z) (every residualOk v) e in (one z (leb-true (natAbs z) 65535 (b .0)), in-words v (b .1))
   where
     one : (z : ℤ) → natAbs z ≤ 65535 → SFits w32 z
     one (pos n) h = record { sfits = omega arith }
@@ -66,4 +69,5 @@ in-words (z ∷ v) e = let b = both-true (residualOk z) (every residualOk v) e i
 pub read-back : (block next : ℕ) (d : List ℕ) → 8 ≤ length d → next < 4294967296 → recordIn (answered block next d) ≡ record { done = next }
 unfolding answered pairInto
 read-back block next d long small =
-    ap recordIn (sym (if-yes _ (pairInto block next d) d _ (le-leb 8 (length d) long) refl)) ∙ ap (λ (k : ℕ). record { done = k }) (word-back next small)
+    ap recordIn (sym (if-yes _ (pairInto block next d) d _ (le-leb 8 (length d) long) refl))
+    ∙ ap (λ (k : ℕ). record { done = k }) (word-back next small)
