@@ -2,7 +2,7 @@
 // DC. Rests on the laws, the standard's clip and the domain's tests. Each is a door of its own, so that a wrong number in one is
 // found in seconds.
 ghost use mathlib.Core.Path.{_≡_};
-ghost use Prim.Native.Nat.{_%_};
+ghost use Prim.Native.Nat.{_+_, _-_, _/_, _%_};
 ghost use Rattle.samples.specs.taps.Taps.{interpOf, meanOf, edgeOf, blended, cornered};
 
 // Between two references: 32 - f parts of x and f of y. A fraction is below 32, so that taking it by 32 changes nothing.
@@ -25,12 +25,18 @@ pub fn mean(all: u32, n: usize) -> u16
     ((std::num::wrapping_add_u32(all, side) / (2 * side)) % 65536) as u16
 }
 
-// The edge filter of the pure modes: a and half of l less c, rounded down and clipped. The half stands 32768 higher, so that no
-// number is below 0.
+// Half of l less c, rounded down. It stands 32768 higher, so that no number is below 0.
+fn raised_half(l: u16, c: u16) -> u32
+    ensures { λ r. ⌜ r ≡ (l + 65536 - c) / 2 ⌝ }
+{
+    ((l as u32) + 65536 - (c as u32)) >> 1
+}
+
+// The edge filter of the pure modes: a and half of l less c, clipped.
 pub fn edge(a: u16, l: u16, c: u16, max: u16) -> u16
     ensures { λ r. ⌜ r ≡ edgeOf max a l c ⌝ }
 {
-    let half = ((l as u32) + 65536 - (c as u32)) >> 1;
+    let half = raised_half(l, c);
     let v = (a as u32) + half;
     if v < 32768 {
         return 0;

@@ -181,7 +181,7 @@ fn walk_turn(
 {
     let n = b.side as usize;
     let next = at + n * n;
-    if k < (from as usize) {
+    if (from as usize) > k {
         return next;
     }
     block::walk_block(
