@@ -5,6 +5,7 @@
 --   plan::check_plan, any plan                       check-plan
 --   plan::check_plan_numbers                         check-plan-numbers
 --   plan::check_plan_bytes                           check-plan-bytes
+--   checks::opening_no, checks::settled              opening, settled
 --   Progress::walk, Progress::walk_numbers           walk
 --   Progress::replay, Progress::replay_numbers       replay
 use mathlib.Core.Path.{_≡_, refl, sym, ap, subst, _∙_}
@@ -34,13 +35,13 @@ use Rattle.plan.specs.tiling.Verdict.{Fine, Broken, bad-size, bad-mode, bad-pla
 use Rattle.walk.specs.declared.checks.Still.{Still}
 use Rattle.walk.specs.declared.Progress.{Progress}
 use Rattle.walk.specs.declared.Stepped.{Stepped}
-use Rattle.walk.specs.checks.Checks.{largestIn, every, whole, Tables, roomy, settle}
+use Rattle.walk.specs.checks.Checks.{largestIn, every, whole, Tables, roomy, openingNo, settle}
 use Rattle.walk.specs.calls.Steps.{doing}
 use Rattle.walk.specs.block.Walked.{World}
 use Rattle.walk.specs.calls.Door.{verdictOf, replayVerdict, walkVerdict}
 use Rattle.walk.specs.Door.{steppedBy}
-use Rattle.promises.specs.tables.Exact.{Row, _when_, _or_, First, ExactFirst, FirstBy, Tells, first-exact, first-test, first-row, all-of, at-most, same}
-use Rattle.promises.specs.tables.Table.{BadPicture, BadPlace, depth, picture, placed}
+use Rattle.promises.specs.tables.Exact.{Row, _when_, _or_, Exact, First, ExactFirst, FirstBy, Tells, exact-none, exact-row, first-exact, first-test, first-row, all-of, at-most, same}
+use Rattle.promises.specs.tables.Table.{BadPicture, BadPlace, depth, picture, placed, held}
 
 -- number n, about block k of the list
 abbrev pub about : ℕ → ℕ → Verdict
@@ -223,6 +224,31 @@ check-plan-numbers f rows cols sides modes =
 pub check-plan-bytes : (f : Frame) (b : List ℕ)
     → ExactFirst done (planVerdict f (recordsOf b)) ((about 4 0 when BadPicture (pictureOf f)) ∷ (about 5 0 when ¬ (length b % 6 ≡ 0)) ∷ planRows f (recordsOf b) [])
 check-plan-bytes f b = check-by f (recordsOf b) (same (length b % 6) 0)
+
+-- the checks before the blocks, where `fit` says that all that is lent is long enough
+pub opening : (s : Still) (fit : Bool)
+    → Exact (openingNo s fit) ((1 when ¬ Depth (s .bits)) ∷ (4 when BadPicture (pictureOf (s .frame))) ∷ (5 when ¬ (fit ≡ true)) ∷ [])
+opening s fit =
+    exact-row (depth (s .bits)) refl
+    (λ e. exact-row (picture (pictureOf (s .frame))) refl (λ e. exact-row (held fit) refl (λ e. exact-none)))
+
+-- their number, then the plan's verdict, then 11
+pub settled : (found : Verdict) (count k early : ℕ)
+    → ExactFirst done (settle found count k early)
+    ((about early 0 when ¬ (early ≡ 0)) ∷ (found when ¬ (found .no ≡ 0)) ∷ (about 11 0 when count < k) ∷ [])
+unfolding settle
+settled found count k early =
+    first-exact done _ _
+    (first-test done (λ (b : Bool). cond b (cond (eqb (found .no) 0) (about (cond (leb k count) 0 11) 0) found) (about early 0))
+    (second ∷ third ∷ []) (same early 0)
+    (λ e. first-test done (λ (b : Bool). cond b (about (cond (leb k count) 0 11) 0) found) (third ∷ []) (same (found .no) 0)
+    (λ e. first-test done (λ (b : Bool). about (cond b 0 11) 0) [] (at-most k count) (λ e. refl))))
+  where
+    second : Row Verdict
+    second = found when ¬ (found .no ≡ 0)
+
+    third : Row Verdict
+    third = about 11 0 when count < k
 
 -- a test of every entry
 pub every-one : {A : Type 0} (d : A) {test : A → Bool} {P : A → Type 0} → ((x : A) → Tells (test x) (P x)) → (l : List A) → Tells (every test l) (Some d P l)

@@ -26,7 +26,7 @@ use native.Mathlib.Omega.{arith}
 use lib.Dec.{leb, eqb}
 use lib.IntN.{ℤ, pos, natAbs}
 use lib.ListN.{length, getD}
-use borrow.Author.Tests.{le-leb, eq-eqb, ne-eqb, leb-true, leb-false}
+use borrow.Author.Tests.{le-leb, eq-eqb, ne-eqb, eqb-true, eqb-false, leb-true, leb-false}
 use Rattle.domain.specs.Domain.{depthOk, sizeOk, sideOk, ctuOk, unitOk}
 use Rattle.domain.specs.Facts.{Depth, Size, Side, Ctu, Unit, depth-of, size-of, side-of, ctu-of, unit-of, at-depth, at-size, size-small}
 use Rattle.fmt.specs.declared.depth.BitDepth.the-variants.{Eight, Ten, Twelve}
@@ -52,6 +52,7 @@ use Rattle.refs.specs.declared.LumaRefGeometry.{LumaRefGeometry}
 use Rattle.refs.specs.declared.ChromaRefGeometry.{ChromaRefGeometry}
 use Rattle.refs.specs.substitution.Door.{substituteNo, substituteRefs}
 use Rattle.refs.specs.Door.{lumaBlock, lumaNumber, lumaLength, lumaNo, getReferenceSamples, formatOf, chromaPicture, chromaBlock, chromaLength, chromaNumber, chromaNo, getReferenceSamplesChromaPair}
+use Rattle.refs.specs.Served.{gatherNo}
 use Rattle.camera.specs.gather.Door.{lumaBytesNo, lumaBytesDoor}
 use Rattle.smooth.specs.Smoothing as smoothing
 use Rattle.smooth.specs.Smoothing.{shouldFilterRefs, filterNo, filterReferences}
@@ -59,7 +60,7 @@ use Rattle.predict.specs.refusals.Refusals.{flatNo, Lent, lengths, enough, angu
 use Rattle.predict.specs.Lent.{withScratch}
 use Rattle.samples.specs.deltas.Deltas.{residualOk}
 use Rattle.residual.specs.Residual.{allInRange, residualNo, reconstructNo}
-use Rattle.promises.specs.tables.Exact.{Row, _when_, _or_, Exact, Tells, exact-none, exact-row, exact-answer, all-of, and-more, at-most, less, same, fact}
+use Rattle.promises.specs.tables.Exact.{Row, _when_, _or_, Exact, First, ExactFirst, Tells, exact-none, exact-row, exact-answer, first-exact, first-test, all-of, and-more, at-most, less, same, fact}
 
 -- number 4: a side or the CTU outside the domain
 abbrev pub BadPicture : Picture → Type 0
@@ -116,6 +117,10 @@ placed height width row col n = all-of (all-of (all-of (same (row % n) 0) (same 
 
 outside : (p : Picture) (row col : ℕ) → Tells (placeOk p row col) (Outside p row col)
 outside p row col = all-of (all-of (unit (p .unit)) (less row (p .height))) (less col (p .width))
+
+-- a test that the call is handed
+pub held : (b : Bool) → Tells b (¬ (b ≡ true))
+held b = fact (λ e. e) (λ e. e)
 
 pub scratch : {b : Bool} {P : Type 0} → Tells b P → (refs indices fractions : ℕ)
     → Tells (b && leb 193 refs && leb 32 indices && leb 32 fractions) (P or refs < 193 or indices < 32 or fractions < 32)
@@ -196,6 +201,23 @@ chroma-reach b =
 pub substitute-refs : (rows : Rows) (flags : Flags) (n bits : ℕ) → Exact (substituteRefs rows flags n bits .no) ((1 when ¬ Depth bits) ∷ (2 when ¬ Size n) ∷ [])
 unfolding substituteRefs substituteNo
 substitute-refs rows flags n bits = exact-row (depth bits) refl (λ e. exact-row (size n) refl (λ e. exact-none))
+
+-- the number of a gather, where k is the reach's: its 2 and 4 come before the planes' 5, and where nothing refuses it is k
+pub gather-number : (bits k : ℕ) (whole : Bool)
+    → ExactFirst k (gatherNo bits k whole) ((1 when ¬ Depth bits) ∷ (k when k ≡ 2 or k ≡ 4) ∷ (5 when ¬ (whole ≡ true)) ∷ [])
+gather-number bits k whole =
+    first-exact k _ _
+    (first-test k (λ (b : Bool). cond b (cond (eqb k 2 || eqb k 4) k (cond whole k 5)) 1) rest (depth bits)
+    (λ e. go (eqb k 2) (eqb k 4) refl refl))
+  where
+    rest : List (Row ℕ)
+    rest = (k when k ≡ 2 or k ≡ 4) ∷ (5 when ¬ (whole ≡ true)) ∷ []
+
+    go : (a b : Bool) → eqb k 2 ≡ a → eqb k 4 ≡ b → First k (cond (a || b) k (cond whole k 5)) rest
+    go true b p q = inl (inl (eqb-true k 2 p), refl)
+    go false true p q = inl (inr (eqb-true k 4 q), refl)
+    go false false p q =
+        inr (⊎-elim (eqb-false k 2 p) (eqb-false k 4 q), first-test k (λ (b : Bool). cond b k 5) [] (held whole) (λ e. refl))
 
 -- the rows of a luma gather, where P says that the plane is not whole
 abbrev pub lumaTable : Type 0 → LumaRefGeometry → List (Row ℕ)
