@@ -1,6 +1,6 @@
 -- Document 01, 'What the contracts settle': for each public function at most one answer, and one later content of what it writes, meets its
 -- contract. Stated over the contract itself as the prover reads it: `Post` takes the arguments, the answer and what is lent at exit. What
--- the scratch tables hold afterwards is the one exception. tests/doors finds a public function that is missing here. Assumes nothing.
+-- lent scratch holds after a served call is the one exception. tests/doors finds a public function that is missing here. Assumes nothing.
 use Prim.Native.Nat.{ℕ}
 use mathlib.Core.Path.{_≡_, refl, sym, ap, _∙_}
 use mathlib.Core.List.{List}
@@ -107,8 +107,8 @@ use Rattle.probes.proofs.salvrunde_probe_substitute_refs.Reads as probes-salvru
 use Rattle.probes.proofs.salvrunde_probe_get_reference_samples.Reads as probes-salvrunde-probe-get-reference-samples
 use Rattle.probes.proofs.salvrunde_probe_get_reference_samples_chroma_pair.Reads as probes-salvrunde-probe-get-reference-samples-chroma-pair
 use Rattle.probes.proofs.walk_probes.salvrunde_probe_check_plan.Reads as walk-probes-salvrunde-probe-check-plan
-use Rattle.predict.proofs.planar_dc.predict_planar_into.Reads as flat-predict-planar-into
-use Rattle.predict.proofs.planar_dc.predict_dc_into.Reads as flat-predict-dc-into
+use Rattle.predict.proofs.planar_dc.predict_planar_into.Reads as planar-dc-predict-planar-into
+use Rattle.predict.proofs.planar_dc.predict_dc_into.Reads as planar-dc-predict-dc-into
 use Rattle.predict.proofs.angular.predict_angular_slices.Reads as angular-predict-angular-slices
 use Rattle.predict.proofs.predict_chroma_tb_slices.Reads as predict-predict-chroma-tb-slices
 use Rattle.predict.proofs.predict_luma_tb_slices.Reads as predict-predict-luma-tb-slices
@@ -158,8 +158,26 @@ Once {A} {X} {S} post = (a : A) (x y : X) (s t : S) → post a x s → post a y 
 abbrev OnceLeft : {A X S L : Type 0} → (S → L) → (A → X → S → Type 0) → Type 0
 OnceLeft {A} {X} {S} lent post = (a : A) (x y : X) (s t : S) → post a x s → post a y t → (x ≡ y) × (lent s ≡ lent t)
 
+-- where scratch is lent too: one later content of the rest, and of the scratch where the call is refused
+abbrev OnceRefused : {A X S L K : Type 0} → (X → ℕ) → (S → L) → (S → K) → (A → X → S → Type 0) → Type 0
+OnceRefused {A} {X} {S} number lent scratch post =
+    (a : A) (x y : X) (s t : S) → post a x s → post a y t
+    → (x ≡ y) × ((lent s ≡ lent t) × (¬ (number x ≡ 0) → scratch s ≡ scratch t))
+
+and-scratch : {X L K : Type 0} (number : X → ℕ) {x y : X} {l m : L} {was k j : K} → (x ≡ y) × (l ≡ m)
+    → (¬ (number x ≡ 0) → k ≡ was) → (¬ (number y ≡ 0) → j ≡ was) → (x ≡ y) × ((l ≡ m) × (¬ (number x ≡ 0) → k ≡ j))
+and-scratch number e u v = (e .0, (e .1, λ h. u h ∙ sym (v (λ z. h (ap number (e .0) ∙ z)))))
+
+-- three tables
+abbrev Three : Type 0
+Three = List ℕ × (List ℕ × List ℕ)
+
+together : {k was : Three} → (k .0 ≡ was .0) × ((k .1 .0 ≡ was .1 .0) × (k .1 .1 ≡ was .1 .1)) → k ≡ was
+together p = λ i. (p .0 i, (p .1 .0 i, p .1 .1 i))
+
 -- contents that go by the answer's number
-by-number : {L : Type 0} (work kept : L) {n x y : ℕ} {l m : L} → x ≡ n → y ≡ n → l ≡ served x work kept → m ≡ served y work kept → (x ≡ y) × (l ≡ m)
+by-number : {L : Type 0} (work kept : L) {n x y : ℕ} {l m : L} → x ≡ n → y ≡ n
+    → l ≡ served x work kept → m ≡ served y work kept → (x ≡ y) × (l ≡ m)
 by-number work kept p q u v = (p ∙ sym q, u ∙ ap (λ (k : ℕ). served k work kept) (p ∙ sym q) ∙ sym v)
 
 -- bytes
@@ -184,6 +202,12 @@ bytes-byte-2-once a x y s t p q = p ∙ sym q
 bytes-byte-3-once : Once (bytes-byte-3.Post tt)
 bytes-byte-3-once a x y s t p q = p ∙ sym q
 
+pairs-read-once : (κs : Lfts 2) → OnceLeft (λ s. now (s .1 .1 .0)) (pairs-read.Post κs)
+pairs-read-once κs a x y s t p q = (refl, p ∙ sym q)
+
+pairs-store-once : (κs : Lfts 2) → OnceLeft (λ s. now (s .1 .1 .0)) (pairs-store.Post κs)
+pairs-store-once κs a x y s t p q = (refl, p ∙ sym q)
+
 -- domain
 domain-depth-ok-once : Once (domain-depth-ok.Post tt)
 domain-depth-ok-once a x y s t p q = p ∙ sym q
@@ -200,7 +224,6 @@ domain-picture-ok-once a x y s t p q = p ∙ sym q
 domain-unit-ok-once : Once (domain-unit-ok.Post tt)
 domain-unit-ok-once a x y s t p q = p ∙ sym q
 
--- cells
 -- taps
 taps-interp-once : Once (taps-interp.Post tt)
 taps-interp-once a x y s t p q = p ∙ sym q
@@ -239,7 +262,6 @@ listing-same-run-once κs a x y s t p q = p ∙ sym q
 listing-with-once : Once (listing-with.Post tt)
 listing-with-once a x y s t p q = p ∙ sym q
 
--- file
 -- depth
 depth-from-bits-once : Once (depth-from-bits.Post tt)
 depth-from-bits-once a x y s t p q = p ∙ sym q
@@ -368,10 +390,6 @@ refs-luma-layout-once a x y s t p q = p ∙ sym q
 refs-chroma-layout-once : Once (refs-chroma-layout.Post tt)
 refs-chroma-layout-once a x y s t p q = p ∙ sym q
 
--- what an entry on bytes gives back and writes
-by-written : {x y : ℕ} {l m : List ℕ} {w : Written} → wrote x l ≡ w → wrote y m ≡ w → (x ≡ y) × (l ≡ m)
-by-written p q = (ap (λ (v : Written). v .number) (p ∙ sym q), ap (λ (v : Written). v .bytes) (p ∙ sym q))
-
 -- records
 records-record-at-once : (κs : Lfts 1) → Once (records-record-at.Post κs)
 records-record-at-once κs a x y s t p q = p ∙ sym q
@@ -446,41 +464,57 @@ probes-salvrunde-probe-substitute-refs-once κs a x y s t p q = p ∙ sym q
 probes-salvrunde-probe-get-reference-samples-once : (κs : Lfts 1) → Once (probes-salvrunde-probe-get-reference-samples.Post κs)
 probes-salvrunde-probe-get-reference-samples-once κs a x y s t p q = p ∙ sym q
 
-probes-salvrunde-probe-get-reference-samples-chroma-pair-once : (κs : Lfts 2) → Once (probes-salvrunde-probe-get-reference-samples-chroma-pair.Post κs)
+probes-salvrunde-probe-get-reference-samples-chroma-pair-once : (κs : Lfts 2)
+    → Once (probes-salvrunde-probe-get-reference-samples-chroma-pair.Post κs)
 probes-salvrunde-probe-get-reference-samples-chroma-pair-once κs a x y s t p q = p ∙ sym q
 
 walk-probes-salvrunde-probe-check-plan-once : (κs : Lfts 4) → Once (walk-probes-salvrunde-probe-check-plan.Post κs)
 walk-probes-salvrunde-probe-check-plan-once κs a x y s t p q = p ∙ sym q
 
--- flat
-flat-predict-planar-into-once : (κs : Lfts 3) → OnceLeft (λ s. now (s .1 .1 .1 .0)) (flat-predict-planar-into.Post κs)
-flat-predict-planar-into-once κs a x y s t p q = by-number _ _ (p .0) (q .0) (p .1) (q .1)
+-- planar and DC
+planar-dc-predict-planar-into-once : (κs : Lfts 3) → OnceLeft (λ s. now (s .1 .1 .1 .0)) (planar-dc-predict-planar-into.Post κs)
+planar-dc-predict-planar-into-once κs a x y s t p q = by-number _ _ (p .0) (q .0) (p .1) (q .1)
 
-flat-predict-dc-into-once : (κs : Lfts 3) → OnceLeft (λ s. now (s .1 .1 .1 .1 .0)) (flat-predict-dc-into.Post κs)
-flat-predict-dc-into-once κs a x y s t p q = by-number _ _ (p .0) (q .0) (p .1) (q .1)
+planar-dc-predict-dc-into-once : (κs : Lfts 3) → OnceLeft (λ s. now (s .1 .1 .1 .1 .0)) (planar-dc-predict-dc-into.Post κs)
+planar-dc-predict-dc-into-once κs a x y s t p q = by-number _ _ (p .0) (q .0) (p .1) (q .1)
 
 -- angular
-angular-predict-angular-slices-once : (κs : Lfts 6) → OnceLeft (λ s. now (s .1 .1 .1 .1 .1 .1 .1 .0)) (angular-predict-angular-slices.Post κs)
-angular-predict-angular-slices-once κs a x y s t p q = by-number _ _ (p .0) (q .0) (p .1 .0) (q .1 .0)
+angular-predict-angular-slices-once : (κs : Lfts 6)
+    → OnceRefused {K = Three} (λ r. r) (λ s. now (s .1 .1 .1 .1 .1 .1 .1 .0))
+    (λ s. let l = s .1 .1 .1 .1 .1 .1 .1 .1 in (now (l .0), (now (l .1 .0), now (l .1 .1 .0))))
+    (angular-predict-angular-slices.Post κs)
+angular-predict-angular-slices-once κs a x y s t p q =
+    and-scratch (λ r. r) (by-number _ _ (p .0) (q .0) (p .1 .0) (q .1 .0)) (λ h. together (p .1 .1 h)) (λ h. together (q .1 .1 h))
 
 -- predict
-predict-predict-chroma-tb-slices-once : (κs : Lfts 6) → OnceLeft (λ s. now (s .1 .1 .1 .1 .1 .1 .0)) (predict-predict-chroma-tb-slices.Post κs)
-predict-predict-chroma-tb-slices-once κs a x y s t p q = by-number _ _ (p .0) (q .0) (p .1 .0) (q .1 .0)
+predict-predict-chroma-tb-slices-once : (κs : Lfts 6)
+    → OnceRefused {K = Three} (λ r. r) (λ s. now (s .1 .1 .1 .1 .1 .1 .0))
+    (λ s. let l = s .1 .1 .1 .1 .1 .1 .1 in (now (l .0), (now (l .1 .0), now (l .1 .1 .0))))
+    (predict-predict-chroma-tb-slices.Post κs)
+predict-predict-chroma-tb-slices-once κs a x y s t p q =
+    and-scratch (λ r. r) (by-number _ _ (p .0) (q .0) (p .1 .0) (q .1 .0)) (λ h. together (p .1 .1 h)) (λ h. together (q .1 .1 h))
 
-predict-predict-luma-tb-slices-once : (κs : Lfts 4) → OnceLeft (λ s. now (s .1 .1 .1 .1 .0)) (predict-predict-luma-tb-slices.Post κs)
-predict-predict-luma-tb-slices-once κs a x y s t p q = by-number _ _ (p .0) (q .0) (p .1 .0) (q .1 .0)
+predict-predict-luma-tb-slices-once : (κs : Lfts 4)
+    → OnceRefused {K = Three} (λ r. r) (λ s. now (s .1 .1 .1 .1 .0))
+    (λ s. let l = s .1 .1 .1 .1 .1 in (now (l .0), (now (l .1 .0), now (l .1 .1 .0))))
+    (predict-predict-luma-tb-slices.Post κs)
+predict-predict-luma-tb-slices-once κs a x y s t p q =
+    and-scratch (λ r. r) (by-number _ _ (p .0) (q .0) (p .1 .0) (q .1 .0)) (λ h. together (p .1 .1 h)) (λ h. together (q .1 .1 h))
 
 -- scratch
 scratch-new-once : Once (scratch-new.Post tt)
 scratch-new-once a x y s t p q = p ∙ sym q
 
-scratch-angular-predict-angular-fresh-once : (κs : Lfts 3) → OnceLeft (λ s. now (s .1 .1 .1 .1 .1 .1 .1 .0)) (scratch-angular-predict-angular-fresh.Post κs)
+scratch-angular-predict-angular-fresh-once : (κs : Lfts 3)
+    → OnceLeft (λ s. now (s .1 .1 .1 .1 .1 .1 .1 .0)) (scratch-angular-predict-angular-fresh.Post κs)
 scratch-angular-predict-angular-fresh-once κs a x y s t p q = by-number _ _ (p .0) (q .0) (p .1) (q .1)
 
-scratch-predict-predict-chroma-tb-fresh-once : (κs : Lfts 3) → OnceLeft (λ s. now (s .1 .1 .1 .1 .1 .1 .0)) (scratch-predict-predict-chroma-tb-fresh.Post κs)
+scratch-predict-predict-chroma-tb-fresh-once : (κs : Lfts 3)
+    → OnceLeft (λ s. now (s .1 .1 .1 .1 .1 .1 .0)) (scratch-predict-predict-chroma-tb-fresh.Post κs)
 scratch-predict-predict-chroma-tb-fresh-once κs a x y s t p q = by-number _ _ (p .0) (q .0) (p .1) (q .1)
 
-scratch-predict-predict-luma-tb-fresh-once : (κs : Lfts 1) → OnceLeft (λ s. now (s .1 .1 .1 .1 .0)) (scratch-predict-predict-luma-tb-fresh.Post κs)
+scratch-predict-predict-luma-tb-fresh-once : (κs : Lfts 1)
+    → OnceLeft (λ s. now (s .1 .1 .1 .1 .0)) (scratch-predict-predict-luma-tb-fresh.Post κs)
 scratch-predict-predict-luma-tb-fresh-once κs a x y s t p q = by-number _ _ (p .0) (q .0) (p .1) (q .1)
 
 -- residual
@@ -491,59 +525,84 @@ residual-reconstruct-into-once : (κs : Lfts 3) → OnceLeft (λ s. now (s .1 .1
 residual-reconstruct-into-once κs a x y s t p q = (p .0 ∙ sym (q .0), p .1 ∙ sym (q .1))
 
 -- probes
-predict-probes-salvrunde-probe-predict-planar-into-once : (κs : Lfts 3) → OnceLeft (λ s. now (s .1 .1 .1 .0)) (predict-probes-salvrunde-probe-predict-planar-into.Post κs)
+predict-probes-salvrunde-probe-predict-planar-into-once : (κs : Lfts 3)
+    → OnceLeft (λ s. now (s .1 .1 .1 .0)) (predict-probes-salvrunde-probe-predict-planar-into.Post κs)
 predict-probes-salvrunde-probe-predict-planar-into-once κs a x y s t p q = by-number _ _ (p .0) (q .0) (p .1) (q .1)
 
-predict-probes-salvrunde-probe-predict-dc-into-once : (κs : Lfts 3) → OnceLeft (λ s. now (s .1 .1 .1 .1 .0)) (predict-probes-salvrunde-probe-predict-dc-into.Post κs)
+predict-probes-salvrunde-probe-predict-dc-into-once : (κs : Lfts 3)
+    → OnceLeft (λ s. now (s .1 .1 .1 .1 .0)) (predict-probes-salvrunde-probe-predict-dc-into.Post κs)
 predict-probes-salvrunde-probe-predict-dc-into-once κs a x y s t p q = by-number _ _ (p .0) (q .0) (p .1) (q .1)
 
-predict-probes-salvrunde-probe-predict-angular-slices-once : (κs : Lfts 6) → OnceLeft (λ s. now (s .1 .1 .1 .1 .1 .1 .1 .0)) (predict-probes-salvrunde-probe-predict-angular-slices.Post κs)
-predict-probes-salvrunde-probe-predict-angular-slices-once κs a x y s t p q = by-number _ _ (p .0) (q .0) (p .1 .0) (q .1 .0)
+predict-probes-salvrunde-probe-predict-angular-slices-once : (κs : Lfts 6)
+    → OnceRefused {K = Three} (λ r. r) (λ s. now (s .1 .1 .1 .1 .1 .1 .1 .0))
+    (λ s. let l = s .1 .1 .1 .1 .1 .1 .1 .1 in (now (l .0), (now (l .1 .0), now (l .1 .1 .0))))
+    (predict-probes-salvrunde-probe-predict-angular-slices.Post κs)
+predict-probes-salvrunde-probe-predict-angular-slices-once κs a x y s t p q =
+    and-scratch (λ r. r) (by-number _ _ (p .0) (q .0) (p .1 .0) (q .1 .0)) (λ h. together (p .1 .1 h)) (λ h. together (q .1 .1 h))
 
-predict-probes-salvrunde-probe-predict-chroma-tb-slices-once : (κs : Lfts 6) → OnceLeft (λ s. now (s .1 .1 .1 .1 .1 .1 .0)) (predict-probes-salvrunde-probe-predict-chroma-tb-slices.Post κs)
-predict-probes-salvrunde-probe-predict-chroma-tb-slices-once κs a x y s t p q = by-number _ _ (p .0) (q .0) (p .1 .0) (q .1 .0)
+predict-probes-salvrunde-probe-predict-chroma-tb-slices-once : (κs : Lfts 6)
+    → OnceRefused {K = Three} (λ r. r) (λ s. now (s .1 .1 .1 .1 .1 .1 .0))
+    (λ s. let l = s .1 .1 .1 .1 .1 .1 .1 in (now (l .0), (now (l .1 .0), now (l .1 .1 .0))))
+    (predict-probes-salvrunde-probe-predict-chroma-tb-slices.Post κs)
+predict-probes-salvrunde-probe-predict-chroma-tb-slices-once κs a x y s t p q =
+    and-scratch (λ r. r) (by-number _ _ (p .0) (q .0) (p .1 .0) (q .1 .0)) (λ h. together (p .1 .1 h)) (λ h. together (q .1 .1 h))
 
-predict-probes-salvrunde-probe-predict-luma-tb-slices-once : (κs : Lfts 6) → OnceLeft (λ s. now (s .1 .1 .1 .1 .1 .1 .0)) (predict-probes-salvrunde-probe-predict-luma-tb-slices.Post κs)
-predict-probes-salvrunde-probe-predict-luma-tb-slices-once κs a x y s t p q = by-number _ _ (p .0) (q .0) (p .1 .0) (q .1 .0)
+predict-probes-salvrunde-probe-predict-luma-tb-slices-once : (κs : Lfts 6)
+    → OnceRefused {K = Three} (λ r. r) (λ s. now (s .1 .1 .1 .1 .1 .1 .0))
+    (λ s. let l = s .1 .1 .1 .1 .1 .1 .1 in (now (l .0), (now (l .1 .0), now (l .1 .1 .0))))
+    (predict-probes-salvrunde-probe-predict-luma-tb-slices.Post κs)
+predict-probes-salvrunde-probe-predict-luma-tb-slices-once κs a x y s t p q =
+    and-scratch (λ r. r) (by-number _ _ (p .0) (q .0) (p .1 .0) (q .1 .0)) (λ h. together (p .1 .1 h)) (λ h. together (q .1 .1 h))
 
-predict-probes-salvrunde-probe-predict-angular-scratch-once : (κs : Lfts 3) → OnceLeft (λ s. now (s .1 .1 .1 .1 .1 .1 .1 .0)) (predict-probes-salvrunde-probe-predict-angular-scratch.Post κs)
+predict-probes-salvrunde-probe-predict-angular-scratch-once : (κs : Lfts 3)
+    → OnceLeft (λ s. now (s .1 .1 .1 .1 .1 .1 .1 .0)) (predict-probes-salvrunde-probe-predict-angular-scratch.Post κs)
 predict-probes-salvrunde-probe-predict-angular-scratch-once κs a x y s t p q = by-number _ _ (p .0) (q .0) (p .1) (q .1)
 
-predict-probes-salvrunde-probe-predict-chroma-tb-scratch-once : (κs : Lfts 3) → OnceLeft (λ s. now (s .1 .1 .1 .1 .1 .1 .0)) (predict-probes-salvrunde-probe-predict-chroma-tb-scratch.Post κs)
+predict-probes-salvrunde-probe-predict-chroma-tb-scratch-once : (κs : Lfts 3)
+    → OnceLeft (λ s. now (s .1 .1 .1 .1 .1 .1 .0)) (predict-probes-salvrunde-probe-predict-chroma-tb-scratch.Post κs)
 predict-probes-salvrunde-probe-predict-chroma-tb-scratch-once κs a x y s t p q = by-number _ _ (p .0) (q .0) (p .1) (q .1)
 
-predict-probes-salvrunde-probe-predict-luma-tb-scratch-once : (κs : Lfts 3) → OnceLeft (λ s. now (s .1 .1 .1 .1 .1 .1 .0)) (predict-probes-salvrunde-probe-predict-luma-tb-scratch.Post κs)
+predict-probes-salvrunde-probe-predict-luma-tb-scratch-once : (κs : Lfts 3)
+    → OnceLeft (λ s. now (s .1 .1 .1 .1 .1 .1 .0)) (predict-probes-salvrunde-probe-predict-luma-tb-scratch.Post κs)
 predict-probes-salvrunde-probe-predict-luma-tb-scratch-once κs a x y s t p q = by-number _ _ (p .0) (q .0) (p .1) (q .1)
 
-predict-probes-salvrunde-probe-compute-residual-i32-into-once : (κs : Lfts 3) → OnceLeft (λ s. now (s .1 .1 .1 .0)) (predict-probes-salvrunde-probe-compute-residual-i32-into.Post κs)
+predict-probes-salvrunde-probe-compute-residual-i32-into-once : (κs : Lfts 3)
+    → OnceLeft (λ s. now (s .1 .1 .1 .0)) (predict-probes-salvrunde-probe-compute-residual-i32-into.Post κs)
 predict-probes-salvrunde-probe-compute-residual-i32-into-once κs a x y s t p q = (p .0 ∙ sym (q .0), p .1 ∙ sym (q .1))
 
-predict-probes-salvrunde-probe-reconstruct-into-once : (κs : Lfts 3) → OnceLeft (λ s. now (s .1 .1 .1 .1 .0)) (predict-probes-salvrunde-probe-reconstruct-into.Post κs)
+predict-probes-salvrunde-probe-reconstruct-into-once : (κs : Lfts 3)
+    → OnceLeft (λ s. now (s .1 .1 .1 .1 .0)) (predict-probes-salvrunde-probe-reconstruct-into.Post κs)
 predict-probes-salvrunde-probe-reconstruct-into-once κs a x y s t p q = (p .0 ∙ sym (q .0), p .1 ∙ sym (q .1))
 
-walk-probes-salvrunde-probe-walk-once : (κs : Lfts 10) → OnceLeft {L = World} (λ s. record { work = now (s .1 .1 .1 .1 .1 .1 .1 .1 .1 .1 .0); residuals = now (s .1 .1 .1 .1 .1 .1 .1 .1 .1 .1 .1 .0) }) (walk-probes-salvrunde-probe-walk.Post κs)
-walk-probes-salvrunde-probe-walk-once κs a x y s t p q = (p .0 ∙ sym (q .0), p .1 .0 ∙ sym (q .1 .0))
+walk-probes-salvrunde-probe-walk-once : (κs : Lfts 10)
+    → OnceRefused {L = World} {K = Three} (λ r. r .no)
+    (λ s. record { work = now (s .1 .1 .1 .1 .1 .1 .1 .1 .1 .1 .0); residuals = now (s .1 .1 .1 .1 .1 .1 .1 .1 .1 .1 .1 .0) })
+    (λ s. let l = s .1 .1 .1 .1 .1 .1 .1 .1 .1 .1 .1 .1 in (now (l .0), (now (l .1 .0), now (l .1 .1 .0))))
+    (walk-probes-salvrunde-probe-walk.Post κs)
+walk-probes-salvrunde-probe-walk-once κs a x y s t p q =
+    and-scratch (λ r. r .no) (p .0 ∙ sym (q .0), p .1 .0 ∙ sym (q .1 .0)) (λ h. together (p .1 .1 h)) (λ h. together (q .1 .1 h))
 
-walk-probes-salvrunde-probe-replay-once : (κs : Lfts 9) → OnceLeft (λ s. now (s .1 .1 .1 .1 .1 .1 .1 .1 .1 .1 .0)) (walk-probes-salvrunde-probe-replay.Post κs)
-walk-probes-salvrunde-probe-replay-once κs a x y s t p q = (p .0 ∙ sym (q .0), p .1 .0 ∙ sym (q .1 .0))
+walk-probes-salvrunde-probe-replay-once : (κs : Lfts 9)
+    → OnceRefused {K = Three} (λ r. r .no) (λ s. now (s .1 .1 .1 .1 .1 .1 .1 .1 .1 .1 .0))
+    (λ s. let l = s .1 .1 .1 .1 .1 .1 .1 .1 .1 .1 .1 in (now (l .0), (now (l .1 .0), now (l .1 .1 .0))))
+    (walk-probes-salvrunde-probe-replay.Post κs)
+walk-probes-salvrunde-probe-replay-once κs a x y s t p q =
+    and-scratch (λ r. r .no) (p .0 ∙ sym (q .0), p .1 .0 ∙ sym (q .1 .0)) (λ h. together (p .1 .1 h)) (λ h. together (q .1 .1 h))
 
--- camera
-by-after : {x y : ℕ} {d e f g : List ℕ} {a : After} → _≡_ {A = After} (record { number = x; plane = d; result = f }) a → _≡_ {A = After} (record { number = y; plane = e; result = g }) a
+-- camera: what an entry on bytes gives back and writes
+by-written : {x y : ℕ} {l m : List ℕ} {w : Written} → wrote x l ≡ w → wrote y m ≡ w → (x ≡ y) × (l ≡ m)
+by-written p q = (ap (λ (v : Written). v .number) (p ∙ sym q), ap (λ (v : Written). v .bytes) (p ∙ sym q))
+
+by-after : {x y : ℕ} {d e f g : List ℕ} {a : After}
+    → _≡_ {A = After} (record { number = x; plane = d; result = f }) a → _≡_ {A = After} (record { number = y; plane = e; result = g }) a
     → (x ≡ y) × (_≡_ {A = List ℕ × List ℕ} (d, f) (e, g))
 by-after p q = (ap (λ (v : After). v .number) (p ∙ sym q), ap (λ (v : After). (v .plane, v .result)) (p ∙ sym q))
 
--- pairs
-pairs-read-once : (κs : Lfts 2) → OnceLeft (λ s. now (s .1 .1 .0)) (pairs-read.Post κs)
-pairs-read-once κs a x y s t p q = (refl, p ∙ sym q)
-
-pairs-store-once : (κs : Lfts 2) → OnceLeft (λ s. now (s .1 .1 .0)) (pairs-store.Post κs)
-pairs-store-once κs a x y s t p q = (refl, p ∙ sym q)
-
--- camera
 camera-salvrunde-luma-refs-once : (κs : Lfts 2) → OnceLeft (λ s. now (s .1 .1 .1 .1 .1 .1 .1 .1 .1 .0)) (camera-salvrunde-luma-refs.Post κs)
 camera-salvrunde-luma-refs-once κs a x y s t p q = by-written p q
 
-camera-salvrunde-chroma-refs-once : (κs : Lfts 3) → OnceLeft (λ s. now (s .1 .1 .1 .1 .1 .1 .1 .1 .1 .1 .1 .1 .0)) (camera-salvrunde-chroma-refs.Post κs)
+camera-salvrunde-chroma-refs-once : (κs : Lfts 3)
+    → OnceLeft (λ s. now (s .1 .1 .1 .1 .1 .1 .1 .1 .1 .1 .1 .1 .0)) (camera-salvrunde-chroma-refs.Post κs)
 camera-salvrunde-chroma-refs-once κs a x y s t p q = by-written p q
 
 camera-salvrunde-planar-once : (κs : Lfts 3) → OnceLeft (λ s. now (s .1 .1 .1 .0)) (camera-salvrunde-planar.Post κs)
@@ -558,54 +617,99 @@ camera-salvrunde-angular-once κs a x y s t p q = by-written p q
 camera-salvrunde-chroma-block-once : (κs : Lfts 3) → OnceLeft (λ s. now (s .1 .1 .1 .1 .1 .1 .0)) (camera-salvrunde-chroma-block.Post κs)
 camera-salvrunde-chroma-block-once κs a x y s t p q = by-written p q
 
-camera-salvrunde-replay-once : (κs : Lfts 4) → OnceLeft {L = List ℕ × List ℕ} (λ s. (now (s .1 .1 .1 .1 .1 .1 .1 .1 .0), now (s .1 .1 .1 .1 .1 .1 .1 .1 .1 .0))) (camera-salvrunde-replay.Post κs)
+camera-salvrunde-replay-once : (κs : Lfts 4)
+    → OnceLeft {L = List ℕ × List ℕ} (λ s. (now (s .1 .1 .1 .1 .1 .1 .1 .1 .0), now (s .1 .1 .1 .1 .1 .1 .1 .1 .1 .0)))
+    (camera-salvrunde-replay.Post κs)
 camera-salvrunde-replay-once κs a x y s t p q = by-after p q
 
 -- walk
-walk-replay-numbers-once : (κs : Lfts 9) → OnceLeft (λ s. now (s .1 .1 .1 .1 .1 .1 .1 .0)) (walk-replay-numbers.Post κs)
-walk-replay-numbers-once κs a x y s t p q = (p .0 ∙ sym (q .0), p .1 .0 ∙ sym (q .1 .0))
+walk-replay-numbers-once : (κs : Lfts 9)
+    → OnceRefused {K = Three} (λ r. r .no) (λ s. now (s .1 .1 .1 .1 .1 .1 .1 .0))
+    (λ s. let l = s .1 .1 .1 .1 .1 .1 .1 .1 in (now (l .0), (now (l .1 .0), now (l .1 .1 .0))))
+    (walk-replay-numbers.Post κs)
+walk-replay-numbers-once κs a x y s t p q =
+    and-scratch (λ r. r .no) (p .0 ∙ sym (q .0), p .1 .0 ∙ sym (q .1 .0)) (λ h. together (p .1 .1 h)) (λ h. together (q .1 .1 h))
 
-walk-walk-numbers-once : (κs : Lfts 10) → OnceLeft {L = World} (λ s. record { work = now (s .1 .1 .1 .1 .1 .1 .1 .0); residuals = now (s .1 .1 .1 .1 .1 .1 .1 .1 .0) }) (walk-walk-numbers.Post κs)
-walk-walk-numbers-once κs a x y s t p q = (p .0 ∙ sym (q .0), p .1 .0 ∙ sym (q .1 .0))
+walk-walk-numbers-once : (κs : Lfts 10)
+    → OnceRefused {L = World} {K = Three} (λ r. r .no)
+    (λ s. record { work = now (s .1 .1 .1 .1 .1 .1 .1 .0); residuals = now (s .1 .1 .1 .1 .1 .1 .1 .1 .0) })
+    (λ s. let l = s .1 .1 .1 .1 .1 .1 .1 .1 .1 in (now (l .0), (now (l .1 .0), now (l .1 .1 .0))))
+    (walk-walk-numbers.Post κs)
+walk-walk-numbers-once κs a x y s t p q =
+    and-scratch (λ r. r .no) (p .0 ∙ sym (q .0), p .1 .0 ∙ sym (q .1 .0)) (λ h. together (p .1 .1 h)) (λ h. together (q .1 .1 h))
 
--- text
 -- report
 report-report-once : (κs : Lfts 1) → Once (report-report.Post κs)
 report-report-once κs a x y s t p q = p ∙ sym q
 
--- A function that is proved by hand has no such reading: its clause is an assertion of any model, and two answers that both meet it there are one.
+-- A function that is proved by hand has no such reading: its clause is an assertion of any model, and two answers that both meet it
+-- there are one.
 module _ {M : Type 1} (𝓤 : URA M) (H : Heap 𝓤) (A : Atoms 𝓤) (mem : Memory → SProp 𝓤) (run : Routine → Fun 𝓤) where
   abbrev OnceHeld : (T : Ended) (κs : Lfts (T .signature .lifetimes)) {L : Type 0} → (AtExit T κs → L) → Clauses 𝓤 T → Type 1
   OnceHeld T κs lent c = (a : Args (T .signature) κs) (g : c κs a .ghost) (x y : Res (T .signature) κs) (s t : AtExit T κs)
       → ent 𝓤 (sep 𝓤 (c κs a .ensures g x s) (c κs a .ensures g y t)) (fact 𝓤 ((x ≡ y) × (lent s ≡ lent t)))
 
+  abbrev OnceHeldRefused : (T : Ended) (κs : Lfts (T .signature .lifetimes)) {L K : Type 0}
+      → (Res (T .signature) κs → ℕ) → (AtExit T κs → L) → (AtExit T κs → K) → Clauses 𝓤 T → Type 1
+  OnceHeldRefused T κs number lent scratch c =
+      (a : Args (T .signature) κs) (g : c κs a .ghost) (x y : Res (T .signature) κs) (s t : AtExit T κs)
+      → ent 𝓤 (sep 𝓤 (c κs a .ensures g x s) (c κs a .ensures g y t))
+      (fact 𝓤 ((x ≡ y) × ((lent s ≡ lent t) × (¬ (number x ≡ 0) → scratch s ≡ scratch t))))
+
   held-both : (φ ψ χ : Type 0) → (φ → ψ → χ) → ent 𝓤 (sep 𝓤 (fact 𝓤 φ) (fact 𝓤 ψ)) (fact 𝓤 χ)
-  held-both φ ψ χ f = fact-use 𝓤 φ (fst∗ 𝓤 (fact 𝓤 φ) (fact 𝓤 ψ)) (λ p. via 𝓤 (fact 𝓤 ψ) (snd∗ 𝓤 (fact 𝓤 φ) (fact 𝓤 ψ)) (fact-mono 𝓤 ψ χ (f p)))
+  held-both φ ψ χ f =
+      fact-use 𝓤 φ (fst∗ 𝓤 (fact 𝓤 φ) (fact 𝓤 ψ)) (λ p. via 𝓤 (fact 𝓤 ψ) (snd∗ 𝓤 (fact 𝓤 φ) (fact 𝓤 ψ)) (fact-mono 𝓤 ψ χ (f p)))
 
   -- scratch
-  scratch-angular-predict-angular-into-once : (κs : Lfts 4) → OnceHeld scratch-angular-predict-angular-into.ended κs (λ s. now (s .1 .1 .1 .1 .1 .1 .1 .0)) (scratch-angular-predict-angular-into.clauses 𝓤 H A mem run)
-  scratch-angular-predict-angular-into-once κs a g x y s t = held-both _ _ _ (λ p q. by-number _ _ (p .0) (q .0) (p .1 .0) (q .1 .0))
+  scratch-angular-predict-angular-into-once : (κs : Lfts 4)
+      → OnceHeldRefused scratch-angular-predict-angular-into.ended κs (λ r. r)
+      (λ s. now (s .1 .1 .1 .1 .1 .1 .1 .0)) (λ s. now (s .1 .1 .1 .1 .1 .1 .1 .1 .0))
+      (scratch-angular-predict-angular-into.clauses 𝓤 H A mem run)
+  scratch-angular-predict-angular-into-once κs a g x y s t =
+      held-both _ _ _ (λ p q. and-scratch (λ r. r) (by-number _ _ (p .0) (q .0) (p .1 .0) (q .1 .0)) (p .1 .1) (q .1 .1))
 
-  scratch-predict-predict-chroma-tb-into-once : (κs : Lfts 4) → OnceHeld scratch-predict-predict-chroma-tb-into.ended κs (λ s. now (s .1 .1 .1 .1 .1 .1 .0)) (scratch-predict-predict-chroma-tb-into.clauses 𝓤 H A mem run)
-  scratch-predict-predict-chroma-tb-into-once κs a g x y s t = held-both _ _ _ (λ p q. by-number _ _ (p .0) (q .0) (p .1 .0) (q .1 .0))
+  scratch-predict-predict-chroma-tb-into-once : (κs : Lfts 4)
+      → OnceHeldRefused scratch-predict-predict-chroma-tb-into.ended κs (λ r. r)
+      (λ s. now (s .1 .1 .1 .1 .1 .1 .0)) (λ s. now (s .1 .1 .1 .1 .1 .1 .1 .0))
+      (scratch-predict-predict-chroma-tb-into.clauses 𝓤 H A mem run)
+  scratch-predict-predict-chroma-tb-into-once κs a g x y s t =
+      held-both _ _ _ (λ p q. and-scratch (λ r. r) (by-number _ _ (p .0) (q .0) (p .1 .0) (q .1 .0)) (p .1 .1) (q .1 .1))
 
-  scratch-predict-predict-luma-tb-into-once : (κs : Lfts 2) → OnceHeld scratch-predict-predict-luma-tb-into.ended κs (λ s. now (s .1 .1 .1 .1 .0)) (scratch-predict-predict-luma-tb-into.clauses 𝓤 H A mem run)
-  scratch-predict-predict-luma-tb-into-once κs a g x y s t = held-both _ _ _ (λ p q. by-number _ _ (p .0) (q .0) (p .1 .0) (q .1 .0))
+  scratch-predict-predict-luma-tb-into-once : (κs : Lfts 2)
+      → OnceHeldRefused scratch-predict-predict-luma-tb-into.ended κs (λ r. r)
+      (λ s. now (s .1 .1 .1 .1 .0)) (λ s. now (s .1 .1 .1 .1 .1 .0))
+      (scratch-predict-predict-luma-tb-into.clauses 𝓤 H A mem run)
+  scratch-predict-predict-luma-tb-into-once κs a g x y s t =
+      held-both _ _ _ (λ p q. and-scratch (λ r. r) (by-number _ _ (p .0) (q .0) (p .1 .0) (q .1 .0)) (p .1 .1) (q .1 .1))
 
   -- plan
   plan-check-plan-once : (κs : Lfts 1) → OnceHeld plan-check-plan.ended κs {L = Unit {0}} (λ _. tt) (plan-check-plan.clauses 𝓤 H A mem run)
   plan-check-plan-once κs a g x y s t = held-both _ _ _ (λ p q. (p ∙ sym q, refl))
 
   -- walk
-  walk-replay-once : (κs : Lfts 4) → OnceHeld walk-replay.ended κs (λ s. now (s .1 .1 .1 .1 .0)) (walk-replay.clauses 𝓤 H A mem run)
-  walk-replay-once κs a g x y s t = held-both _ _ _ (λ p q. (p .0 ∙ sym (q .0), p .1 .0 ∙ sym (q .1 .0)))
+  walk-replay-once : (κs : Lfts 4)
+      → OnceHeldRefused walk-replay.ended κs (λ r. r .no) (λ s. now (s .1 .1 .1 .1 .0))
+      (λ s. now (s .1 .1 .1 .1 .1 .0)) (walk-replay.clauses 𝓤 H A mem run)
+  walk-replay-once κs a g x y s t =
+      held-both _ _ _ (λ p q. and-scratch (λ r. r .no) (p .0 ∙ sym (q .0), p .1 .0 ∙ sym (q .1 .0)) (p .1 .1) (q .1 .1))
 
-  walk-walk-once : (κs : Lfts 5) → OnceHeld walk-walk.ended κs {L = World} (λ s. record { work = now (s .1 .1 .1 .1 .0); residuals = now (s .1 .1 .1 .1 .1 .0) }) (walk-walk.clauses 𝓤 H A mem run)
-  walk-walk-once κs a g x y s t = held-both _ _ _ (λ p q. (p .0 ∙ sym (q .0), p .1 .0 ∙ sym (q .1 .0)))
+  walk-walk-once : (κs : Lfts 5)
+      → OnceHeldRefused walk-walk.ended κs {L = World} (λ r. r .no)
+      (λ s. record { work = now (s .1 .1 .1 .1 .0); residuals = now (s .1 .1 .1 .1 .1 .0) })
+      (λ s. now (s .1 .1 .1 .1 .1 .1 .0)) (walk-walk.clauses 𝓤 H A mem run)
+  walk-walk-once κs a g x y s t =
+      held-both _ _ _ (λ p q. and-scratch (λ r. r .no) (p .0 ∙ sym (q .0), p .1 .0 ∙ sym (q .1 .0)) (p .1 .1) (q .1 .1))
 
   -- probes
-  walk-probes-salvrunde-probe-replay-records-once : (κs : Lfts 4) → OnceHeld walk-probes-salvrunde-probe-replay-records.ended κs (λ s. now (s .1 .1 .1 .1 .1 .1 .1 .0)) (walk-probes-salvrunde-probe-replay-records.clauses 𝓤 H A mem run)
-  walk-probes-salvrunde-probe-replay-records-once κs a g x y s t = held-both _ _ _ (λ p q. (p .0 ∙ sym (q .0), p .1 .0 ∙ sym (q .1 .0)))
+  walk-probes-salvrunde-probe-replay-records-once : (κs : Lfts 4)
+      → OnceHeldRefused walk-probes-salvrunde-probe-replay-records.ended κs (λ r. r .no) (λ s. now (s .1 .1 .1 .1 .1 .1 .1 .0))
+      (λ s. now (s .1 .1 .1 .1 .1 .1 .1 .1 .0)) (walk-probes-salvrunde-probe-replay-records.clauses 𝓤 H A mem run)
+  walk-probes-salvrunde-probe-replay-records-once κs a g x y s t =
+      held-both _ _ _ (λ p q. and-scratch (λ r. r .no) (p .0 ∙ sym (q .0), p .1 .0 ∙ sym (q .1 .0)) (p .1 .1) (q .1 .1))
 
-  walk-probes-salvrunde-probe-walk-records-once : (κs : Lfts 5) → OnceHeld walk-probes-salvrunde-probe-walk-records.ended κs {L = World} (λ s. record { work = now (s .1 .1 .1 .1 .1 .1 .1 .0); residuals = now (s .1 .1 .1 .1 .1 .1 .1 .1 .0) }) (walk-probes-salvrunde-probe-walk-records.clauses 𝓤 H A mem run)
-  walk-probes-salvrunde-probe-walk-records-once κs a g x y s t = held-both _ _ _ (λ p q. (p .0 ∙ sym (q .0), p .1 .0 ∙ sym (q .1 .0)))
+  walk-probes-salvrunde-probe-walk-records-once : (κs : Lfts 5)
+      → OnceHeldRefused walk-probes-salvrunde-probe-walk-records.ended κs {L = World} (λ r. r .no)
+      (λ s. record { work = now (s .1 .1 .1 .1 .1 .1 .1 .0); residuals = now (s .1 .1 .1 .1 .1 .1 .1 .1 .0) })
+      (λ s. now (s .1 .1 .1 .1 .1 .1 .1 .1 .1 .0)) (walk-probes-salvrunde-probe-walk-records.clauses 𝓤 H A mem run)
+  walk-probes-salvrunde-probe-walk-records-once κs a g x y s t =
+      held-both _ _ _ (λ p q. and-scratch (λ r. r .no) (p .0 ∙ sym (q .0), p .1 .0 ∙ sym (q .1 .0)) (p .1 .1) (q .1 .1))
