@@ -6,3 +6,5 @@ pub mod Exact
 pub mod Table
 -- Refused: what a refused call gives back, and that it leaves what is lent untouched.
 pub mod Refused
+-- Enums: what each case of an answer that is an enum says.
+pub mod Enums
