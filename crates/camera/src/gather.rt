@@ -259,7 +259,7 @@ fn room_no(no: u32, planes: u32, room: usize) -> u32
 }
 
 // The number of a gather out of a plane of so many bytes.
-fn luma_no(len: usize, geo: LumaRefGeometry, l: Layout) -> u32
+fn luma_bytes_no(len: usize, geo: LumaRefGeometry, l: Layout) -> u32
     requires { ⌜ l ≡ lumaLayout geo ⌝ }
     ensures { λ r. ⌜ r ≡ lumaBytesNo len geo ⌝ }
 {
@@ -281,7 +281,7 @@ pub(crate) fn get_reference_samples(plane: &[u8], geo: LumaRefGeometry) -> Gathe
     ensures { λ r. ⌜ r ≡ lumaBytesDoor (now (plane .entry)) geo ⌝ }
 {
     let l = refs::luma_layout(geo);
-    let no = luma_no(plane.len(), geo, l);
+    let no = luma_bytes_no(plane.len(), geo, l);
     if no != 0 {
         return Gathered {
             no,
@@ -309,7 +309,7 @@ pub(crate) fn store_reference_samples(plane: &[u8], geo: LumaRefGeometry, out: &
     ensures { λ r. ⌜ wrote r (now (out .exit)) ≡ lumaEntry (now (plane .entry)) geo (now (out .entry)) ⌝ }
 {
     let l = refs::luma_layout(geo);
-    let early = luma_no(plane.len(), geo, l);
+    let early = luma_bytes_no(plane.len(), geo, l);
     let no = room_no(early, 1, out.len());
     if no == 0 {
         store_luma_rows(plane, geo, l, &mut *out);
@@ -318,7 +318,7 @@ pub(crate) fn store_reference_samples(plane: &[u8], geo: LumaRefGeometry, out: &
 }
 
 // The number of a gather out of planes of so many bytes.
-fn chroma_no(cb: usize, cr: usize, geo: ChromaRefGeometry, l: Layout) -> u32
+fn chroma_bytes_no(cb: usize, cr: usize, geo: ChromaRefGeometry, l: Layout) -> u32
     requires { ⌜ l ≡ chromaLayout geo ⌝ }
     ensures { λ r. ⌜ r ≡ chromaBytesNo cb cr geo ⌝ }
 {
@@ -358,7 +358,7 @@ pub(crate) fn store_reference_samples_chroma_pair(
         (now (out .entry)) ⌝ }
 {
     let l = refs::chroma_layout(geo);
-    let early = chroma_no(plane_cb.len(), plane_cr.len(), geo, l);
+    let early = chroma_bytes_no(plane_cb.len(), plane_cr.len(), geo, l);
     let no = room_no(early, 2, out.len());
     if no == 0 {
         store_chroma_rows(plane_cb, plane_cr, geo, l, &mut *out);

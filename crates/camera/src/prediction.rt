@@ -8,14 +8,14 @@ ghost use Rattle.laws.specs.Fill.{block};
 ghost use Rattle.bytes.specs.pairs.Into.{readInto};
 ghost use Rattle.domain.specs.Facts.{Size};
 ghost use Rattle.h265.specs.Angular.{angular};
-ghost use Rattle.predict.specs.Lent.{neighbours};
+ghost use Rattle.predict.specs.Lent.{lentNeighbours};
 ghost use Rattle.predict.specs.modes.Modes.{byMode};
-ghost use Rattle.predict.specs.by_mode.Door.{Block};
+ghost use Rattle.predict.specs.by_mode.Door.{Predictable};
 ghost use Rattle.camera.specs.Written.{wrote};
-ghost use Rattle.camera.specs.prediction.Entries.{room, flatEntryNo, modeEntryNo, neighboursIn, blockIn};
+ghost use Rattle.camera.specs.prediction.Entries.{hasRoom, flatEntryNo, modeEntryNo, neighboursIn, blockIn};
 ghost use Rattle.camera.specs.prediction.Entries.{planarEntry, dcEntry, angularEntry, chromaBlockEntry};
-ghost use Rattle.camera.specs.prediction.Checks.{Fit};
-ghost use Rattle.camera.specs.prediction.Blocks.{Held};
+ghost use Rattle.camera.specs.prediction.Checks.{HasRoom};
+ghost use Rattle.camera.specs.prediction.Blocks.{SampleRoom};
 use bytes::pairs;
 use predict::angular;
 use predict::planar_dc;
@@ -23,13 +23,13 @@ use predict::planar_dc;
 // Whether two rows and a block's buffer are long enough, in bytes.
 fn has_room(n: usize, above: usize, left: usize, out: usize) -> bool
     requires { ⌜ Size n ⌝ }
-    ensures { λ r. ⌜ r ≡ room n above left out ⌝ }
+    ensures { λ r. ⌜ r ≡ hasRoom n above left out ⌝ }
 {
     (above >= 130) & (left >= 130) & (out >= 2 * (n * n))
 }
 
 // The number of planar or DC.
-fn flat_no(n: usize, above: usize, left: usize, out: usize) -> u32
+fn flat_entry_no(n: usize, above: usize, left: usize, out: usize) -> u32
     ensures { λ r. ⌜ r ≡ flatEntryNo n above left out ⌝ }
 {
     if !domain::size_ok(n) {
@@ -42,7 +42,7 @@ fn flat_no(n: usize, above: usize, left: usize, out: usize) -> u32
 }
 
 // The number of an entry that takes a mode; `taken` tells whether it takes this one.
-fn mode_no(bits: u32, n: usize, taken: bool, above: usize, left: usize, out: usize) -> u32
+fn mode_entry_no(bits: u32, n: usize, taken: bool, above: usize, left: usize, out: usize) -> u32
     ensures { λ r. ⌜ r ≡ modeEntryNo bits n taken above left out ⌝ }
 {
     if !domain::depth_ok(bits) {
@@ -71,10 +71,10 @@ fn angular_block(
     left: &[u16],
     pred: &mut [u16],
 )
-    requires { ⌜ Block bits n mode × (Held n (length (now above)) (length (now left)) (length (now pred))
+    requires { ⌜ Predictable bits n mode × (SampleRoom n (length (now above)) (length (now left)) (length (now pred))
         × (2 ≤ mode)) ⌝ }
     ensures { λ _. ⌜ now (pred .exit)
-        ≡ block (λ (y x : ℕ). angular bits edge n mode (neighbours corner above left) x y) n (now (pred .entry)) ⌝ }
+        ≡ block (λ (y x : ℕ). angular bits edge n mode (lentNeighbours corner above left) x y) n (now (pred .entry)) ⌝ }
 {
     let mut refs = [0u16; 193];
     let mut indices = [0u32; 32];
@@ -105,9 +105,9 @@ fn mode_block(
     left: &[u16],
     pred: &mut [u16],
 )
-    requires { ⌜ Block bits n mode × Held n (length (now above)) (length (now left)) (length (now pred)) ⌝ }
+    requires { ⌜ Predictable bits n mode × SampleRoom n (length (now above)) (length (now left)) (length (now pred)) ⌝ }
     ensures { λ _. ⌜ now (pred .exit)
-        ≡ block (λ (y x : ℕ). byMode bits edge edge n mode (neighbours corner above left) x y) n (now (pred .entry)) ⌝ }
+        ≡ block (λ (y x : ℕ). byMode bits edge edge n mode (lentNeighbours corner above left) x y) n (now (pred .entry)) ⌝ }
 {
     match mode {
         0 => {
@@ -144,7 +144,7 @@ fn rows_block(
     left: &[u8],
     pred: &mut [u16],
 )
-    requires { ⌜ Block bits n mode × ((130 ≤ length (now above)) × ((130 ≤ length (now left))
+    requires { ⌜ Predictable bits n mode × ((130 ≤ length (now above)) × ((130 ≤ length (now left))
         × (n * n ≤ length (now pred)))) ⌝ }
     ensures { λ _. ⌜ now (pred .exit) ≡ block
         (λ (y x : ℕ). byMode bits edge edge n mode (neighboursIn corner (now (above .entry)) (now (left .entry))) x y)
@@ -168,7 +168,7 @@ fn predict_bytes(
     left: &[u8],
     out: &mut [u8],
 )
-    requires { ⌜ Block bits n mode × Fit n (length (now above)) (length (now left)) (length (now out)) ⌝ }
+    requires { ⌜ Predictable bits n mode × HasRoom n (length (now above)) (length (now left)) (length (now out)) ⌝ }
     ensures { λ _. ⌜ now (out .exit) ≡ blockIn
         (λ (y x : ℕ). byMode bits edge edge n mode (neighboursIn corner (now (above .entry)) (now (left .entry))) x y)
         n (now (out .entry)) ⌝ }
@@ -203,7 +203,7 @@ pub(crate) fn planar(n: u32, above: &[u8], left: &[u8], out: &mut [u8]) -> u32
     ensures { λ r. ⌜ wrote r (now (out .exit))
         ≡ planarEntry n (now (above .entry)) (now (left .entry)) (now (out .entry)) ⌝ }
 {
-    let no = flat_no(n as usize, above.len(), left.len(), out.len());
+    let no = flat_entry_no(n as usize, above.len(), left.len(), out.len());
     if no == 0 {
         predict_bytes(8, n as usize, 0, false, 0, above, left, &mut *out);
     }
@@ -215,7 +215,7 @@ pub(crate) fn dc(n: u32, edge: u32, above: &[u8], left: &[u8], out: &mut [u8]) -
     ensures { λ r. ⌜ wrote r (now (out .exit))
         ≡ dcEntry n edge (now (above .entry)) (now (left .entry)) (now (out .entry)) ⌝ }
 {
-    let no = flat_no(n as usize, above.len(), left.len(), out.len());
+    let no = flat_entry_no(n as usize, above.len(), left.len(), out.len());
     if no == 0 {
         predict_bytes(8, n as usize, 1, edge != 0, 0, above, left, &mut *out);
     }
@@ -237,7 +237,7 @@ pub(crate) fn angular(
         ≡ angularEntry bits n mode edge corner (now (above .entry)) (now (left .entry)) (now (out .entry)) ⌝ }
 {
     let taken = (mode >= 2) & (mode <= 34);
-    let no = mode_no(bits, n as usize, taken, above.len(), left.len(), out.len());
+    let no = mode_entry_no(bits, n as usize, taken, above.len(), left.len(), out.len());
     if no == 0 {
         predict_bytes(
             bits,
@@ -266,7 +266,7 @@ pub(crate) fn chroma(
     ensures { λ r. ⌜ wrote r (now (out .exit))
         ≡ chromaBlockEntry bits n mode corner (now (above .entry)) (now (left .entry)) (now (out .entry)) ⌝ }
 {
-    let no = mode_no(
+    let no = mode_entry_no(
         bits,
         n as usize,
         mode <= 34,

@@ -20,10 +20,10 @@ ghost use Rattle.walk.specs.block.Predicted.{predictedAt};
 ghost use Rattle.walk.specs.block.Ready.{Ready, Lies};
 ghost use Rattle.walk.specs.block_rows.Ready.{RowIn, RowsIn};
 ghost use Rattle.walk.specs.block.Rebuilt.{rebuilt, replayUnit};
-ghost use Rattle.walk.specs.calls.Steps.{doing};
+ghost use Rattle.walk.specs.calls.Steps.{doingOf};
 ghost use Rattle.walk.specs.calls.Ready.{Sound};
 ghost use Rattle.camera.specs.replay.Verdict.{wholeBy, byteVerdict, answered};
-ghost use Rattle.camera.specs.replay.VerdictLaws.{wordAt, byteNo};
+ghost use Rattle.camera.specs.replay.VerdictLaws.{putWord, byteNo};
 ghost use Rattle.camera.specs.replay.Door.{replayed};
 use crate::gather;
 use fmt::depth;
@@ -207,7 +207,7 @@ fn are_whole(s: Still, plane: usize, residuals: usize) -> bool
 }
 
 // The number of the checks before the plan's: 1, 4, 5, 8.
-fn early_no(s: Still, plan: &[u8], residuals: &[u8], plane: usize, result: usize) -> u32
+fn byte_no(s: Still, plan: &[u8], residuals: &[u8], plane: usize, result: usize) -> u32
     ensures { λ r. ⌜ r ≡ byteNo s (record {
       plan = now (plan .entry);
       residuals = now (residuals .entry);
@@ -240,7 +240,7 @@ fn verdict(
       result = result;
     }) ⌝ }
 {
-    let early = early_no(s, plan, residuals, plane, result);
+    let early = byte_no(s, plan, residuals, plane, result);
     let found = plan::check_plan_bytes(s.frame, plan);
     checks::settled(done, plan.len() / 6, found, early)
 }
@@ -248,7 +248,7 @@ fn verdict(
 // Stores a number of four bytes.
 fn put_word(b: &mut [u8], at: usize, v: u32)
     requires { ⌜ at + 3 < length (now b) ⌝ }
-    ensures { λ _. ⌜ now (b .exit) ≡ wordAt (now (b .entry)) at v ⌝ }
+    ensures { λ _. ⌜ now (b .exit) ≡ putWord (now (b .entry)) at v ⌝ }
 {
     b[at] = bytes::byte_0(v);
     b[at + 1] = bytes::byte_1(v);
@@ -344,9 +344,9 @@ fn replay_blocks(
 fn serve(done: u32, s: Still, plan: &[u8], residuals: &[u8], plane: &mut [u8], grant: u32) -> u32
     requires { ⌜ Sound s (recordsOf (now plan)) (length (samplesOf (now plane))) (length (residualsOf (now
         residuals))) scratchTables × ((done ≤ length (now plan) / 6) × (length (now plane) % 2 ≡ 0)) ⌝ }
-    ensures { λ r. ⌜ (r ≡ done + doing (recordsOf (now (plan .entry)) .count) done grant) × (samplesOf (now (plane
+    ensures { λ r. ⌜ (r ≡ done + doingOf (recordsOf (now (plan .entry)) .count) done grant) × (samplesOf (now (plane
         .exit)) ≡ units (replayUnit s (recordsOf (now (plan .entry)) .block) (residualsOf (now (residuals .entry))))
-        done (doing (recordsOf (now (plan .entry)) .count) done grant) (samplesOf (now (plane .entry)))) ⌝ }
+        done (doingOf (recordsOf (now (plan .entry)) .count) done grant) (samplesOf (now (plane .entry)))) ⌝ }
 {
     let mut refs = [0u16; 193];
     let mut indices = [0u32; 32];

@@ -2,7 +2,7 @@
 // has for its contract what the table of specs/Figures has for it. Rests on the doors' contracts.
 ghost use mathlib.Core.Path.{_≡_};
 ghost use Rattle.figures.specs.figure_table.Figures.{counting, opening, planarBlock, dcBlock, angularBlock, orderAt, smoothsAt};
-ghost use Rattle.figures.specs.figure_table.Figures.{bent, entry31, ordinary31, strongAt, restoredTo, smoothedTwo};
+ghost use Rattle.figures.specs.figure_table.Figures.{bent, entry31, ordinary31, strongOf, restoredTo, smoothedTwo};
 use fmt::LumaCol;
 use fmt::LumaRow;
 use order::Picture;
@@ -112,7 +112,7 @@ fn ordinary_31(end: u16) -> u16
 }
 
 fn strong(end: u16) -> u16
-    ensures { λ r. ⌜ r ≡ strongAt end ⌝ }
+    ensures { λ r. ⌜ r ≡ strongOf end ⌝ }
 {
     (entry_31(end) != ordinary_31(end)) as u16
 }

@@ -49,16 +49,16 @@ sub-height Yuv422 = omega arith
 sub-height Yuv444 = omega arith
 
 -- luma samples from a sample of a plane to the next one, along a row or down a column
-abbrev pub Step : ℕ → Type 0
-Step s = (s ≡ 1) ⊎ (s ≡ 2)
+abbrev pub Subsampling : ℕ → Type 0
+Subsampling s = (s ≡ 1) ⊎ (s ≡ 2)
 
-pub step-width : (f : ChromaFormat) → Step (subWidth f)
+pub step-width : (f : ChromaFormat) → Subsampling (subWidth f)
 step-width Monochrome = inl refl
 step-width Yuv420 = inr refl
 step-width Yuv422 = inr refl
 step-width Yuv444 = inl refl
 
-pub step-height : (f : ChromaFormat) → Step (subHeight f)
+pub step-height : (f : ChromaFormat) → Subsampling (subHeight f)
 step-height Monochrome = inl refl
 step-height Yuv420 = inr refl
 step-height Yuv422 = inl refl

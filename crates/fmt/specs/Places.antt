@@ -8,14 +8,14 @@ use Rattle.fmt.specs.declared.ChromaCol.{ChromaCol}
 use Rattle.fmt.specs.Fmt.{subWidth, subHeight}
 
 -- a luma number is held at the largest u32, which is outside every picture
-abbrev pub held : ℕ → ℕ
-held v = min v 4294967295
+abbrev pub saturated : ℕ → ℕ
+saturated v = min v 4294967295
 
 abbrev pub lumaRow : ChromaFormat → ChromaRow → LumaRow
-lumaRow f r = record { 0 = held (subHeight f * r .0) }
+lumaRow f r = record { 0 = saturated (subHeight f * r .0) }
 
 abbrev pub lumaCol : ChromaFormat → ChromaCol → LumaCol
-lumaCol f c = record { 0 = held (subWidth f * c .0) }
+lumaCol f c = record { 0 = saturated (subWidth f * c .0) }
 
 abbrev pub chromaRow : ChromaFormat → LumaRow → ChromaRow
 chromaRow f r = record { 0 = r .0 / subHeight f }

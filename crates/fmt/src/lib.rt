@@ -4,8 +4,8 @@ pub mod depth;
 
 ghost use mathlib.Core.Path.{_≡_};
 ghost use Prim.Native.Nat.{_*_, _/_, _≤_};
-ghost use Rattle.fmt.specs.Fmt.{subWidth, subHeight, formatFrom, Step};
-ghost use Rattle.fmt.specs.Places.{held, lumaRow, lumaCol, chromaRow, chromaCol};
+ghost use Rattle.fmt.specs.Fmt.{subWidth, subHeight, formatFrom, Subsampling};
+ghost use Rattle.fmt.specs.Places.{saturated, lumaRow, lumaCol, chromaRow, chromaCol};
 
 pub enum ChromaFormat {
     Monochrome,
@@ -73,7 +73,7 @@ pub struct ChromaCol(pub u32);
 // A number times the subsampling, or the largest u32, which is outside every picture.
 fn times(x: u32, sub: usize) -> u32
     requires { ⌜ sub ≤ 2 ⌝ }
-    ensures { λ r. ⌜ r ≡ held (sub * x) ⌝ }
+    ensures { λ r. ⌜ r ≡ saturated (sub * x) ⌝ }
 {
     let wide = sub * (x as usize);
     if wide > 4294967295 {
@@ -84,7 +84,7 @@ fn times(x: u32, sub: usize) -> u32
 
 // A number over the subsampling, rounded down. By the two cases: a division by a variable takes longer than all the rest of a conversion.
 fn over(x: u32, sub: usize) -> u32
-    requires { ⌜ Step sub ⌝ }
+    requires { ⌜ Subsampling sub ⌝ }
     ensures { λ r. ⌜ r ≡ x / sub ⌝ }
 {
     if sub == 2 { x / 2 } else { x }

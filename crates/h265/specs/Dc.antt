@@ -5,12 +5,12 @@ use lib.Dec.{ltb, eqb}
 use Rattle.h265.specs.Notation.{Neighbours, log2, _>>ℕ_}
 
 -- f 0 + .. + f (k - 1)
-unfoldable pub sum : (ℕ → ℕ) → ℕ → ℕ
-sum f zero = 0
-sum f (suc k) = sum f k + f k
+unfoldable pub sumTo : (ℕ → ℕ) → ℕ → ℕ
+sumTo f zero = 0
+sumTo f (suc k) = sumTo f k + f k
 
 unfoldable pub dcVal : ℕ → Neighbours → ℕ
-dcVal n nb = sum (nb .above) n + sum (nb .left) n + n >>ℕ (log2 n + 1)
+dcVal n nb = sumTo (nb .above) n + sumTo (nb .left) n + n >>ℕ (log2 n + 1)
 
 -- predSamples[x][y]; edge says that cIdx is 0
 unfoldable pub dc : Bool → ℕ → Neighbours → ℕ → ℕ → ℕ

@@ -7,13 +7,13 @@ use Prim.Native.Nat.{ℕ, _+_, _*_}
 use lib.Dec.{eqb}
 use lib.IntN.{ℤ, pos}
 use Rattle.h265.specs.Notation.{−1, Neighbours, near, _⟦_⟧⟦_⟧, log2, halvings}
-use Rattle.h265.specs.Setting.{Grid, Component, Flags, lumaAt, firstEdition, firstEditionStrong}
+use Rattle.h265.specs.Setting.{Grid, Component, CodingFlags, lumaAt, firstEdition, firstEditionStrong}
 use Rattle.h265.specs.Order.{interleaved, zScan, minTbAddrZs, addressAt}
 use Rattle.h265.specs.Availability.{available}
 use Rattle.h265.specs.Substitution.{firstMarked, settled, substitutedAt, marked, neighbours}
 use Rattle.h265.specs.Filtering.{filterFlag, straight, biIntFlag, strongAt, weakAt, filtered}
 use Rattle.h265.specs.Planar.{planar}
-use Rattle.h265.specs.Dc.{sum, dcVal, dc}
+use Rattle.h265.specs.Dc.{sumTo, dcVal, dc}
 use Rattle.h265.specs.Angular.{intraPredAngle, invAngle, ref, project, angular}
 use Rattle.h265.specs.Prediction.{filters, prepared, predSamples, predicted}
 
@@ -135,7 +135,7 @@ dc-block :
     let nb = sloping 70 in
     dc false 8 nb 0 0 ∷ dc true 8 nb 0 0 ∷ dc true 8 nb 3 0 ∷ dc true 8 nb 0 6 ∷ dc true 8 nb 3 6 ∷ dc true 32 nb 0 0 ∷ []
     gives 84 ∷ 77 ∷ 90 ∷ 81 ∷ 84 ∷ 132 ∷ []
-unfolding dc dcVal sum halvings
+unfolding dc dcVal sumTo halvings
 dc-block = refl
 
 -- 8.4.4.2.6, horizontal. An angle below 0: mode 14, -13, inverse -630, so that ref[-1] to ref[-4] are above[1], [4], [6] and [9]; (7, 0) is
@@ -170,7 +170,7 @@ spiked = record { corner = 30; above = λ x. cond (eqb x 3) 90 10; left = λ y. 
 whole-process :
     let at = predSamples (lumaAt 8) firstEditionStrong 8 in
     at 1 spiked 3 0 ∷ at 0 spiked 3 0 ∷ at 34 spiked 0 1 ∷ at 34 spiked 1 1 ∷ [] gives 49 ∷ 39 ∷ 30 ∷ 50 ∷ []
-unfolding predSamples prepared filters filterFlag filtered biIntFlag weakAt dc dcVal sum planar halvings
+unfolding predSamples prepared filters filterFlag filtered biIntFlag weakAt dc dcVal sumTo planar halvings
     angular project ref intraPredAngle invAngle
 whole-process = refl
 
@@ -186,7 +186,7 @@ unfolding prepared filters filterFlag filtered biIntFlag weakAt
 strong-off = refl
 
 -- The 2014 edition. intra_smoothing_disabled_flag 1: neither form, while the edges of DC and mode 26 stay
-abbrev smoothingDisabled : Flags
+abbrev smoothingDisabled : CodingFlags
 smoothingDisabled = record { strong = true; smoothingOff = true; edgeOff = false }
 
 smoothing-off :
@@ -194,14 +194,14 @@ smoothing-off :
     prepared (lumaAt 10) smoothingDisabled 32 34 (bent 431) .above 0 ∷ at 34 spiked 0 1 ∷ at 34 spiked 1 1
     ∷ at 1 (sloping 103) 0 0 ∷ at 26 (sloping 103) 0 4 ∷ []
     gives 300 ∷ 10 ∷ 90 ∷ 77 ∷ 78 ∷ []
-unfolding predSamples prepared filters dc dcVal sum halvings angular project ref intraPredAngle invAngle
+unfolding predSamples prepared filters dc dcVal sumTo halvings angular project ref intraPredAngle invAngle
 smoothing-off = refl
 
 -- disableIntraBoundaryFilter 1: no edge in modes 10 and 26, while DC keeps its own
 edge-off :
     let at = predSamples (lumaAt 8) (record { strong = true; smoothingOff = false; edgeOff = true }) 8 in
     at 10 (sloping 103) 0 0 ∷ at 26 (sloping 103) 0 4 ∷ at 1 (sloping 103) 0 0 ∷ [] gives 40 ∷ 100 ∷ 77 ∷ []
-unfolding predSamples prepared filters filterFlag dc dcVal sum halvings angular project ref intraPredAngle invAngle
+unfolding predSamples prepared filters filterFlag dc dcVal sumTo halvings angular project ref intraPredAngle invAngle
 edge-off = refl
 
 -- chroma of 4:2:0 is not filtered, chroma of 4:4:4 is, and never in the strong form; neither has edges
@@ -210,6 +210,6 @@ chroma-filtered :
     predSamples (chroma420 8) firstEditionStrong 8 34 spiked 1 1 ∷ at 34 spiked 1 1 ∷ at 26 (sloping 103) 0 4 ∷ at 1 (sloping 103) 0 0
     ∷ entries (prepared (chroma444 10) firstEditionStrong 32 34 (bent 431))
     gives 90 ∷ 50 ∷ 100 ∷ 84 ∷ 201 ∷ 275 ∷ 300 ∷ 333 ∷ 431 ∷ 128 ∷ 80 ∷ 8 ∷ []
-unfolding predSamples prepared filters filterFlag filtered biIntFlag weakAt dc dcVal sum halvings
+unfolding predSamples prepared filters filterFlag filtered biIntFlag weakAt dc dcVal sumTo halvings
     angular project ref intraPredAngle invAngle
 chroma-filtered = refl

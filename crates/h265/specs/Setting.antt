@@ -25,7 +25,7 @@ pub record Component : Type 0 where
   pub full : Bool
 
 -- the flags; the first edition has the first one alone, and the others at 0
-pub record Flags : Type 0 where
+pub record CodingFlags : Type 0 where
   -- strong_intra_smoothing_enabled_flag
   pub strong : Bool
   -- intra_smoothing_disabled_flag (2014)
@@ -38,8 +38,8 @@ abbrev pub lumaAt : ℕ → Component
 lumaAt bits = record { luma = true; bits = bits; subWidth = 1; subHeight = 1; full = false }
 
 -- the first edition, with strong_intra_smoothing_enabled_flag as told, and with it at 1
-abbrev pub firstEdition : Bool → Flags
+abbrev pub firstEdition : Bool → CodingFlags
 firstEdition strong = record { strong = strong; smoothingOff = false; edgeOff = false }
 
-abbrev pub firstEditionStrong : Flags
+abbrev pub firstEditionStrong : CodingFlags
 firstEditionStrong = firstEdition true

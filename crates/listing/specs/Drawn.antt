@@ -10,24 +10,24 @@ use Rattle.listing.specs.declared.Count.{Count}
 use Rattle.listing.specs.Hex.{wordAt}
 
 -- the number after a number, and the seed of the second row of numbers
-abbrev pub next : ℕ → ℕ
-next x = (x % 65537 * 75 + 74) % 65537
+abbrev pub nextOf : ℕ → ℕ
+nextOf x = (x % 65537 * 75 + 74) % 65537
 
 abbrev pub otherSeed : ℕ → ℕ
 otherSeed x = (x % 65537 * 171 + 11213) % 65537
 
 -- a number as a sample of at most a largest; a largest of 1 stands for samples of either end
-abbrev pub sampleOf : ℕ → ℕ → ℕ
-sampleOf x top = cond (eqb top 1) (x % 2 * 65535) (x % (min top 65535 + 1))
+abbrev pub drawnSample : ℕ → ℕ → ℕ
+drawnSample x top = cond (eqb top 1) (x % 2 * 65535) (x % (min top 65535 + 1))
 
 -- the number that is so many after a seed
 unfoldable pub numberAfter : ℕ → ℕ → ℕ
 numberAfter seed zero = seed
-numberAfter seed (suc k) = next (numberAfter seed k)
+numberAfter seed (suc k) = nextOf (numberAfter seed k)
 
 -- a lent list with a sample for each number after the seed
 abbrev pub drawn : ℕ → ℕ → List ℕ → List ℕ
-drawn seed top d = fill (λ (i : ℕ). sampleOf (numberAfter seed (i + 1)) top) (length d) d
+drawn seed top d = fill (λ (i : ℕ). drawnSample (numberAfter seed (i + 1)) top) (length d) d
 
 abbrev pub drawnRow : ℕ → ℕ → List ℕ
 drawnRow seed top = drawn seed top (replicate 65 0)

@@ -8,17 +8,17 @@ use lib.Dec.{eqb}
 use lib.ListN.{getD}
 use borrow.Author.Tests.{ne-eqb}
 use Rattle.listing.specs.Hex.{wordAt}
-use Rattle.listing.specs.Drawn.{next, sampleOf, numberAfter, sameFrom}
+use Rattle.listing.specs.Drawn.{nextOf, drawnSample, numberAfter, sameFrom}
 
 pub number-none : (seed : ℕ) → seed ≡ numberAfter seed 0
 unfolding numberAfter
 number-none seed = refl
 
-pub number-more : (seed i : ℕ) → next (numberAfter seed i) ≡ numberAfter seed (i + 1)
+pub number-more : (seed i : ℕ) → nextOf (numberAfter seed i) ≡ numberAfter seed (i + 1)
 unfolding numberAfter
 number-more seed i = rw add-one refl
 
-pub sample-ordinary : (x top : ℕ) → ¬ (top ≡ 1) → x % (min top 65535 + 1) ≡ sampleOf x top
+pub sample-ordinary : (x top : ℕ) → ¬ (top ≡ 1) → x % (min top 65535 + 1) ≡ drawnSample x top
 sample-ordinary x top h = rw (ne-eqb top 1 h) refl
 
 pub same-none : (line : List ℕ) (first : ℕ) (written : List ℕ) (place : ℕ) → true ≡ sameFrom line first written place 0

@@ -4,7 +4,7 @@ ghost use mathlib.Core.Path.{_≡_};
 ghost use Prim.Native.Nat.{_+_, _*_, _≤_, _<_};
 ghost use lib.ListN.{getD};
 ghost use Rattle.listing.specs.Hex.{hexDigit, digitAt, octetAt, halfAt, wordAt};
-ghost use Rattle.listing.specs.Drawn.{next as nextOf, otherSeed, sampleOf, drawn, drawnRow, sameFrom, more, counted};
+ghost use Rattle.listing.specs.Drawn.{nextOf, otherSeed, drawnSample, drawn, drawnRow, sameFrom, more, counted};
 use domain::helpers;
 
 fn digit(b: u8) -> u32
@@ -65,7 +65,7 @@ pub fn other(seed: u32) -> u32
 
 // A number brought to at most the largest; a largest of 1 stands for samples of either end.
 pub fn sample(x: u32, top: u32) -> u16
-    ensures { λ r. ⌜ r ≡ sampleOf x top ⌝ }
+    ensures { λ r. ⌜ r ≡ drawnSample x top ⌝ }
 {
     if top == 1 {
         return ((x % 2) * 65535) as u16;

@@ -15,8 +15,8 @@ use Rattle.h265.specs.Order.{minTbAddrZs}
 use Rattle.domain.specs.Domain.{sizeOk, sideOk, ctuOk, unitOk}
 use Rattle.domain.specs.Facts.{Size, Ctu, Side, size-of, size-small, side-of, ctu-of, unit-of}
 use Rattle.fmt.specs.declared.ChromaFormat.{ChromaFormat}
-use Rattle.fmt.specs.Fmt.{subWidth, subHeight, Step, step-width, step-height}
-use Rattle.fmt.specs.Places.{held, lumaRow, lumaCol}
+use Rattle.fmt.specs.Fmt.{subWidth, subHeight, Subsampling, step-width, step-height}
+use Rattle.fmt.specs.Places.{saturated, lumaRow, lumaCol}
 use Rattle.order.specs.declared.Picture.{Picture}
 use Rattle.order.specs.declared.LumaBlock.{LumaBlock}
 use Rattle.order.specs.declared.ChromaBlock.{ChromaBlock}
@@ -25,8 +25,8 @@ use Rattle.order.specs.declared.Shifts.{Shifts}
 use Rattle.order.specs.declared.Site.{Site}
 use Rattle.order.specs.Order.{pictureOk, placeOk, numberAt, before}
 use Rattle.order.specs.Good.{Good, sized, shiftsOf, small-of}
-use Rattle.order.specs.Reach.{cornerHas, aboveHas, leftHas, leading, reachBy, inPlane, lumaPlaceOk, lumaReachNo, lumaHas, chromaHeight, chromaWidth, colour, chromaBlockOk, chromaPlaceOk, chromaReachNo, chromaHas}
-use Rattle.order.specs.Edges.{numberBy, Sited, aboveBy, leftBy, cornerBy, edgesOf}
+use Rattle.order.specs.Reach.{cornerHas, aboveHas, leftHas, leading, reachBy, inPlane, lumaPlaceOk, lumaReachNo, lumaHas, chromaHeight, chromaWidth, hasChroma, chromaBlockOk, chromaPlaceOk, chromaReachNo, chromaHas}
+use Rattle.order.specs.Edges.{numberBy, Sited, aboveThere, leftThere, cornerThere, edgesOf}
 use Rattle.order.specs.Walk.{span}
 
 -- a picture's tests
@@ -80,8 +80,8 @@ luma-fine b e =
 
 -- A block at (row, col) of a plane of so many rows and columns, over the luma grid.
 pub record Over (e : Site) (height width row col : ℕ) : Type 0 where
-  pub downs : Step (e .down)
-  pub acrosses : Step (e .across)
+  pub downs : Subsampling (e .down)
+  pub acrosses : Subsampling (e .across)
   pub row-is : e .row .0 ≡ row * e .down
   pub col-is : e .col .0 ≡ col * e .across
   pub above-is : e .above .0 ≡ (row - 1) * e .down
@@ -117,13 +117,13 @@ sited p s e height width row col n g es size i o tall wide =
         let q : x + room * step ≡ side * step = ap₂ (λ (y k : ℕ). y + k * step) ex er ∙ together v side step h in
         omega arith
 
-    before-it : (v side step x : ℕ) → v < side → x ≡ (v - 1) * step → side * step ≤ 4096 → Step step → x < 4096
+    before-it : (v side step x : ℕ) → v < side → x ≡ (v - 1) * step → side * step ≤ 4096 → Subsampling step → x < 4096
     before-it v side step x h ex b t =
         let q = span 0 (v - 1) side step (omega arith) (omega arith) t in
         omega arith
 
 -- a rule that tells of each sample of a plane by a test of its own, and of none outside it
-record Tells (has : ℤ → ℤ → Bool) (height width : ℕ) (there : ℕ → ℕ → Bool) : Type 0 where
+record TellsEach (has : ℤ → ℤ → Bool) (height width : ℕ) (there : ℕ → ℕ → Bool) : Type 0 where
   inside : (r c : ℕ) → has (pos r) (pos c) ≡ (ltb r height && ltb c width && there r c)
   top : (r : ℕ) (c : ℤ) → has (negsuc r) c ≡ false
   side : (r c : ℕ) → has (pos r) (negsuc c) ≡ false
@@ -141,7 +141,7 @@ past v i side = go (decLt (v + i) side)
     go (no h) = le-ltb i (side - v) (omega arith) ∙ sym (le-ltb (v + i) side (omega arith))
 
 -- where the rule's tests are those of the numbers below a limit, the code's rule is that rule
-module _ {has : ℤ → ℤ → Bool} {height width : ℕ} {there : ℕ → ℕ → Bool} (t : Tells has height width there) (s : Shifts) (e : Site) (row col : ℕ)
+module _ {has : ℤ → ℤ → Bool} {height width : ℕ} {there : ℕ → ℕ → Bool} (t : TellsEach has height width there) (s : Shifts) (e : Site) (row col : ℕ)
     (rin : row < height) (cin : col < width) (o : Over e height width row col) where
   abbrev Limits : ℕ → ℕ → ℕ → Type 0
   Limits limit r c = there r c ≡ ltb (numberBy s (r * e .down) (c * e .across)) limit
@@ -150,13 +150,13 @@ module _ {has : ℤ → ℤ → Bool} {height width : ℕ} {there : ℕ → ℕ 
   none-before : (v step x : ℕ) → x ≡ v * step → v ≡ 0 → ltb 0 x ≡ false
   none-before v step x ex z = le-ltb 0 x (omega (arith, ap (λ (k : ℕ). k * step) z ∙ zero-mul step))
 
-  some-before : (v step x : ℕ) → x ≡ v * step → Step step → 0 < v → ltb 0 x ≡ true
+  some-before : (v step x : ℕ) → x ≡ v * step → Subsampling step → 0 < v → ltb 0 x ≡ true
   some-before v step x ex q h = lt-ltb 0 x (⊎-elim (λ w. omega (arith, ap (λ (k : ℕ). v * k) w)) (λ w. omega (arith, ap (λ (k : ℕ). v * k) w)) q)
 
-  above-are : (limit i : ℕ) → ((c : ℕ) → 0 < row → Limits limit (row - 1) c) → aboveBy s e limit i ≡ aboveHas has row col i
+  above-are : (limit i : ℕ) → ((c : ℕ) → 0 < row → Limits limit (row - 1) c) → aboveThere s e limit i ≡ aboveHas has row col i
   above-are limit i same = go (decLt 0 row)
     where
-      go : Dec (0 < row) → aboveBy s e limit i ≡ aboveHas has row col i
+      go : Dec (0 < row) → aboveThere s e limit i ≡ aboveHas has row col i
       go (yes h) =
           ap (λ (b : Bool). b && ltb i (e .cols) && ltb (numberBy s (e .above .0) (e .col .0 + i * e .across)) limit) (some-before row (e .down) (e .row .0) (o .row-is) (o .downs) h)
           ∙ both-same (ap (ltb i) (o .cols-are) ∙ past col i width)
@@ -169,10 +169,10 @@ module _ {has : ℤ → ℤ → Bool} {height width : ℕ} {there : ℕ → ℕ 
           ap (λ (b : Bool). b && ltb i (e .cols) && ltb (numberBy s (e .above .0) (e .col .0 + i * e .across)) limit) (none-before row (e .down) (e .row .0) (o .row-is) z)
           ∙ sym (ap (λ (r : ℕ). has (pos r -ℤ pos 1) (pos (col + i))) z ∙ t .top 0 (pos (col + i)))
 
-  left-are : (limit i : ℕ) → ((r : ℕ) → row ≤ r → Limits limit r (col - 1)) → leftBy s e limit i ≡ leftHas has row col i
+  left-are : (limit i : ℕ) → ((r : ℕ) → row ≤ r → Limits limit r (col - 1)) → leftThere s e limit i ≡ leftHas has row col i
   left-are limit i same = go (decLt 0 col)
     where
-      go : Dec (0 < col) → leftBy s e limit i ≡ leftHas has row col i
+      go : Dec (0 < col) → leftThere s e limit i ≡ leftHas has row col i
       go (yes h) =
           ap (λ (b : Bool). b && ltb i (e .rows) && ltb (numberBy s (e .row .0 + i * e .down) (e .left .0)) limit) (some-before col (e .across) (e .col .0) (o .col-is) (o .acrosses) h)
           ∙ both-same (ap (ltb i) (o .rows-are) ∙ past row i height)
@@ -189,10 +189,10 @@ module _ {has : ℤ → ℤ → Bool} {height width : ℕ} {there : ℕ → ℕ 
           ap (λ (b : Bool). b && ltb i (e .rows) && ltb (numberBy s (e .row .0 + i * e .down) (e .left .0)) limit) (none-before col (e .across) (e .col .0) (o .col-is) z)
           ∙ sym (ap (λ (c : ℕ). has (pos (row + i)) (pos c -ℤ pos 1)) z ∙ t .side (row + i) 0)
 
-  corner-is : (limit : ℕ) → ((c : ℕ) → 0 < row → Limits limit (row - 1) c) → cornerBy s e limit ≡ cornerHas has row col
+  corner-is : (limit : ℕ) → ((c : ℕ) → 0 < row → Limits limit (row - 1) c) → cornerThere s e limit ≡ cornerHas has row col
   corner-is limit same = go (decLt 0 row) (decLt 0 col)
     where
-      go : Dec (0 < row) → Dec (0 < col) → cornerBy s e limit ≡ cornerHas has row col
+      go : Dec (0 < row) → Dec (0 < col) → cornerThere s e limit ≡ cornerHas has row col
       go (yes h) (yes k) =
           ap₂ (λ (a b : Bool). a && b && ltb (numberBy s (e .above .0) (e .left .0)) limit) (some-before row (e .down) (e .row .0) (o .row-is) (o .downs) h) (some-before col (e .across) (e .col .0) (o .col-is) (o .acrosses) k)
           ∙ ap₂ (λ (y x : ℕ). ltb (numberBy s y x) limit) (o .above-is) (o .left-is)
@@ -213,8 +213,8 @@ module _ {has : ℤ → ℤ → Bool} {height width : ℕ} {there : ℕ → ℕ 
   reach-is : (n high low : ℕ) → ((c : ℕ) → 0 < row → Limits high (row - 1) c) → ((r : ℕ) → row ≤ r → Limits low r (col - 1)) → edgesOf s e n high low ≡ reachBy 0 has row col n
   reach-is n high low up-same left-same =
       let corner = corner-is high up-same in
-      let above : aboveBy s e high ≡ aboveHas has row col = fun-ext (λ i. above-are high i up-same) in
-      let left : leftBy s e low ≡ leftHas has row col = fun-ext (λ i. left-are low i left-same) in
+      let above : aboveThere s e high ≡ aboveHas has row col = fun-ext (λ i. above-are high i up-same) in
+      let left : leftThere s e low ≡ leftHas has row col = fun-ext (λ i. left-are low i left-same) in
       λ i. record { no = 0; corner = corner i; above = leading (above i) (2 * n + 1); left = leading (left i) (2 * n + 1) }
 
 -- Luma: the plane is the grid
@@ -250,7 +250,7 @@ luma-sited b f s e es ee =
     (sited (b .picture) s (lumaSite b) (b .picture .height) (b .picture .width) (b .row .0) (b .col .0) (b .n) (f .good) es (f .size) (f .placed) (luma-over b)
     (omega (arith, f .good .tall .high)) (omega (arith, f .good .wide .high)))
 
-luma-tells : (b : LumaBlock) → Tells (lumaHas b) (b .picture .height) (b .picture .width) (λ r c. ltb (numberAt (b .picture) r c) (numberAt (b .picture) (b .row .0) (b .col .0)))
+luma-tells : (b : LumaBlock) → TellsEach (lumaHas b) (b .picture .height) (b .picture .width) (λ r c. ltb (numberAt (b .picture) r c) (numberAt (b .picture) (b .row .0) (b .col .0)))
 unfolding before
 luma-tells b = record { inside = λ r c. refl; top = λ r c. refl; side = λ r c. refl }
 
@@ -286,13 +286,13 @@ chroma-fine b e =
     let i = inPlane (chromaHeight b) (chromaWidth b) (b .row .0) (b .col .0) (b .n) in
     let k = leb (b .n) (p .ctu / subWidth (b .format)) in
     let s = passed (sizeOk (b .n)) _ 2 (omega arith) e in
-    let q = passed (pictureOk p && colour (b .format)) _ 4 (omega arith) (s .1) in
+    let q = passed (pictureOk p && hasChroma (b .format)) _ 4 (omega arith) (s .1) in
     let t = passed (chromaPlaceOk b) 0 6 (omega arith) (q .1) in
     let w = both-true (i && k) (placeOk p r c) (t .0) in
     let u = both-true i k (w .0) in
     let m = both-true (unitOk (p .unit) && ltb r (p .height)) (ltb c (p .width)) (w .1) in
     let n = both-true (unitOk (p .unit)) (ltb r (p .height)) (m .0) in
-    let f = picture-of p (both-true (pictureOk p) (colour (b .format)) (q .0) .0) in
+    let f = picture-of p (both-true (pictureOk p) (hasChroma (b .format)) (q .0) .0) in
     record {
       size = size-of (b .n) (s .0);
       good = record { wide = f .0; tall = f .1 .0; ctus = f .1 .1; units = unit-of (p .unit) (n .0) };
@@ -321,11 +321,11 @@ chromaSite b =
     }
 
 -- a place in the picture is held as it is
-held-is : (step v : ℕ) → Step step → v ≤ 4096 → held (step * v) ≡ v * step
+held-is : (step v : ℕ) → Subsampling step → v ≤ 4096 → saturated (step * v) ≡ v * step
 held-is step v t h = ⊎-elim (at 1 (omega arith)) (at 2 (omega arith)) t
   where
-    at : (k : ℕ) → held (k * v) ≡ v * k → step ≡ k → held (step * v) ≡ v * step
-    at k q e = subst (λ (x : ℕ). held (x * v) ≡ v * x) (sym e) q
+    at : (k : ℕ) → saturated (k * v) ≡ v * k → step ≡ k → saturated (step * v) ≡ v * step
+    at k q e = subst (λ (x : ℕ). saturated (x * v) ≡ v * x) (sym e) q
 
 chroma-over : (b : ChromaBlock) → ChromaFine b → Over (chromaSite b) (chromaHeight b) (chromaWidth b) (b .row .0) (b .col .0)
 chroma-over b f =
@@ -372,7 +372,7 @@ chroma-tells : (b : ChromaBlock)
     → let p = b .picture in
     let cur = numberAt p (b .«cur_luma_row» .0) (b .«cur_luma_col» .0) in
     let nb : ℕ → ℕ → ℕ = λ r c. numberAt p (r * subHeight (b .format)) (c * subWidth (b .format)) in
-    Tells (chromaHas b) (chromaHeight b) (chromaWidth b) (λ r c. ltb (nb r c) cur || eqb (nb r c) cur && ltb r (b .row .0))
+    TellsEach (chromaHas b) (chromaHeight b) (chromaWidth b) (λ r c. ltb (nb r c) cur || eqb (nb r c) cur && ltb r (b .row .0))
 unfolding chromaHas
 chroma-tells b = record { inside = λ r c. refl; top = λ r c. refl; side = λ r c. refl }
 

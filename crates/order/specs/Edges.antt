@@ -10,7 +10,7 @@ use borrow.Author.Tests.{leb-true, ltb-true, eqb-true}
 use Rattle.laws.specs.Choose.{both-true}
 use Rattle.h265.specs.Order.{zScan}
 use Rattle.domain.specs.Facts.{Size, Unit, at-size}
-use Rattle.fmt.specs.Fmt.{Step}
+use Rattle.fmt.specs.Fmt.{Subsampling}
 use Rattle.order.specs.declared.Shifts.{Shifts}
 use Rattle.order.specs.declared.Site.{Site}
 use Rattle.order.specs.declared.Reach.{Reach}
@@ -22,8 +22,8 @@ abbrev pub numberBy : Shifts → ℕ → ℕ → ℕ
 numberBy s row col = zScan (s .levels) (s .ctus) (col / 2 ^ s .unit) (row / 2 ^ s .unit)
 
 -- entry i of a line from a luma place on, a step further each: whether its cell has a number below a limit
-abbrev pub onLine : Shifts → ℕ → ℕ → ℕ → ℕ → ℕ → ℕ → Bool
-onLine s limit row col down across i = ltb (numberBy s (row + i * down) (col + i * across)) limit
+abbrev pub lineThere : Shifts → ℕ → ℕ → ℕ → ℕ → ℕ → ℕ → Bool
+lineThere s limit row col down across i = ltb (numberBy s (row + i * down) (col + i * across)) limit
 
 -- samples of a block of side n at a multiple of n, each spanning step luma samples, share cells of unit luma samples in groups
 abbrev pub groupOf : ℕ → ℕ → ℕ → ℕ
@@ -49,7 +49,7 @@ group-from unit step n e =
     let c = both-true (ltb 0 g) (leb g 8) (b .0) in
     record { some = ltb-true 0 g (c .0); few = leb-true g 8 (c .1); fit = eqb-true unit (step * (g * (unit / (step * g)))) (b .1); whole = eqb-true (n % g) 0 (a .1) }
 
-pub group : (unit step n : ℕ) → Unit unit → Step step → Size n → Group unit step n
+pub group : (unit step n : ℕ) → Unit unit → Subsampling step → Size n → Group unit step n
 unfolding groupTest
 group unit step n u t s =
     ⊎-elim
@@ -70,7 +70,7 @@ at-group v n g a b =
     w ∙ ap (λ (m : ℕ). v / n * m) z ∙ sym (mul-assoc (v / n) (n / g) g)
 
 -- from a multiple of the group on, entry i shares the cell of the first entry of its group
-pub same-group : (unit step n v i : ℕ) → Unit unit → Step step → Size n → v % n ≡ 0
+pub same-group : (unit step n v i : ℕ) → Unit unit → Subsampling step → Size n → v % n ≡ 0
     → (v * step + i * step) / unit ≡ (v * step + i / groupOf unit step n * groupOf unit step n * step) / unit
 same-group unit step n v i u t s e =
     let g = groupOf unit step n in
@@ -102,11 +102,11 @@ pub record Line (s : Shifts) (row col down across group most : ℕ) : Type 0 whe
 -- an edge of a block of side n, down or across, of which so many samples are in the plane
 pub record Edge (s : Shifts) (row col down across unit n room : ℕ) : Type 0 where
   pub size : Size n
-  pub step : Step (down + across)
+  pub step : Subsampling (down + across)
   pub line : Line s row col down across (groupOf unit (down + across) n) (min (2 * n + 1) room)
 
 -- a luma place on which a sample of the plane lies whose number in its row or column is a multiple of n
-pub record Lies (n step place : ℕ) : Type 0 where
+pub record OnGrid (n step place : ℕ) : Type 0 where
   pub sample : ℕ
   pub whole : sample % n ≡ 0
   pub on : place ≡ sample * step
@@ -117,31 +117,31 @@ pub record Sited (s : Shifts) (e : Site) (unit n : ℕ) : Type 0 where
   pub shift : 2 ^ s .unit ≡ unit
   pub units : Unit unit
   pub size : Size n
-  pub downs : Step (e .down)
-  pub acrosses : Step (e .across)
-  pub row-at : Lies n (e .down) (e .row .0)
-  pub col-at : Lies n (e .across) (e .col .0)
+  pub downs : Subsampling (e .down)
+  pub acrosses : Subsampling (e .across)
+  pub row-at : OnGrid n (e .down) (e .row .0)
+  pub col-at : OnGrid n (e .across) (e .col .0)
   pub tall : e .row .0 + e .rows * e .down ≤ 4096
   pub wide : e .col .0 + e .cols * e .across ≤ 4096
   pub above-in : e .above .0 < 4096
   pub left-in : e .left .0 < 4096
 
 -- The neighbours that are there by the code's rule: in the plane, in a luma cell that has a number below a limit.
-abbrev pub aboveBy : Shifts → Site → ℕ → ℕ → Bool
-aboveBy s e limit i = ltb 0 (e .row .0) && ltb i (e .cols) && ltb (numberBy s (e .above .0) (e .col .0 + i * e .across)) limit
+abbrev pub aboveThere : Shifts → Site → ℕ → ℕ → Bool
+aboveThere s e limit i = ltb 0 (e .row .0) && ltb i (e .cols) && ltb (numberBy s (e .above .0) (e .col .0 + i * e .across)) limit
 
-abbrev pub leftBy : Shifts → Site → ℕ → ℕ → Bool
-leftBy s e limit i = ltb 0 (e .col .0) && ltb i (e .rows) && ltb (numberBy s (e .row .0 + i * e .down) (e .left .0)) limit
+abbrev pub leftThere : Shifts → Site → ℕ → ℕ → Bool
+leftThere s e limit i = ltb 0 (e .col .0) && ltb i (e .rows) && ltb (numberBy s (e .row .0 + i * e .down) (e .left .0)) limit
 
-abbrev pub cornerBy : Shifts → Site → ℕ → Bool
-cornerBy s e limit = ltb 0 (e .row .0) && ltb 0 (e .col .0) && ltb (numberBy s (e .above .0) (e .left .0)) limit
+abbrev pub cornerThere : Shifts → Site → ℕ → Bool
+cornerThere s e limit = ltb 0 (e .row .0) && ltb 0 (e .col .0) && ltb (numberBy s (e .above .0) (e .left .0)) limit
 
 -- the reach by it, with a limit for the corner and the row above, and one for the left column
 abbrev pub edgesOf : Shifts → Site → ℕ → ℕ → ℕ → Reach
 edgesOf s e n high low =
     record {
       no = 0;
-      corner = cornerBy s e high;
-      above = leading (aboveBy s e high) (2 * n + 1);
-      left = leading (leftBy s e low) (2 * n + 1);
+      corner = cornerThere s e high;
+      above = leading (aboveThere s e high) (2 * n + 1);
+      left = leading (leftThere s e low) (2 * n + 1);
     }

@@ -75,11 +75,11 @@ abbrev pub chromaWidth : ChromaBlock → ℕ
 chromaWidth b = b .picture .width / subWidth (b .format)
 
 -- number 4 at the chroma door: monochrome too
-abbrev pub colour : ChromaFormat → Bool
-colour Monochrome = false
-colour Yuv420 = true
-colour Yuv422 = true
-colour Yuv444 = true
+abbrev pub hasChroma : ChromaFormat → Bool
+hasChroma Monochrome = false
+hasChroma Yuv420 = true
+hasChroma Yuv422 = true
+hasChroma Yuv444 = true
 
 -- number 6: the block in its plane and no wider than a CTU there; the unit, and the current luma place in the luma picture
 abbrev pub chromaBlockOk : Picture → ChromaFormat → ℕ → ℕ → ℕ → Bool
@@ -90,7 +90,7 @@ chromaPlaceOk b =
     chromaBlockOk (b .picture) (b .format) (b .row .0) (b .col .0) (b .n) && placeOk (b .picture) (b .«cur_luma_row» .0) (b .«cur_luma_col» .0)
 
 unfoldable pub chromaReachNo : ChromaBlock → ℕ
-chromaReachNo b = firstFail ((2 unless sizeOk (b .n)) ∷ (4 unless pictureOk (b .picture) && colour (b .format)) ∷ (6 unless chromaPlaceOk b) ∷ [])
+chromaReachNo b = firstFail ((2 unless sizeOk (b .n)) ∷ (4 unless pictureOk (b .picture) && hasChroma (b .format)) ∷ (6 unless chromaPlaceOk b) ∷ [])
 
 -- the chroma rule: in the chroma plane, and the neighbour's luma cell comes before the current luma place's, or is that cell and
 -- the neighbour's row is above the block

@@ -10,12 +10,12 @@ use lib.Dec.{ltb}
 use borrow.Author.Tests.{lt-ltb, le-ltb}
 use Rattle.h265.specs.Order.{zScan}
 use Rattle.domain.specs.Facts.{size-small}
-use Rattle.fmt.specs.Fmt.{Step}
+use Rattle.fmt.specs.Fmt.{Subsampling}
 use Rattle.order.specs.declared.Shifts.{Shifts}
 use Rattle.order.specs.declared.Site.{Site}
 use Rattle.order.specs.Reach.{leading}
 use Rattle.order.specs.Leading.{leading-is, leading-none, leading-cut}
-use Rattle.order.specs.Edges.{numberBy, onLine, groupOf, group, same-group, Line, Edge, Lies, Sited, aboveBy, leftBy, cornerBy}
+use Rattle.order.specs.Edges.{numberBy, lineThere, groupOf, group, same-group, Line, Edge, OnGrid, Sited, aboveThere, leftThere, cornerThere}
 
 -- after some groups: all samples before i hold
 pub record Walked (f : ℕ → Bool) (group most i : ℕ) : Type 0 where
@@ -61,7 +61,7 @@ module _ (s : Shifts) (limit row col down across group most : ℕ) (l : Line s r
   walk-ends i w h = sym (leading-is found most most (omega arith) (λ j p. w .hold j (omega arith) p) (inl refl))
 
 -- a place in luma samples, some steps on
-pub span : (x i room step : ℕ) → i < room → x + room * step ≤ 4096 → Step step → (i * step ≤ 4096) × (x + i * step < 4096)
+pub span : (x i room step : ℕ) → i < room → x + room * step ≤ 4096 → Subsampling step → (i * step ≤ 4096) × (x + i * step < 4096)
 span x i room step h b t =
     let pos : 0 < step = ⊎-elim (λ e. omega arith) (λ e. omega arith) t in
     let m : suc i * step ≤ room * step = mul-le-mul-right step h in
@@ -78,7 +78,7 @@ edge-count f g most room same end =
     sym (leading-cut f g most (min most room) (omega arith) (λ i q. same i (omega arith)) (λ q. ap f (let e : min most room ≡ room = omega arith in e) ∙ end))
 
 module _ (s : Shifts) (e : Site) (unit n : ℕ) (p : Sited s e unit n) where
-  same-cells : (x step g i : ℕ) → Step step → Lies n step x → g ≡ groupOf unit step n → (x + i * step) / 2 ^ s .unit ≡ (x + i / g * g * step) / 2 ^ s .unit
+  same-cells : (x step g i : ℕ) → Subsampling step → OnGrid n step x → g ≡ groupOf unit step n → (x + i * step) / 2 ^ s .unit ≡ (x + i / g * g * step) / 2 ^ s .unit
   same-cells x step g i t l eg =
       ap₂ (λ (v u : ℕ). (v + i * step) / u) (l .on) (p .shift)
       ∙ same-group unit step n (l .sample) i (p .units) t (p .size) (l .whole)
@@ -86,7 +86,7 @@ module _ (s : Shifts) (e : Site) (unit n : ℕ) (p : Sited s e unit n) where
       ∙ ap (λ (v : ℕ). (v + i / g * g * step) / 2 ^ s .unit) (sym (l .on))
 
   -- an edge, by the step that is not 0, the places that it passes, and that those of a group share a cell
-  edge : (r c down across step room : ℕ) → down + across ≡ step → Step step
+  edge : (r c down across step room : ℕ) → down + across ≡ step → Subsampling step
       → ((i : ℕ) → i < room → (i * down ≤ 4096) × (i * across ≤ 4096) × (r + i * down < 4096) × (c + i * across < 4096))
       → ((g i : ℕ) → g ≡ groupOf unit step n → numberBy s (r + i * down) (c + i * across) ≡ numberBy s (r + i / g * g * down) (c + i / g * g * across))
       → Edge s r c down across unit n room
@@ -115,19 +115,19 @@ module _ (s : Shifts) (e : Site) (unit n : ℕ) (p : Sited s e unit n) where
       (omega arith, a .0, omega arith, a .1))
       (λ g i eg. ap₂ (λ (y x : ℕ). zScan (s .levels) (s .ctus) x (y / 2 ^ s .unit)) (still (e .above .0) i g) (same-cells (e .col .0) (e .across) g i (p .acrosses) (p .col-at) eg))
 
-  pub above-none : (limit : ℕ) → e .row .0 ≡ 0 → 0 ≡ leading (aboveBy s e limit) (2 * n + 1)
-  above-none limit z = sym (leading-none (aboveBy s e limit) (2 * n + 1) (ap (λ (r : ℕ). ltb 0 r && ltb 0 (e .cols) && ltb (numberBy s (e .above .0) (e .col .0 + 0 * e .across)) limit) z))
+  pub above-none : (limit : ℕ) → e .row .0 ≡ 0 → 0 ≡ leading (aboveThere s e limit) (2 * n + 1)
+  above-none limit z = sym (leading-none (aboveThere s e limit) (2 * n + 1) (ap (λ (r : ℕ). ltb 0 r && ltb 0 (e .cols) && ltb (numberBy s (e .above .0) (e .col .0 + 0 * e .across)) limit) z))
 
   pub above-count : (limit : ℕ) → 0 < e .row .0
-      → leading (onLine s limit (e .above .0) (e .col .0) 0 (e .across)) (min (2 * n + 1) (e .cols)) ≡ leading (aboveBy s e limit) (2 * n + 1)
-  above-count limit h = edge-count (aboveBy s e limit) _ (2 * n + 1) (e .cols) there past
+      → leading (lineThere s limit (e .above .0) (e .col .0) 0 (e .across)) (min (2 * n + 1) (e .cols)) ≡ leading (aboveThere s e limit) (2 * n + 1)
+  above-count limit h = edge-count (aboveThere s e limit) _ (2 * n + 1) (e .cols) there past
     where
-      there : (i : ℕ) → i < e .cols → aboveBy s e limit i ≡ onLine s limit (e .above .0) (e .col .0) 0 (e .across) i
+      there : (i : ℕ) → i < e .cols → aboveThere s e limit i ≡ lineThere s limit (e .above .0) (e .col .0) 0 (e .across) i
       there i q =
           simp (lt-ltb 0 (e .row .0) h, lt-ltb i (e .cols) q)
           (ap (λ (y : ℕ). ltb (numberBy s y (e .col .0 + i * e .across)) limit) (let w : e .above .0 ≡ e .above .0 + i * 0 = omega arith in w))
 
-      past : aboveBy s e limit (e .cols) ≡ false
+      past : aboveThere s e limit (e .cols) ≡ false
       past = simp (lt-ltb 0 (e .row .0) h, le-ltb (e .cols) (e .cols) (omega arith))
 
   -- the left column
@@ -140,24 +140,24 @@ module _ (s : Shifts) (e : Site) (unit n : ℕ) (p : Sited s e unit n) where
       (a .0, omega arith, a .1, omega arith))
       (λ g i eg. ap₂ (λ (y x : ℕ). zScan (s .levels) (s .ctus) (x / 2 ^ s .unit) y) (same-cells (e .row .0) (e .down) g i (p .downs) (p .row-at) eg) (still (e .left .0) i g))
 
-  pub left-none : (limit : ℕ) → e .col .0 ≡ 0 → 0 ≡ leading (leftBy s e limit) (2 * n + 1)
-  left-none limit z = sym (leading-none (leftBy s e limit) (2 * n + 1) (ap (λ (c : ℕ). ltb 0 c && ltb 0 (e .rows) && ltb (numberBy s (e .row .0 + 0 * e .down) (e .left .0)) limit) z))
+  pub left-none : (limit : ℕ) → e .col .0 ≡ 0 → 0 ≡ leading (leftThere s e limit) (2 * n + 1)
+  left-none limit z = sym (leading-none (leftThere s e limit) (2 * n + 1) (ap (λ (c : ℕ). ltb 0 c && ltb 0 (e .rows) && ltb (numberBy s (e .row .0 + 0 * e .down) (e .left .0)) limit) z))
 
   pub left-count : (limit : ℕ) → 0 < e .col .0
-      → leading (onLine s limit (e .row .0) (e .left .0) (e .down) 0) (min (2 * n + 1) (e .rows)) ≡ leading (leftBy s e limit) (2 * n + 1)
-  left-count limit h = edge-count (leftBy s e limit) _ (2 * n + 1) (e .rows) there past
+      → leading (lineThere s limit (e .row .0) (e .left .0) (e .down) 0) (min (2 * n + 1) (e .rows)) ≡ leading (leftThere s e limit) (2 * n + 1)
+  left-count limit h = edge-count (leftThere s e limit) _ (2 * n + 1) (e .rows) there past
     where
-      there : (i : ℕ) → i < e .rows → leftBy s e limit i ≡ onLine s limit (e .row .0) (e .left .0) (e .down) 0 i
+      there : (i : ℕ) → i < e .rows → leftThere s e limit i ≡ lineThere s limit (e .row .0) (e .left .0) (e .down) 0 i
       there i q =
           simp (lt-ltb 0 (e .col .0) h, lt-ltb i (e .rows) q)
           (ap (λ (x : ℕ). ltb (numberBy s (e .row .0 + i * e .down) x) limit) (let w : e .left .0 ≡ e .left .0 + i * 0 = omega arith in w))
 
-      past : leftBy s e limit (e .rows) ≡ false
+      past : leftThere s e limit (e .rows) ≡ false
       past = simp (lt-ltb 0 (e .col .0) h, le-ltb (e .rows) (e .rows) (omega arith))
 
   -- the corner
-  pub corner-side : (limit : ℕ) → 0 < e .row .0 → e .col .0 ≡ 0 → false ≡ cornerBy s e limit
+  pub corner-side : (limit : ℕ) → 0 < e .row .0 → e .col .0 ≡ 0 → false ≡ cornerThere s e limit
   corner-side limit h z = sym (simp (lt-ltb 0 (e .row .0) h, le-ltb 0 (e .col .0) (omega arith)))
 
-  pub corner-is : (limit v : ℕ) → 0 < e .row .0 → 0 < e .col .0 → v ≡ numberBy s (e .above .0) (e .left .0) → ltb v limit ≡ cornerBy s e limit
+  pub corner-is : (limit v : ℕ) → 0 < e .row .0 → 0 < e .col .0 → v ≡ numberBy s (e .above .0) (e .left .0) → ltb v limit ≡ cornerThere s e limit
   corner-is limit v hr hc q = ap (λ (x : ℕ). ltb x limit) q ∙ sym (ap₂ (λ (a b : Bool). a && b && ltb (numberBy s (e .above .0) (e .left .0)) limit) (lt-ltb 0 (e .row .0) hr) (lt-ltb 0 (e .col .0) hc))

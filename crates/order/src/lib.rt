@@ -11,10 +11,10 @@ ghost use Rattle.h265.specs.Order.{zScan};
 ghost use Rattle.order.specs.Order.{placeOk, orderNo, decodeOrder, before, isAvailable};
 ghost use Rattle.order.specs.Good.{Good, Power, Small, shiftsOf};
 ghost use Rattle.order.specs.Reach.{leading, inPlane, reachBy, lumaHas, lumaReachNo, lumaReach};
-ghost use Rattle.order.specs.Reach.{colour, chromaBlockOk, chromaHas, chromaReachNo, chromaReach};
-ghost use Rattle.order.specs.Edges.{onLine, groupOf, Line, Edge, aboveBy, leftBy, cornerBy, edgesOf, Sited};
+ghost use Rattle.order.specs.Reach.{hasChroma, chromaBlockOk, chromaHas, chromaReachNo, chromaReach};
+ghost use Rattle.order.specs.Edges.{lineThere, groupOf, Line, Edge, aboveThere, leftThere, cornerThere, edgesOf, Sited};
 ghost use Rattle.order.specs.Blocks.{lumaSite, chromaSite};
-ghost use Rattle.fmt.specs.Fmt.{Step};
+ghost use Rattle.fmt.specs.Fmt.{Subsampling};
 ghost use Rattle.domain.specs.Facts.{Size};
 use domain::helpers;
 use fmt::ChromaCol;
@@ -243,7 +243,7 @@ fn leads(
     most: usize,
 ) -> usize
     requires { ⌜ Line s row col down across group most ⌝ }
-    ensures { λ r. ⌜ r ≡ leading (onLine s limit row col down across) most ⌝ }
+    ensures { λ r. ⌜ r ≡ leading (lineThere s limit row col down across) most ⌝ }
 {
     let mut i = 0;
     while i < most {
@@ -257,7 +257,7 @@ fn leads(
 
 // How many samples of a block's edge share a cell: those of the unit, but no more than the block's side.
 fn group_of(unit: usize, step: usize, n: usize) -> usize
-    requires { ⌜ Step step ⌝ }
+    requires { ⌜ Subsampling step ⌝ }
     ensures { λ r. ⌜ r ≡ groupOf unit step n ⌝ }
 {
     if step == 2 {
@@ -280,7 +280,7 @@ fn edge_reach(
     room: usize,
 ) -> usize
     requires { ⌜ Edge s row col down across unit n room ⌝ }
-    ensures { λ r. ⌜ r ≡ leading (onLine s limit row col down across) (min (2 * n + 1) room) ⌝ }
+    ensures { λ r. ⌜ r ≡ leading (lineThere s limit row col down across) (min (2 * n + 1) room) ⌝ }
 {
     let group = group_of(unit, down + across, n);
     let most = helpers::min_len(2 * n + 1, room);
@@ -290,7 +290,7 @@ fn edge_reach(
 // How many entries of the row above a block are there.
 fn above_reach(s: Shifts, e: Site, unit: usize, n: usize, limit: usize) -> usize
     requires { ⌜ Sited s e unit n ⌝ }
-    ensures { λ r. ⌜ r ≡ leading (aboveBy s e limit) (2 * n + 1) ⌝ }
+    ensures { λ r. ⌜ r ≡ leading (aboveThere s e limit) (2 * n + 1) ⌝ }
 {
     if e.row.0 == 0 {
         return 0;
@@ -303,7 +303,7 @@ fn above_reach(s: Shifts, e: Site, unit: usize, n: usize, limit: usize) -> usize
 // How many entries of the column left of a block are there.
 fn left_reach(s: Shifts, e: Site, unit: usize, n: usize, limit: usize) -> usize
     requires { ⌜ Sited s e unit n ⌝ }
-    ensures { λ r. ⌜ r ≡ leading (leftBy s e limit) (2 * n + 1) ⌝ }
+    ensures { λ r. ⌜ r ≡ leading (leftThere s e limit) (2 * n + 1) ⌝ }
 {
     if e.col.0 == 0 {
         return 0;
@@ -316,7 +316,7 @@ fn left_reach(s: Shifts, e: Site, unit: usize, n: usize, limit: usize) -> usize
 // Whether the corner of a block is there.
 fn corner_there(s: Shifts, e: Site, unit: usize, n: usize, limit: usize) -> bool
     requires { ⌜ Sited s e unit n ⌝ }
-    ensures { λ r. ⌜ r ≡ cornerBy s e limit ⌝ }
+    ensures { λ r. ⌜ r ≡ cornerThere s e limit ⌝ }
 {
     if e.row.0 == 0 {
         return false;
@@ -351,7 +351,7 @@ fn in_plane(height: usize, width: usize, row: u32, col: u32, n: usize) -> bool
 }
 
 // The number that refuses a luma block, or 0.
-fn luma_no(b: LumaBlock) -> u32
+fn luma_reach_no(b: LumaBlock) -> u32
     ensures { λ r. ⌜ r ≡ lumaReachNo b ⌝ }
 {
     let p = b.picture;
@@ -423,7 +423,7 @@ fn luma_work(b: LumaBlock) -> Reach
 pub fn luma_reach(b: LumaBlock) -> Reach
     ensures { λ r. ⌜ r ≡ lumaReach b ⌝ }
 {
-    let no = luma_no(b);
+    let no = luma_reach_no(b);
     if no != 0 {
         return Reach {
             no,
@@ -437,7 +437,7 @@ pub fn luma_reach(b: LumaBlock) -> Reach
 
 // Whether a format has chroma planes.
 fn has_chroma(f: ChromaFormat) -> bool
-    ensures { λ r. ⌜ r ≡ colour f ⌝ }
+    ensures { λ r. ⌜ r ≡ hasChroma f ⌝ }
 {
     match f {
         ChromaFormat::Monochrome => false,
@@ -467,7 +467,7 @@ fn chroma_block_ok(p: Picture, f: ChromaFormat, row: ChromaRow, col: ChromaCol, 
 }
 
 // The number that refuses a chroma block, or 0.
-fn chroma_no(b: ChromaBlock) -> u32
+fn chroma_reach_no(b: ChromaBlock) -> u32
     ensures { λ r. ⌜ r ≡ chromaReachNo b ⌝ }
 {
     let p = b.picture;
@@ -527,7 +527,7 @@ fn chroma_work(b: ChromaBlock) -> Reach
 pub fn chroma_reach(b: ChromaBlock) -> Reach
     ensures { λ r. ⌜ r ≡ chromaReach b ⌝ }
 {
-    let no = chroma_no(b);
+    let no = chroma_reach_no(b);
     if no != 0 {
         return Reach {
             no,

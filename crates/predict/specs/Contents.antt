@@ -17,7 +17,7 @@ use Rattle.domain.specs.declared.rows.Rows.{Rows}
 use Rattle.domain.specs.rows.Neighbours.{neighboursOf}
 use Rattle.smooth.specs.Smoothing.{smoothed}
 use Rattle.smooth.specs.Standard.{is-standard}
-use Rattle.predict.specs.luma_rows.LumaRows.{lumaRows}
+use Rattle.predict.specs.luma_rows.LumaRows.{preparedRows}
 use Rattle.predict.specs.modes.Modes.{byMode, plain, is-by-mode, by-mode-alone}
 
 -- chroma of the first edition; how it is sampled, here 4:2:0, plays no part once the neighbours are there
@@ -36,14 +36,14 @@ module _ (bits n mode : ℕ) (s : Size n) (d : List ℕ) where
       rows-same _ _ n n d (λ y x hy hx. sym (chroma-plain (chromaAt bits) true n mode nb x y refl refl)) (omega arith)
 
   -- luma's rows are the neighbours that the standard prepares, as far as a sample reads
-  rows-agree : (rows : Rows) → Agree n (neighboursOf (lumaRows bits n mode rows)) (prepared (lumaAt bits) firstEditionStrong n mode (neighboursOf rows))
-  unfolding lumaRows prepared filters
+  rows-agree : (rows : Rows) → Agree n (neighboursOf (preparedRows bits n mode rows)) (prepared (lumaAt bits) firstEditionStrong n mode (neighboursOf rows))
+  unfolding preparedRows prepared filters
   rows-agree rows = go (filterFlag n mode) where
     go : (t : Bool) → Agree n (neighboursOf (cond t (smoothed true bits n (rows .corner) (rows .above) (rows .left)) rows)) (cond t (filtered true bits n (neighboursOf rows)) (neighboursOf rows))
     go true = is-standard true bits n (rows .corner) (rows .above) (rows .left) (size-small n s .1)
     go false = record { corner = refl; above = λ i h. refl; left = λ i h. refl }
 
-  pub luma-block : mode ≤ 34 → (rows : Rows) → block (λ (y x : ℕ). byMode bits true true n mode (neighboursOf (lumaRows bits n mode rows)) x y) n d ≡ block (λ (y x : ℕ). predSamples (lumaAt bits) firstEditionStrong n mode (neighboursOf rows) x y) n d
+  pub luma-block : mode ≤ 34 → (rows : Rows) → block (λ (y x : ℕ). byMode bits true true n mode (neighboursOf (preparedRows bits n mode rows)) x y) n d ≡ block (λ (y x : ℕ). predSamples (lumaAt bits) firstEditionStrong n mode (neighboursOf rows) x y) n d
   luma-block m rows =
       let h = size-small n s in
       rows-same _ _ n n d

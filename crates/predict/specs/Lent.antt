@@ -9,7 +9,7 @@ use denote.Triple.Both.{Both}
 use Rattle.laws.specs.Fill.{block}
 use Rattle.laws.specs.Choose.{served}
 use Rattle.h265.specs.Notation.{Neighbours, fromRows}
-use Rattle.predict.specs.refusals.Refusals.{Lent, lengths}
+use Rattle.predict.specs.refusals.Refusals.{Lengths, lengths}
 use Rattle.predict.specs.declared.scratch.AngularScratch.{AngularScratch}
 
 -- a slice that a call is lent, as its parameter stands in an `ensures`: at entry and at exit
@@ -22,10 +22,10 @@ len s = length (now (s .entry))
 
 -- what a call lends, where its rows and its block are so long: with three lent tables, and with the scratch struct, whose tables
 -- have the lengths of their types, so that only the rows and the block can be short
-abbrev pub withTables : ℕ → ℕ → ℕ → Slice → Slice → Slice → Lent
+abbrev pub withTables : ℕ → ℕ → ℕ → Slice → Slice → Slice → Lengths
 withTables above left pred refs indices fractions = lengths above left pred (len refs) (len indices) (len fractions)
 
-abbrev pub withScratch : ℕ → ℕ → ℕ → Lent
+abbrev pub withScratch : ℕ → ℕ → ℕ → Lengths
 withScratch above left pred = lengths above left pred 193 32 32
 
 -- entry i when the call began
@@ -33,8 +33,8 @@ abbrev pub entryAt : Slice → ℕ → ℕ
 entryAt s i = getD (now (s .entry)) i 0
 
 -- the neighbours in two lent rows
-abbrev pub neighbours : ℕ → Slice → Slice → Neighbours
-neighbours corner above left = fromRows corner (now (above .entry)) (now (left .entry))
+abbrev pub lentNeighbours : ℕ → Slice → Slice → Neighbours
+lentNeighbours corner above left = fromRows corner (now (above .entry)) (now (left .entry))
 
 -- the block after a call that answers r: `samples x y` at row y and column x where it is served, and as it was where it is refused
 abbrev pub Predicts : ℕ → ℕ → (ℕ → ℕ → ℕ) → Slice → Type 0

@@ -11,11 +11,11 @@ ghost use Rattle.h265.specs.Angular.{angular};
 ghost use Rattle.domain.specs.Facts.{Depth, Size};
 ghost use Rattle.samples.specs.taps.Taps.{interpOf, edgeOf};
 ghost use Rattle.predict.specs.refusals.Refusals.{angularNo};
-ghost use Rattle.predict.specs.Lent.{len, entryAt, withTables, neighbours, Predicts, Untouched};
-ghost use Rattle.predict.specs.angular.Unsigned.{sideOf, refAt, sampleAt, angularAt};
+ghost use Rattle.predict.specs.Lent.{len, entryAt, withTables, lentNeighbours, Predicts, Untouched};
+ghost use Rattle.predict.specs.angular.Unsigned.{sideOf, refAt, verticalAt, angularAt};
 ghost use Rattle.predict.specs.angles.Starts.{lineStart, fractionOf, firstOf};
 ghost use Rattle.predict.specs.angles.Angles.{turns, bends};
-ghost use Rattle.predict.specs.angular.Lines.{lineAt, Reads};
+ghost use Rattle.predict.specs.angular.Lines.{lineAt, LineReads};
 ghost use Rattle.predict.specs.angular.Grid.{column};
 use crate::angles;
 use crate::boundary;
@@ -81,7 +81,7 @@ fn row(refs: &[u16], s: usize, f: u32, n: usize, at: usize, pred: &mut [u16])
 
 // The rows of a vertical mode.
 fn down_n(refs: &[u16], b: usize, e: usize, n: usize, pred: &mut [u16])
-    requires { ⌜ (e < 64) × Reads b e n (length (now refs)) (length (now pred)) ⌝ }
+    requires { ⌜ (e < 64) × LineReads b e n (length (now refs)) (length (now pred)) ⌝ }
     ensures { λ _. ⌜ now (pred .exit) ≡ block (lineAt (now (refs .entry)) b e) n (now (pred .entry)) ⌝ }
 {
     for r in 0..n {
@@ -91,7 +91,7 @@ fn down_n(refs: &[u16], b: usize, e: usize, n: usize, pred: &mut [u16])
 
 // A row of four is too short for wide stores, a block of four by four is not.
 fn mix_rows(refs: &[u16], b: usize, e: usize, n: usize, pred: &mut [u16])
-    requires { ⌜ (e < 64) × Reads b e n (length (now refs)) (length (now pred)) ⌝ }
+    requires { ⌜ (e < 64) × LineReads b e n (length (now refs)) (length (now pred)) ⌝ }
     ensures { λ _. ⌜ now (pred .exit) ≡ block (lineAt (now (refs .entry)) b e) n (now (pred .entry)) ⌝ }
 {
     for r in 0..n {
@@ -100,7 +100,7 @@ fn mix_rows(refs: &[u16], b: usize, e: usize, n: usize, pred: &mut [u16])
 }
 
 fn down_4(refs: &[u16], b: usize, e: usize, pred: &mut [u16])
-    requires { ⌜ (e < 64) × Reads b e 4 (length (now refs)) (length (now pred)) ⌝ }
+    requires { ⌜ (e < 64) × LineReads b e 4 (length (now refs)) (length (now pred)) ⌝ }
     ensures { λ _. ⌜ now (pred .exit) ≡ block (lineAt (now (refs .entry)) b e) 4 (now (pred .entry)) ⌝ }
 {
     let mut t = [0u16; 16];
@@ -110,7 +110,7 @@ fn down_4(refs: &[u16], b: usize, e: usize, pred: &mut [u16])
 
 // A loop for each size, so that the compiler knows how long a row is.
 fn down(refs: &[u16], b: usize, e: usize, n: usize, pred: &mut [u16])
-    requires { ⌜ Size n × ((e < 64) × Reads b e n (length (now refs)) (length (now pred))) ⌝ }
+    requires { ⌜ Size n × ((e < 64) × LineReads b e n (length (now refs)) (length (now pred))) ⌝ }
     ensures { λ _. ⌜ now (pred .exit) ≡ block (lineAt (now (refs .entry)) b e) n (now (pred .entry)) ⌝ }
 {
     match n {
@@ -123,7 +123,7 @@ fn down(refs: &[u16], b: usize, e: usize, n: usize, pred: &mut [u16])
 
 // Angles of whole references: each row is copied.
 fn copies_n(refs: &[u16], b: usize, e: usize, n: usize, pred: &mut [u16])
-    requires { ⌜ (e % 32 ≡ 0) × Reads b e n (length (now refs)) (length (now pred)) ⌝ }
+    requires { ⌜ (e % 32 ≡ 0) × LineReads b e n (length (now refs)) (length (now pred)) ⌝ }
     ensures { λ _. ⌜ now (pred .exit) ≡ block (lineAt (now (refs .entry)) b e) n (now (pred .entry)) ⌝ }
 {
     for r in 0..n {
@@ -132,7 +132,7 @@ fn copies_n(refs: &[u16], b: usize, e: usize, n: usize, pred: &mut [u16])
 }
 
 fn copies(refs: &[u16], b: usize, e: usize, n: usize, pred: &mut [u16])
-    requires { ⌜ Size n × ((e % 32 ≡ 0) × Reads b e n (length (now refs)) (length (now pred))) ⌝ }
+    requires { ⌜ Size n × ((e % 32 ≡ 0) × LineReads b e n (length (now refs)) (length (now pred))) ⌝ }
     ensures { λ _. ⌜ now (pred .exit) ≡ block (lineAt (now (refs .entry)) b e) n (now (pred .entry)) ⌝ }
 {
     match n {
@@ -164,7 +164,7 @@ fn col(refs: &[u16], s: usize, f: u32, n: usize, c: usize, pred: &mut [u16])
 }
 
 fn across_n(refs: &[u16], b: usize, e: usize, n: usize, pred: &mut [u16])
-    requires { ⌜ (0 < n) × ((e < 64) × Reads b e n (length (now refs)) (length (now pred))) ⌝ }
+    requires { ⌜ (0 < n) × ((e < 64) × LineReads b e n (length (now refs)) (length (now pred))) ⌝ }
     ensures { λ _. ⌜ now (pred .exit)
         ≡ block (λ (r c : ℕ). lineAt (now (refs .entry)) b e c r) n (now (pred .entry)) ⌝ }
 {
@@ -174,7 +174,7 @@ fn across_n(refs: &[u16], b: usize, e: usize, n: usize, pred: &mut [u16])
 }
 
 fn across(refs: &[u16], b: usize, e: usize, n: usize, pred: &mut [u16])
-    requires { ⌜ Size n × ((e < 64) × Reads b e n (length (now refs)) (length (now pred))) ⌝ }
+    requires { ⌜ Size n × ((e < 64) × LineReads b e n (length (now refs)) (length (now pred))) ⌝ }
     ensures { λ _. ⌜ now (pred .exit)
         ≡ block (λ (r c : ℕ). lineAt (now (refs .entry)) b e c r) n (now (pred .entry)) ⌝ }
 {
@@ -314,7 +314,7 @@ fn build(corner: u16, main: &[u16], side: &[u16], e: usize, inv: usize, n: usize
     requires { ⌜ (e < 32) × ((sideOf inv (firstOf e n) ≤ 2 * n) × (Size n × ((2 * n ≤ length (now main))
         × ((2 * n ≤ length (now side)) × (65 + n ≤ length (now refs)))))) ⌝ }
     ensures { λ _. ⌜ now (refs .exit)
-        ≡ run (λ (i : ℕ). refAt (neighbours corner main side) inv (firstOf e n + i))
+        ≡ run (λ (i : ℕ). refAt (lentNeighbours corner main side) inv (firstOf e n + i))
         (firstOf e n) (65 + n - firstOf e n) (now (refs .entry)) ⌝ }
 {
     let lo = angles::first(e as u32, n as u32);
@@ -336,7 +336,7 @@ fn vertical(
     requires { ⌜ Size n × ((d < 17) × ((2 * n ≤ length (now main)) × ((2 * n ≤ length (now side))
         × ((n * n ≤ length (now pred)) × (65 + n ≤ length (now refs)))))) ⌝ }
     ensures { λ _. ⌜ now (pred .exit)
-        ≡ block (sampleAt (neighbours corner main side) (getD turns d 0) (getD bends d 0)) n (now (pred .entry)) ⌝ }
+        ≡ block (verticalAt (lentNeighbours corner main side) (getD turns d 0) (getD bends d 0)) n (now (pred .entry)) ⌝ }
 {
     let e = angles::turn(d);
     if d < 8 {
@@ -368,7 +368,7 @@ fn horizontal(
     requires { ⌜ Size n × ((d < 17) × ((2 * n ≤ length (now main)) × ((2 * n ≤ length (now side))
         × ((n * n ≤ length (now pred)) × (65 + n ≤ length (now refs)))))) ⌝ }
     ensures { λ _. ⌜ now (pred .exit)
-        ≡ block (λ (r c : ℕ). sampleAt (neighbours corner main side) (getD turns d 0) (getD bends d 0) c r) n
+        ≡ block (λ (r c : ℕ). verticalAt (lentNeighbours corner main side) (getD turns d 0) (getD bends d 0) c r) n
         (now (pred .entry)) ⌝ }
 {
     let e = angles::turn(d);
@@ -397,7 +397,7 @@ fn pure_vertical(
     requires { ⌜ Depth bits × (Size n × ((2 * n ≤ length (now above)) × ((2 * n ≤ length (now left))
         × (n * n ≤ length (now pred))))) ⌝ }
     ensures { λ _. ⌜ now (pred .exit)
-        ≡ block (λ (y x : ℕ). angularAt bits edge n 26 (neighbours corner above left) x y) n (now (pred .entry)) ⌝ }
+        ≡ block (λ (y x : ℕ). angularAt bits edge n 26 (lentNeighbours corner above left) x y) n (now (pred .entry)) ⌝ }
 {
     copies(above, 0, 32, n, &mut *pred);
     if boundary::filtered(edge, n) {
@@ -424,7 +424,7 @@ fn pure_horizontal(
     requires { ⌜ Depth bits × (Size n × ((2 * n ≤ length (now above)) × ((2 * n ≤ length (now left))
         × (n * n ≤ length (now pred))))) ⌝ }
     ensures { λ _. ⌜ now (pred .exit)
-        ≡ block (λ (y x : ℕ). angularAt bits edge n 10 (neighbours corner above left) x y) n (now (pred .entry)) ⌝ }
+        ≡ block (λ (y x : ℕ). angularAt bits edge n 10 (lentNeighbours corner above left) x y) n (now (pred .entry)) ⌝ }
 {
     flats(left, n, &mut *pred);
     if boundary::filtered(edge, n) {
@@ -453,7 +453,7 @@ pub(crate) fn angular_block(
     requires { ⌜ Depth bits × (Size n × ((2 ≤ mode) × ((mode < 35) × ((2 * n ≤ length (now above))
         × ((2 * n ≤ length (now left)) × ((n * n ≤ length (now pred)) × (65 + n ≤ length (now refs)))))))) ⌝ }
     ensures { λ _. ⌜ now (pred .exit)
-        ≡ block (λ (y x : ℕ). angular bits edge n mode (neighbours corner above left) x y) n (now (pred .entry)) ⌝ }
+        ≡ block (λ (y x : ℕ). angular bits edge n mode (lentNeighbours corner above left) x y) n (now (pred .entry)) ⌝ }
 {
     match mode {
         10 => pure_horizontal(corner, above, left, n, edge, bits, &mut *pred),
@@ -484,7 +484,7 @@ pub fn predict_angular_slices(
     fractions: &mut [u32],
 ) -> u32
     ensures { λ r. ⌜ (r ≡ angularNo bits n mode (withTables (len above) (len left) (len pred) refs indices fractions))
-        × (Predicts r n (angular bits «filter_boundary» n mode (neighbours corner above left)) pred
+        × (Predicts r n (angular bits «filter_boundary» n mode (lentNeighbours corner above left)) pred
         × ((r ≡ 0 → ⊥) → Untouched refs indices fractions)) ⌝ }
 {
     let no = refusals::angular_no(

@@ -4,9 +4,9 @@ ghost use mathlib.Core.Path.{_≡_};
 ghost use Prim.Native.Nat.{ℕ};
 ghost use lib.ListN.{length};
 ghost use Rattle.laws.specs.Fill.{block};
-ghost use Rattle.predict.specs.Lent.{neighbours};
+ghost use Rattle.predict.specs.Lent.{lentNeighbours};
 ghost use Rattle.predict.specs.modes.Modes.{byMode};
-ghost use Rattle.predict.specs.by_mode.Door.{Given};
+ghost use Rattle.predict.specs.by_mode.Door.{ModeReady};
 use crate::angular;
 use crate::planar_dc;
 
@@ -22,9 +22,9 @@ pub(crate) fn by_mode(
     pred: &mut [u16],
     refs: &mut [u16],
 )
-    requires { ⌜ Given bits n mode (length (now above)) (length (now left)) (length (now pred)) (length (now refs)) ⌝ }
+    requires { ⌜ ModeReady bits n mode (length (now above)) (length (now left)) (length (now pred)) (length (now refs)) ⌝ }
     ensures { λ _. ⌜ now (pred .exit)
-        ≡ block (λ (y x : ℕ). byMode bits edge edge n mode (neighbours corner above left) x y) n (now (pred .entry)) ⌝ }
+        ≡ block (λ (y x : ℕ). byMode bits edge edge n mode (lentNeighbours corner above left) x y) n (now (pred .entry)) ⌝ }
 {
     match mode {
         0 => planar_dc::planar_block(above, left, n, &mut *pred),

@@ -18,7 +18,7 @@ ghost use Rattle.h265.specs.Prediction.{predSamples};
 ghost use Rattle.domain.specs.rows.Neighbours.{neighboursOf};
 ghost use Rattle.predict.specs.refusals.Refusals.{predictNo};
 ghost use Rattle.predict.specs.Contents.{chromaAt};
-ghost use Rattle.predict.specs.Lent.{len, withTables, neighbours, Predicts, Untouched};
+ghost use Rattle.predict.specs.Lent.{len, withTables, lentNeighbours, Predicts, Untouched};
 use domain::rows;
 
 // A chroma block: nothing is smoothed, and no edge is filtered. The last three slices are scratch.
@@ -35,7 +35,7 @@ pub fn predict_chroma_tb_slices(
     fractions: &mut [u32],
 ) -> u32
     ensures { λ r. ⌜ (r ≡ predictNo bits n mode (withTables (len above) (len left) (len pred) refs indices fractions))
-        × (Predicts r n (predSamples (chromaAt bits) firstEditionStrong n mode (neighbours corner above left)) pred
+        × (Predicts r n (predSamples (chromaAt bits) firstEditionStrong n mode (lentNeighbours corner above left)) pred
         × ((r ≡ 0 → ⊥) → Untouched refs indices fractions)) ⌝ }
 {
     let no = refusals::predict_no(
@@ -92,7 +92,7 @@ pub fn predict_luma_tb_slices(
         fractions.len(),
     );
     if no == 0 {
-        let used = luma_rows::luma_rows(mode, rows, n, bits);
+        let used = luma_rows::prepared_rows(mode, rows, n, bits);
         let above = used.above;
         let left = used.left;
         by_mode::by_mode(

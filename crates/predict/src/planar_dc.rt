@@ -11,8 +11,8 @@ ghost use Rattle.h265.specs.Dc.{dc};
 ghost use Rattle.domain.specs.Facts.{Size};
 ghost use Rattle.samples.specs.taps.Taps.{blended};
 ghost use Rattle.predict.specs.refusals.Refusals.{flatNo};
-ghost use Rattle.predict.specs.Lent.{len, entryAt, neighbours, Predicts};
-ghost use Rattle.predict.specs.planar_dc.Flat.{Ready, planarMix};
+ghost use Rattle.predict.specs.Lent.{len, entryAt, lentNeighbours, Predicts};
+ghost use Rattle.predict.specs.planar_dc.Flat.{FlatReady, planarSample};
 ghost use Rattle.predict.specs.planar_dc.Text.{Total};
 ghost use Rattle.predict.specs.planar_dc.Stores.{heads};
 ghost use Rattle.predict.specs.planar_dc.Edge.{edges};
@@ -38,7 +38,7 @@ fn planar_sample(
     bottom_left: u16,
 ) -> u16
     requires { ⌜ Size n × ((row < n) × ((col < n) × (n ≤ 32))) ⌝ }
-    ensures { λ r. ⌜ r ≡ planarMix n row col left «top_right» top «bottom_left» ⌝ }
+    ensures { λ r. ⌜ r ≡ planarSample n row col left «top_right» top «bottom_left» ⌝ }
 {
     let h = mix(n - 1 - col, left, col + 1, top_right);
     let v = mix(n - 1 - row, top, row + 1, bottom_left);
@@ -57,7 +57,7 @@ fn planar_row(
 )
     requires { ⌜ Size n × ((row < n) × ((n ≤ 32) × ((n ≤ length (now above)) × (n ≤ length (now out))))) ⌝ }
     ensures { λ _. ⌜ now (out .exit)
-        ≡ fill (λ (x : ℕ). planarMix n row x left «top_right» (entryAt above x) «bottom_left») n (now (out .entry)) ⌝ }
+        ≡ fill (λ (x : ℕ). planarSample n row x left «top_right» (entryAt above x) «bottom_left») n (now (out .entry)) ⌝ }
 {
     for col in 0..n {
         out[col] = planar_sample(
@@ -94,7 +94,7 @@ fn planar_line(
 )
     requires { ⌜ Size n × ((row < n) × ((n ≤ 32) × ((n ≤ length (now above)) × (at + n ≤ length (now pred))))) ⌝ }
     ensures { λ _. ⌜ now (pred .exit)
-        ≡ run (λ (x : ℕ). planarMix n row x left «top_right» (entryAt above x) «bottom_left») at n
+        ≡ run (λ (x : ℕ). planarSample n row x left «top_right» (entryAt above x) «bottom_left») at n
         (now (pred .entry)) ⌝ }
 {
     let mut samples = [0u16; 32];
@@ -103,9 +103,9 @@ fn planar_line(
 }
 
 fn planar_n(above: &[u16], left: &[u16], n: usize, pred: &mut [u16])
-    requires { ⌜ Ready n (length (now above)) (length (now left)) × (n * n ≤ length (now pred)) ⌝ }
+    requires { ⌜ FlatReady n (length (now above)) (length (now left)) × (n * n ≤ length (now pred)) ⌝ }
     ensures { λ _. ⌜ now (pred .exit)
-        ≡ block (λ (y x : ℕ). planar n (neighbours 0 above left) x y) n (now (pred .entry)) ⌝ }
+        ≡ block (λ (y x : ℕ). planar n (lentNeighbours 0 above left) x y) n (now (pred .entry)) ⌝ }
 {
     let top_right = above[n];
     let bottom_left = left[n];
@@ -124,9 +124,9 @@ fn planar_n(above: &[u16], left: &[u16], n: usize, pred: &mut [u16])
 }
 
 pub(crate) fn planar_block(above: &[u16], left: &[u16], n: usize, pred: &mut [u16])
-    requires { ⌜ Ready n (length (now above)) (length (now left)) × (n * n ≤ length (now pred)) ⌝ }
+    requires { ⌜ FlatReady n (length (now above)) (length (now left)) × (n * n ≤ length (now pred)) ⌝ }
     ensures { λ _. ⌜ now (pred .exit)
-        ≡ block (λ (y x : ℕ). planar n (neighbours 0 above left) x y) n (now (pred .entry)) ⌝ }
+        ≡ block (λ (y x : ℕ). planar n (lentNeighbours 0 above left) x y) n (now (pred .entry)) ⌝ }
 {
     match n {
         4 => planar_n(above, left, 4, &mut *pred),
@@ -138,7 +138,7 @@ pub(crate) fn planar_block(above: &[u16], left: &[u16], n: usize, pred: &mut [u1
 
 pub fn predict_planar_into(above: &[u16], left: &[u16], n: usize, pred: &mut [u16]) -> u32
     ensures { λ r. ⌜ (r ≡ flatNo n (len above) (len left) (len pred))
-        × Predicts r n (planar n (neighbours 0 above left)) pred ⌝ }
+        × Predicts r n (planar n (lentNeighbours 0 above left)) pred ⌝ }
 {
     let no = refusals::flat_no(n, above.len(), left.len(), pred.len());
     if no == 0 {
@@ -150,7 +150,7 @@ pub fn predict_planar_into(above: &[u16], left: &[u16], n: usize, pred: &mut [u1
 // The sum of n samples of both rows.
 fn total(above: &[u16], left: &[u16], n: usize) -> u32
     requires { ⌜ (n ≤ 32) × ((n ≤ length (now above)) × (n ≤ length (now left))) ⌝ }
-    ensures { λ r. ⌜ Total (neighbours 0 above left) n r ⌝ }
+    ensures { λ r. ⌜ Total (lentNeighbours 0 above left) n r ⌝ }
 {
     let mut all: u32 = 0;
     for i in 0..n {
@@ -198,7 +198,7 @@ fn edge_column(left: &[u16], dc: u16, n: usize, pred: &mut [u16])
 }
 
 fn edge(above: &[u16], left: &[u16], dc: u16, n: usize, pred: &mut [u16])
-    requires { ⌜ Ready n (length (now above)) (length (now left)) × (n * n ≤ length (now pred)) ⌝ }
+    requires { ⌜ FlatReady n (length (now above)) (length (now left)) × (n * n ≤ length (now pred)) ⌝ }
     ensures { λ _. ⌜ now (pred .exit)
         ≡ edges (λ (x : ℕ). entryAt above x) (λ (y : ℕ). entryAt left y) dc n (now (pred .entry)) ⌝ }
 {
@@ -208,10 +208,10 @@ fn edge(above: &[u16], left: &[u16], dc: u16, n: usize, pred: &mut [u16])
 }
 
 fn dc_n(above: &[u16], left: &[u16], all: u32, n: usize, filter_boundary: bool, pred: &mut [u16])
-    requires { ⌜ (Ready n (length (now above)) (length (now left)) × (n * n ≤ length (now pred)))
+    requires { ⌜ (FlatReady n (length (now above)) (length (now left)) × (n * n ≤ length (now pred)))
         × Total (fromRows 0 (now above) (now left)) n all ⌝ }
     ensures { λ _. ⌜ now (pred .exit)
-        ≡ block (λ (y x : ℕ). dc «filter_boundary» n (neighbours 0 above left) x y) n (now (pred .entry)) ⌝ }
+        ≡ block (λ (y x : ℕ). dc «filter_boundary» n (lentNeighbours 0 above left) x y) n (now (pred .entry)) ⌝ }
 {
     let value = taps::mean(all, n);
     flat_fill(value, n * n, &mut *pred);
@@ -227,9 +227,9 @@ pub(crate) fn dc_block(
     filter_boundary: bool,
     pred: &mut [u16],
 )
-    requires { ⌜ Ready n (length (now above)) (length (now left)) × (n * n ≤ length (now pred)) ⌝ }
+    requires { ⌜ FlatReady n (length (now above)) (length (now left)) × (n * n ≤ length (now pred)) ⌝ }
     ensures { λ _. ⌜ now (pred .exit)
-        ≡ block (λ (y x : ℕ). dc «filter_boundary» n (neighbours 0 above left) x y) n (now (pred .entry)) ⌝ }
+        ≡ block (λ (y x : ℕ). dc «filter_boundary» n (lentNeighbours 0 above left) x y) n (now (pred .entry)) ⌝ }
 {
     let all = total(above, left, n);
     match n {
@@ -248,7 +248,7 @@ pub fn predict_dc_into(
     pred: &mut [u16],
 ) -> u32
     ensures { λ r. ⌜ (r ≡ flatNo n (len above) (len left) (len pred))
-        × Predicts r n (dc «filter_boundary» n (neighbours 0 above left)) pred ⌝ }
+        × Predicts r n (dc «filter_boundary» n (lentNeighbours 0 above left)) pred ⌝ }
 {
     let no = refusals::flat_no(n, above.len(), left.len(), pred.len());
     if no == 0 {

@@ -3,7 +3,7 @@
 ghost use mathlib.Core.Path.{_≡_};
 ghost use Rattle.domain.specs.Domain.{predictorRow};
 ghost use Rattle.domain.specs.Facts.{Size};
-ghost use Rattle.predict.specs.refusals.Refusals.{lengths, enough, flatNo, angularNo, predictNo};
+ghost use Rattle.predict.specs.refusals.Refusals.{lengths, isEnough, flatNo, angularNo, predictNo};
 
 // The least entries of a reference row.
 fn predictor_row(n: usize) -> usize
@@ -27,7 +27,7 @@ pub(crate) fn flat_no(n: usize, a: usize, l: usize, p: usize) -> u32
 }
 
 // Number 5 where tables are lent too: whether each is long enough.
-fn lent(
+fn is_enough(
     n: usize,
     above: usize,
     left: usize,
@@ -37,7 +37,7 @@ fn lent(
     fractions: usize,
 ) -> bool
     requires { ⌜ Size n ⌝ }
-    ensures { λ r. ⌜ r ≡ enough n (lengths above left pred refs indices fractions) ⌝ }
+    ensures { λ r. ⌜ r ≡ isEnough n (lengths above left pred refs indices fractions) ⌝ }
 {
     (above >= 65)
         & (left >= 65)
@@ -70,7 +70,7 @@ pub(crate) fn angular_no(
     if !((mode >= 2) & domain::mode_ok(mode as u32)) {
         return 3;
     }
-    if !lent(n, above, left, pred, refs, indices, fractions) {
+    if !is_enough(n, above, left, pred, refs, indices, fractions) {
         return 5;
     }
     0
@@ -99,7 +99,7 @@ pub(crate) fn predict_no(
     if !domain::mode_ok(mode as u32) {
         return 3;
     }
-    if !lent(n, above, left, pred, refs, indices, fractions) {
+    if !is_enough(n, above, left, pred, refs, indices, fractions) {
         return 5;
     }
     0

@@ -3,7 +3,7 @@
 ghost use mathlib.Core.Path.{_≡_};
 ghost use Rattle.h265.specs.Angular.{angular};
 ghost use Rattle.predict.specs.refusals.Refusals.{angularNo};
-ghost use Rattle.predict.specs.Lent.{len, withScratch, neighbours, Predicts};
+ghost use Rattle.predict.specs.Lent.{len, withScratch, lentNeighbours, Predicts};
 use crate::angular;
 use crate::scratch::AngularScratch;
 
@@ -20,7 +20,7 @@ pub fn predict_angular_into(
     scratch: &mut AngularScratch,
 ) -> u32
     ensures { λ r. ⌜ (r ≡ angularNo bits n mode (withScratch (len above) (len left) (len pred)))
-        × (Predicts r n (angular bits «filter_boundary» n mode (neighbours corner above left)) pred
+        × (Predicts r n (angular bits «filter_boundary» n mode (lentNeighbours corner above left)) pred
         × ((r ≡ 0 → ⊥) → now (scratch .exit) ≡ now (scratch .entry))) ⌝ }
 {
     angular::predict_angular_slices(
@@ -50,7 +50,7 @@ pub fn predict_angular_fresh(
     pred: &mut [u16],
 ) -> u32
     ensures { λ r. ⌜ (r ≡ angularNo bits n mode (withScratch (len above) (len left) (len pred)))
-        × Predicts r n (angular bits «filter_boundary» n mode (neighbours corner above left)) pred ⌝ }
+        × Predicts r n (angular bits «filter_boundary» n mode (lentNeighbours corner above left)) pred ⌝ }
 {
     let mut scratch = AngularScratch::new();
     predict_angular_into(

@@ -7,7 +7,7 @@ ghost use Rattle.h265.specs.Prediction.{predSamples};
 ghost use Rattle.domain.specs.rows.Neighbours.{neighboursOf};
 ghost use Rattle.predict.specs.refusals.Refusals.{predictNo};
 ghost use Rattle.predict.specs.Contents.{chromaAt};
-ghost use Rattle.predict.specs.Lent.{len, withScratch, neighbours, Predicts};
+ghost use Rattle.predict.specs.Lent.{len, withScratch, lentNeighbours, Predicts};
 use crate::scratch::AngularScratch;
 use domain::rows;
 
@@ -23,7 +23,7 @@ pub fn predict_chroma_tb_into(
     scratch: &mut AngularScratch,
 ) -> u32
     ensures { λ r. ⌜ (r ≡ predictNo bits n mode (withScratch (len above) (len left) (len pred)))
-        × (Predicts r n (predSamples (chromaAt bits) firstEditionStrong n mode (neighbours corner above left)) pred
+        × (Predicts r n (predSamples (chromaAt bits) firstEditionStrong n mode (lentNeighbours corner above left)) pred
         × ((r ≡ 0 → ⊥) → now (scratch .exit) ≡ now (scratch .entry))) ⌝ }
 {
     crate::predict_chroma_tb_slices(
@@ -76,7 +76,7 @@ pub fn predict_chroma_tb_fresh(
     pred: &mut [u16],
 ) -> u32
     ensures { λ r. ⌜ (r ≡ predictNo bits n mode (withScratch (len above) (len left) (len pred)))
-        × Predicts r n (predSamples (chromaAt bits) firstEditionStrong n mode (neighbours corner above left)) pred ⌝ }
+        × Predicts r n (predSamples (chromaAt bits) firstEditionStrong n mode (lentNeighbours corner above left)) pred ⌝ }
 {
     let mut scratch = AngularScratch::new();
     predict_chroma_tb_into(mode, corner, above, left, n, bits, pred, &mut scratch)

@@ -67,8 +67,8 @@ abbrev pub onChroma : ℕ → ℕ → ℕ → Place
 onChroma idc row col = chromaPlace row col (formatFrom idc)
 
 -- the order and availability doors' answers, from a picture as bare numbers
-abbrev pub pictureOf : ℕ → ℕ → ℕ → ℕ → Picture
-pictureOf width height ctu unit = record { width = width; height = height; ctu = ctu; unit = unit }
+abbrev pub pictureWith : ℕ → ℕ → ℕ → ℕ → Picture
+pictureWith width height ctu unit = record { width = width; height = height; ctu = ctu; unit = unit }
 
 abbrev pub valueOf : Numbered → Answer
 valueOf a = record { no = a .no; value = a .value }
@@ -81,11 +81,11 @@ abbrev pub flagOf : Flagged → Answer
 flagOf a = record { no = a .no; value = bit (a .yes) }
 
 abbrev pub orderAnswer : ℕ → ℕ → ℕ → ℕ → ℕ → ℕ → Answer
-orderAnswer row col width height ctu unit = valueOf (decodeOrder (pictureOf width height ctu unit) (record { 0 = row }) (record { 0 = col }))
+orderAnswer row col width height ctu unit = valueOf (decodeOrder (pictureWith width height ctu unit) (record { 0 = row }) (record { 0 = col }))
 
 abbrev pub availableAnswer : ℤ → ℤ → ℕ → ℕ → ℕ → ℕ → ℕ → ℕ → Answer
 availableAnswer nr nc row col width height ctu unit =
-    flagOf (isAvailable (pictureOf width height ctu unit) (record { row = nr; col = nc }) (record { 0 = row }) (record { 0 = col }))
+    flagOf (isAvailable (pictureWith width height ctu unit) (record { row = nr; col = nc }) (record { 0 = row }) (record { 0 = col }))
 
 -- the smoothing doors' answers
 abbrev pub ruleOf : Rule → Answer
@@ -114,8 +114,8 @@ gatheredOf a = record { no = a .no; corner = a .rows .corner; above = a .rows .a
 abbrev pub planeOf : GatheredPair → ℕ → Rows
 planeOf a k = getD (a .planes) k (record { corner = 0; above = []; left = [] })
 
-abbrev pub pairOf : GatheredPair → PairReferences
-pairOf a =
+abbrev pub pairReferencesOf : GatheredPair → PairReferences
+pairReferencesOf a =
     record {
       no = a .no;
       «cb_corner» = planeOf a 0 .corner;
@@ -133,4 +133,4 @@ abbrev pub gatherAnswer : List ℕ → LumaRefGeometry → References
 gatherAnswer plane geo = gatheredOf (gather.getReferenceSamples plane geo)
 
 abbrev pub pairAnswer : List ℕ → List ℕ → ChromaRefGeometry → PairReferences
-pairAnswer cb cr geo = pairOf (gather.getReferenceSamplesChromaPair cb cr geo)
+pairAnswer cb cr geo = pairReferencesOf (gather.getReferenceSamplesChromaPair cb cr geo)

@@ -11,7 +11,7 @@ ghost use Rattle.residual.specs.Residual.{residualNo, residualsAfter, reconstru
 ghost use Rattle.h265.specs.Setting.{lumaAt, firstEditionStrong};
 ghost use Rattle.h265.specs.Prediction.{predSamples};
 ghost use Rattle.predict.specs.Contents.{chromaAt};
-ghost use Rattle.predict.specs.Lent.{len, withTables, withScratch, neighbours, Predicts, Untouched};
+ghost use Rattle.predict.specs.Lent.{len, withTables, withScratch, lentNeighbours, Predicts, Untouched};
 use domain::rows::Rows;
 use predict::angular;
 use predict::planar_dc;
@@ -26,7 +26,7 @@ pub extern "C" fn salvrunde_probe_predict_planar_into(
     pred: &mut [u16],
 ) -> u32
     ensures { λ r. ⌜ (r ≡ flatNo n (len above) (len left) (len pred))
-        × Predicts r n (planar n (neighbours 0 above left)) pred ⌝ }
+        × Predicts r n (planar n (lentNeighbours 0 above left)) pred ⌝ }
 {
     planar_dc::predict_planar_into(above, left, n, &mut *pred)
 }
@@ -40,7 +40,7 @@ pub extern "C" fn salvrunde_probe_predict_dc_into(
     pred: &mut [u16],
 ) -> u32
     ensures { λ r. ⌜ (r ≡ flatNo n (len above) (len left) (len pred))
-        × Predicts r n (dc «filter_boundary» n (neighbours 0 above left)) pred ⌝ }
+        × Predicts r n (dc «filter_boundary» n (lentNeighbours 0 above left)) pred ⌝ }
 {
     planar_dc::predict_dc_into(above, left, n, filter_boundary, &mut *pred)
 }
@@ -60,7 +60,7 @@ pub extern "C" fn salvrunde_probe_predict_angular_slices(
     fractions: &mut [u32],
 ) -> u32
     ensures { λ r. ⌜ (r ≡ angularNo bits n mode (withTables (len above) (len left) (len pred) refs indices fractions))
-        × (Predicts r n (angular bits «filter_boundary» n mode (neighbours corner above left)) pred
+        × (Predicts r n (angular bits «filter_boundary» n mode (lentNeighbours corner above left)) pred
         × ((r ≡ 0 → ⊥) → Untouched refs indices fractions)) ⌝ }
 {
     angular::predict_angular_slices(
@@ -119,7 +119,7 @@ pub extern "C" fn salvrunde_probe_predict_chroma_tb_slices(
     fractions: &mut [u32],
 ) -> u32
     ensures { λ r. ⌜ (r ≡ predictNo bits n mode (withTables (len above) (len left) (len pred) refs indices fractions))
-        × (Predicts r n (predSamples (chromaAt bits) firstEditionStrong n mode (neighbours corner above left)) pred
+        × (Predicts r n (predSamples (chromaAt bits) firstEditionStrong n mode (lentNeighbours corner above left)) pred
         × ((r ≡ 0 → ⊥) → Untouched refs indices fractions)) ⌝ }
 {
     predict::predict_chroma_tb_slices(
@@ -150,7 +150,7 @@ pub extern "C" fn salvrunde_probe_predict_luma_tb_slices(
     fractions: &mut [u32],
 ) -> u32
     ensures { λ r. ⌜ (r ≡ predictNo bits n mode (withTables 65 65 (len pred) refs indices fractions))
-        × (Predicts r n (predSamples (lumaAt bits) firstEditionStrong n mode (neighbours corner above left)) pred
+        × (Predicts r n (predSamples (lumaAt bits) firstEditionStrong n mode (lentNeighbours corner above left)) pred
         × ((r ≡ 0 → ⊥) → Untouched refs indices fractions)) ⌝ }
 {
     let rows = Rows {
@@ -183,7 +183,7 @@ pub extern "C" fn salvrunde_probe_predict_angular_scratch(
     pred: &mut [u16],
 ) -> u32
     ensures { λ r. ⌜ (r ≡ angularNo bits n mode (withScratch (len above) (len left) (len pred)))
-        × Predicts r n (angular bits «filter_boundary» n mode (neighbours corner above left)) pred ⌝ }
+        × Predicts r n (angular bits «filter_boundary» n mode (lentNeighbours corner above left)) pred ⌝ }
 {
     scratch_angular::predict_angular_fresh(
         corner,
@@ -208,7 +208,7 @@ pub extern "C" fn salvrunde_probe_predict_chroma_tb_scratch(
     pred: &mut [u16],
 ) -> u32
     ensures { λ r. ⌜ (r ≡ predictNo bits n mode (withScratch (len above) (len left) (len pred)))
-        × Predicts r n (predSamples (chromaAt bits) firstEditionStrong n mode (neighbours corner above left)) pred ⌝ }
+        × Predicts r n (predSamples (chromaAt bits) firstEditionStrong n mode (lentNeighbours corner above left)) pred ⌝ }
 {
     scratch_predict::predict_chroma_tb_fresh(mode, corner, above, left, n, bits, &mut *pred)
 }
@@ -224,7 +224,7 @@ pub extern "C" fn salvrunde_probe_predict_luma_tb_scratch(
     pred: &mut [u16],
 ) -> u32
     ensures { λ r. ⌜ (r ≡ predictNo bits n mode (withScratch 65 65 (len pred)))
-        × Predicts r n (predSamples (lumaAt bits) firstEditionStrong n mode (neighbours corner above left)) pred ⌝ }
+        × Predicts r n (predSamples (lumaAt bits) firstEditionStrong n mode (lentNeighbours corner above left)) pred ⌝ }
 {
     let rows = Rows {
         corner,

@@ -3,7 +3,7 @@
 ghost use mathlib.Core.Path.{_≡_};
 ghost use Rattle.plan.specs.tiling.Plan.{listed};
 ghost use Rattle.walk.specs.Lent.{scratchTables, lentPlan, worldBefore, worldAfter};
-ghost use Rattle.probes.specs.walk_probes.Probes.{planAnswer, stillOf, stepOf, ProbeReplay, ProbeReplayLent, ProbeWalk};
+ghost use Rattle.probes.specs.walk_probes.Probes.{planAnswer, stillOf, stepAnswer, ProbeReplay, ProbeReplayLent, ProbeWalk};
 ghost use Rattle.probes.specs.walk_probes.Probes.{ProbeWalkLent};
 use plan::tiling::Block;
 use plan::tiling::Frame;
@@ -151,7 +151,7 @@ fn still_of(bits: u32, width: u32, height: u32, ctu: u32) -> Still
 }
 
 fn step_answer(a: Stepped) -> StepAnswer
-    ensures { λ r. ⌜ r ≡ stepOf a ⌝ }
+    ensures { λ r. ⌜ r ≡ stepAnswer a ⌝ }
 {
     StepAnswer {
         no: a.no,

@@ -70,15 +70,15 @@ abbrev pub EachServed : ByteJob → Held (List ℕ) → List ByteAsk → Type 0
 EachServed b = AllServed (λ (x : Held (List ℕ)) (a : ByteAsk). byteAfter b x a .number) (byteCall b)
 
 -- what a u8 slice and a u32 hold
-abbrev pub Lent : Held (List ℕ) → Type 0
-Lent x = AreBytes (x .world) × (x .progress .done < 4294967296)
+abbrev pub InType : Held (List ℕ) → Type 0
+InType x = AreBytes (x .world) × (x .progress .done < 4294967296)
 
 -- as many bytes as number 5 asks for: two a sample, four a residual, whole records, eight in a result buffer
 pub record Fits (b : ByteJob) (x : Held (List ℕ)) : Type 0 where
   pub plane : length (x .world) ≡ 2 * (b .still .frame .height * b .still .frame .width)
   pub residuals : length (b .residuals) ≡ 4 * (b .still .frame .height * b .still .frame .width)
   pub records : recordsOf (b .plan) .whole ≡ true
-  pub lent : Lent x
+  pub lent : InType x
 
 abbrev pub Long : ByteAsk → Type 0
 Long a = 8 ≤ length (a .result)
@@ -100,7 +100,7 @@ pub record OnBytes : Type 1 where
       (e : AtExit salvrunde-replay.ended κs)
       → salvrunde-replay-contract.Post κs (done, (bits, (width, (height, (ctu, (grant, (plan, (residuals, (plane, (result, tt)))))))))) r e
       → let still : Still = record { bits = bits; frame = record { width = width; height = height; ctu = ctu } } in
-      let x = held (record { done = done }) (now plane) in Lent x
+      let x = held (record { done = done }) (now plane) in InType x
       → ByteGave (record { still = still; plan = now plan; residuals = now residuals }) x (record { grant = grant; result = now result }) r
       (held (recordIn (now (e .1 .1 .1 .1 .1 .1 .1 .1 .1 .0))) (now (e .1 .1 .1 .1 .1 .1 .1 .1 .0)))
   pub made : (b : ByteJob) (x : Held (List ℕ)) (asks : List ByteAsk) (y : Held (List ℕ))

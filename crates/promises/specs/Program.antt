@@ -13,7 +13,7 @@ use Rattle.report.specs.file.File.{fileOk}
 use Rattle.report.specs.sums.Sums.{agree}
 use Rattle.report.specs.text.Text.{refusal, ending}
 use Rattle.walk.specs.Lent.{scratchTables}
-use Rattle.report.specs.Told.{zeros, blank, verdict, residuals, replayed, lines, told, printed, jobOf}
+use Rattle.report.specs.Told.{zeros, blank, verdict, residuals, replayedPlane, lines, told, printed, jobOf}
 use Rattle.report.specs.Told.{Job as File}
 use Rattle.promises.specs.demand3.Calls.{Task, Ask, Roomy, granted, Each, calls}
 use Rattle.promises.specs.demand3.Chains.{sum-none, sum-more}
@@ -34,7 +34,7 @@ enough : (f : File) → f .plan .count ≤ granted (whole f)
 enough f = omega (arith, sum-more (f .plan .count) [], sum-none)
 
 -- the replay over zeros gives the source
-pub source-back : (f : File) → verdict f .no ≡ 0 → replayed f ≡ f .source
+pub source-back : (f : File) → verdict f .no ≡ 0 → replayedPlane f ≡ f .source
 unfolding calls
 source-back f served =
     demand-3 .same (job f) (f .source) (blank (f .still)) (whole f) (record { tables = scratchTables; served = served; room = room f; enough = enough f })
@@ -58,10 +58,10 @@ unfolding told
 told-same f = go (eqb (verdict f .no) 0) refl
   where
     go : (t : Bool) → eqb (verdict f .no) 0 ≡ t
-        → let x = cond t (lines (f .plan .block) (residuals f) (f .plan .count) ++ ending (f .plan .count) (agree (replayed f) (f .source) (length (f .source)))) (refusal (verdict f .no) (verdict f .block)) in
+        → let x = cond t (lines (f .plan .block) (residuals f) (f .plan .count) ++ ending (f .plan .count) (agree (replayedPlane f) (f .source) (length (f .source)))) (refusal (verdict f .no) (verdict f .block)) in
         Refused x ⊎ Same f x
     go true e =
-        inr (ap (λ (t : Bool). lines (f .plan .block) (residuals f) (f .plan .count) ++ ending (f .plan .count) t) (agree-same (replayed f) (f .source) (source-back f (eqb-true (verdict f .no) 0 e)) (length (f .source))))
+        inr (ap (λ (t : Bool). lines (f .plan .block) (residuals f) (f .plan .count) ++ ending (f .plan .count) t) (agree-same (replayedPlane f) (f .source) (source-back f (eqb-true (verdict f .no) 0 e)) (length (f .source))))
     go false e = inl (verdict f .no, verdict f .block, refl)
 
 -- of any bytes

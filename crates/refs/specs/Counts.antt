@@ -46,15 +46,15 @@ abbrev pub restOf : Reach → (ℕ → ℕ) → ℕ → ℕ
 restOf r above corner = restBy (r .above) above corner
 
 -- an edge: of its first count entries have are at, the others rest; 0 past them
-unfoldable pub edgeOf : ℕ → ℕ → (ℕ → ℕ) → ℕ → List ℕ
-edgeOf count have at rest = fill (λ i. cond (ltb i have) (at i) rest) count (replicate 65 0)
+unfoldable pub paddedEdge : ℕ → ℕ → (ℕ → ℕ) → ℕ → List ℕ
+paddedEdge count have at rest = fill (λ i. cond (ltb i have) (at i) rest) count (replicate 65 0)
 
 -- the rows where a neighbour is there, and where none is
 abbrev pub reached : Reach → ℕ → (ℕ → ℕ) → (ℕ → ℕ) → ℕ → Rows
 reached r c above left n =
     let start = startOf r c above left in
     let corner = cornerOf r c left start in
-    record { corner = corner; above = edgeOf (2 * n + 1) (r .above) above (restOf r above corner); left = edgeOf (2 * n + 1) (r .left) left start }
+    record { corner = corner; above = paddedEdge (2 * n + 1) (r .above) above (restOf r above corner); left = paddedEdge (2 * n + 1) (r .left) left start }
 
 unfoldable pub fromReach : Reach → ℕ → (ℕ → ℕ) → (ℕ → ℕ) → ℕ → ℕ → Rows
 fromReach r c above left n neutral = cond (anyBy (r .corner) (r .above) (r .left)) (reached r c above left n) (levelRows neutral)
@@ -114,7 +114,7 @@ module _ (has : ℤ → ℤ → Bool) (sample : ℕ → ℕ → ℕ) (row col n 
   left = leftAt sample row col
 
   some : (neutral : ℕ) → anyBy (r .corner) (r .above) (r .left) ≡ true → gatheredBy has sample row col n neutral ≡ reached r c above left n
-  unfolding gatheredBy substituted edgeOf
+  unfolding gatheredBy substituted paddedEdge
   some neutral any =
       let s = starts counted-line any in
       simp (lt-ltb first (2 * (2 * n) + 3) (s .0))

@@ -29,7 +29,7 @@ pub record Bounded (has : ℤ → ℤ → Bool) : Type 0 where
   pub top : (r : ℕ) (c : ℤ) → has (negsuc r) c ≡ false
   pub side : (r : ℤ) (c : ℕ) → has r (negsuc c) ≡ false
 
-pub record Rule (has : ℤ → ℤ → Bool) (height width : ℕ) : Type 0 where
+pub record HasRule (has : ℤ → ℤ → Bool) (height width : ℕ) : Type 0 where
   pub off : Bounded has
   pub inside : (r c : ℕ) → has (pos r) (pos c) ≡ true → (r < height) × (c < width)
   pub along : (r c c′ : ℕ) → c ≤ c′ → has (pos r) (pos c′) ≡ true → has (pos r) (pos c) ≡ true
@@ -59,7 +59,7 @@ luma-off b = record { top = λ r c. refl; side = side }
     side (pos r) c = refl
     side (negsuc r) c = refl
 
-pub luma-rule : (b : LumaBlock) → Good (b .picture) → Rule (lumaHas b) (b .picture .height) (b .picture .width)
+pub luma-rule : (b : LumaBlock) → Good (b .picture) → HasRule (lumaHas b) (b .picture .height) (b .picture .width)
 unfolding before
 luma-rule b g =
     let p = b .picture in
@@ -100,7 +100,7 @@ chroma-off b = record { top = λ r c. refl; side = side }
     side (pos r) c = refl
     side (negsuc r) c = refl
 
-pub chroma-rule : (b : ChromaBlock) → Good (b .picture) → Rule (chromaHas b) (chromaHeight b) (chromaWidth b)
+pub chroma-rule : (b : ChromaBlock) → Good (b .picture) → HasRule (chromaHas b) (chromaHeight b) (chromaWidth b)
 unfolding chromaHas
 chroma-rule b g =
     record {
@@ -136,7 +136,7 @@ counts f m i closed h =
     lost : f (leading f m) ≡ false → leading f m ≤ i → f i ≡ false
     lost q s = ⊎-elim (λ t. absurd (false≢true (sym q ∙ closed (leading f m) i s t))) (λ t. t) (told (f i))
 
-module _ {has : ℤ → ℤ → Bool} {height width : ℕ} (rule : Rule has height width) where
+module _ {has : ℤ → ℤ → Bool} {height width : ℕ} (rule : HasRule has height width) where
   -- what is there lies in the plane
   in-plane : (z w : ℤ) (r c : ℕ) → Near z r → Near w c → has z w ≡ true → (r < height) × (c < width)
   in-plane z w r c p q e = rule .inside r c (at-place (rule .off) z w r c p q e)

@@ -16,17 +16,17 @@ use Rattle.refs.specs.declared.Spot.{Spot}
 use Rattle.domain.specs.rows.Neighbours.{levelRows}
 use Rattle.refs.specs.substitution.Line.{anyBy}
 use Rattle.refs.specs.Spots.{cornerOn, aboveOn, leftOn, planeRows, Few}
-use Rattle.refs.specs.Counts.{startOf, cornerOf, restOf, edgeOf, reached, fromReach}
+use Rattle.refs.specs.Counts.{startOf, cornerOf, restOf, paddedEdge, reached, fromReach}
 
 -- the entries of an edge that are there, and the corner; 0 where none is
-abbrev pub seenEdge : ℕ → (ℕ → ℕ) → List ℕ
-seenEdge have at = fill at have (replicate 65 0)
+abbrev pub edgeSeen : ℕ → (ℕ → ℕ) → List ℕ
+edgeSeen have at = fill at have (replicate 65 0)
 
-abbrev pub seenCorner : Reach → ℕ → ℕ
-seenCorner r c = cond (r .corner) c 0
+abbrev pub cornerSeen : Reach → ℕ → ℕ
+cornerSeen r c = cond (r .corner) c 0
 
-abbrev pub entry : List ℕ → ℕ → ℕ
-entry row i = getD row i 0
+abbrev pub entryIn : List ℕ → ℕ → ℕ
+entryIn row i = getD row i 0
 
 -- an edge whose entries from have on, up to count, are rest
 abbrev pub padded : ℕ → ℕ → ℕ → List ℕ → List ℕ
@@ -39,11 +39,11 @@ withCorner c two = record { corner = c; above = getD two 0 []; left = getD two 1
 -- rows completed, of what was read
 unfoldable pub padRows : Reach → Rows → ℕ → Rows
 padRows r seen n =
-    let start = startOf r (seen .corner) (entry (seen .above)) (entry (seen .left)) in
-    let corner = cornerOf r (seen .corner) (entry (seen .left)) start in
+    let start = startOf r (seen .corner) (entryIn (seen .above)) (entryIn (seen .left)) in
+    let corner = cornerOf r (seen .corner) (entryIn (seen .left)) start in
     record {
       corner = corner;
-      above = padded (2 * n + 1) (r .above) (restOf r (entry (seen .above)) corner) (seen .above);
+      above = padded (2 * n + 1) (r .above) (restOf r (entryIn (seen .above)) corner) (seen .above);
       left = padded (2 * n + 1) (r .left) start (seen .left);
     }
 
@@ -59,7 +59,7 @@ only-above false true c h p q = absurd (false≢true (sym q))
 only-above false false c h p q = h
 
 -- an entry that is there is read as it is
-seen-at : (have : ℕ) (at : ℕ → ℕ) (i : ℕ) → have ≤ 65 → i < have → entry (seenEdge have at) i ≡ at i
+seen-at : (have : ℕ) (at : ℕ → ℕ) (i : ℕ) → have ≤ 65 → i < have → entryIn (edgeSeen have at) i ≡ at i
 seen-at have at i h l = fill-at at have (replicate 65 0) i 0 l (omega (arith, length-replicate {A = ℕ} 65 0))
 
 -- padding what was read makes the edge
@@ -67,8 +67,8 @@ module _ (have : ℕ) (at : ℕ → ℕ) (rest : ℕ) where
   abbrev on : ℕ → ℕ
   on i = cond (ltb i have) (at i) rest
 
-  pub pad-edge : (count : ℕ) → have ≤ count → padded count have rest (seenEdge have at) ≡ edgeOf count have at rest
-  unfolding edgeOf
+  pub pad-edge : (count : ℕ) → have ≤ count → padded count have rest (edgeSeen have at) ≡ paddedEdge count have at rest
+  unfolding paddedEdge
   pad-edge count h =
       ap (run (λ i. rest) have (count - have)) (fill-same at on have (replicate 65 0) (λ i l. ap (λ (b : Bool). cond b (at i) rest) (sym (lt-ltb i have l))))
       ∙ fill-run on (λ i. rest) have (count - have) (replicate 65 0) (λ j l. ap (λ (b : Bool). cond b (at (have + j)) rest) (sym (le-ltb (have + j) have (omega arith))))
@@ -76,21 +76,21 @@ module _ (have : ℕ) (at : ℕ → ℕ) (rest : ℕ) where
 
 module _ (r : Reach) (c : ℕ) (above left : ℕ → ℕ) (n : ℕ) (small : n ≤ 32) (ha : r .above ≤ 2 * n + 1) (hl : r .left ≤ 2 * n + 1) where
   abbrev a : ℕ → ℕ
-  a = entry (seenEdge (r .above) above)
+  a = entryIn (edgeSeen (r .above) above)
 
   abbrev l : ℕ → ℕ
-  l = entry (seenEdge (r .left) left)
+  l = entryIn (edgeSeen (r .left) left)
 
-  corner-seen : r .corner ≡ true → seenCorner r c ≡ c
+  corner-seen : r .corner ≡ true → cornerSeen r c ≡ c
   corner-seen t = ap (λ (b : Bool). cond b c 0) t
 
-  start : anyBy (r .corner) (r .above) (r .left) ≡ true → startOf r (seenCorner r c) a l ≡ startOf r c above left
+  start : anyBy (r .corner) (r .above) (r .left) ≡ true → startOf r (cornerSeen r c) a l ≡ startOf r c above left
   start any =
       by-test (ltb 0 (r .left))
       (λ t. let p = ltb-true 0 (r .left) t in seen-at (r .left) left (r .left - 1) (omega arith) (omega arith))
       (λ f. by-test (r .corner) corner-seen (λ g. seen-at (r .above) above 0 (omega arith) (ltb-true 0 (r .above) (only-above _ _ _ any f g))))
 
-  corner : (s : ℕ) → cornerOf r (seenCorner r c) l s ≡ cornerOf r c left s
+  corner : (s : ℕ) → cornerOf r (cornerSeen r c) l s ≡ cornerOf r c left s
   corner s = by-test (r .corner) corner-seen (λ f. by-test (ltb 0 (r .left)) (λ t. seen-at (r .left) left 0 (omega arith) (ltb-true 0 (r .left) t)) (λ g. refl))
 
   rest : (k : ℕ) → restOf r a k ≡ restOf r above k
@@ -98,17 +98,17 @@ module _ (r : Reach) (c : ℕ) (above left : ℕ → ℕ) (n : ℕ) (small : n �
 
   -- the rows made of what was read are the rows of the samples
   padded-are : anyBy (r .corner) (r .above) (r .left) ≡ true
-      → padRows r (record { corner = seenCorner r c; above = seenEdge (r .above) above; left = seenEdge (r .left) left }) n ≡ reached r c above left n
+      → padRows r (record { corner = cornerSeen r c; above = edgeSeen (r .above) above; left = edgeSeen (r .left) left }) n ≡ reached r c above left n
   unfolding padRows
   padded-are any =
       let s = start any in
-      let k = corner (startOf r (seenCorner r c) a l) ∙ ap (cornerOf r c left) s in
-      let z = rest (cornerOf r (seenCorner r c) l (startOf r (seenCorner r c) a l)) ∙ ap (restOf r above) k in
+      let k = corner (startOf r (cornerSeen r c) a l) ∙ ap (cornerOf r c left) s in
+      let z = rest (cornerOf r (cornerSeen r c) l (startOf r (cornerSeen r c) a l)) ∙ ap (restOf r above) k in
       λ i.
       record {
         corner = k i;
-        above = (pad-edge (r .above) above _ (2 * n + 1) ha ∙ ap (edgeOf (2 * n + 1) (r .above) above) z) i;
-        left = (pad-edge (r .left) left _ (2 * n + 1) hl ∙ ap (edgeOf (2 * n + 1) (r .left) left) s) i;
+        above = (pad-edge (r .above) above _ (2 * n + 1) ha ∙ ap (paddedEdge (2 * n + 1) (r .above) above) z) i;
+        left = (pad-edge (r .left) left _ (2 * n + 1) hl ∙ ap (paddedEdge (2 * n + 1) (r .left) left) s) i;
       }
 
 -- so are those of what was read out of a plane
@@ -118,7 +118,7 @@ module _ (plane : List ℕ) (s : Spot) (r : Reach) (n neutral : ℕ) where
   finish-none gone = if-no (anyBy (r .corner) (r .above) (r .left)) _ (levelRows neutral) (levelRows neutral) gone refl
 
   pub finish-some : anyBy (r .corner) (r .above) (r .left) ≡ true → Few r n → {x y v : Rows}
-      → x ≡ record { corner = seenCorner r (cornerOn plane s); above = seenEdge (r .above) (aboveOn plane s); left = seenEdge (r .left) (leftOn plane s) }
+      → x ≡ record { corner = cornerSeen r (cornerOn plane s); above = edgeSeen (r .above) (aboveOn plane s); left = edgeSeen (r .left) (leftOn plane s) }
       → y ≡ padRows r x n → v ≡ y → v ≡ planeRows plane s r n neutral
   unfolding fromReach
   finish-some any f {x} {y} {v} ex ey ev =

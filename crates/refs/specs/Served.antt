@@ -16,7 +16,7 @@ use Rattle.fmt.specs.depth.Depth.{neutralOf}
 use Rattle.fmt.specs.depth.Laws.{neutral-of-is}
 use Rattle.order.specs.declared.Reach.{Reach}
 use Rattle.order.specs.Order.{pictureOk}
-use Rattle.order.specs.Reach.{reachBy, noReach, lumaPlaceOk, lumaReachNo, lumaHas, lumaReach, colour, chromaPlaceOk, chromaReachNo, chromaHas, chromaReach, chromaWidth}
+use Rattle.order.specs.Reach.{reachBy, noReach, lumaPlaceOk, lumaReachNo, lumaHas, lumaReach, hasChroma, chromaPlaceOk, chromaReachNo, chromaHas, chromaReach, chromaWidth}
 use Rattle.order.specs.Blocks.{luma-fine, chroma-fine}
 use Rattle.domain.specs.declared.rows.Rows.{Rows}
 use Rattle.refs.specs.declared.GatheredPair.{GatheredPair}
@@ -30,7 +30,7 @@ use Rattle.refs.specs.Door.{lumaBlock, lumaNumber, lumaLength, lumaNo, l
 use Rattle.refs.specs.substitution.Line.{told}
 use Rattle.refs.specs.Counts.{Counted}
 use Rattle.refs.specs.Spots.{spotOf, lumaLayout, chromaLayout, planeRows, Reads, rows-are}
-use Rattle.refs.specs.Rules.{Rule, luma-rule, chroma-rule, counted, reads}
+use Rattle.refs.specs.Rules.{HasRule, luma-rule, chroma-rule, counted, reads}
 
 -- 1, then what the reach gives of 2 and 4, then 5, then its 6; a plane of the right length is whole
 abbrev pub gatherNo : ℕ → ℕ → Bool → ℕ
@@ -58,10 +58,10 @@ by-four P a b c d e (suc (suc zero)) = c
 by-four P a b c d e (suc (suc (suc zero))) = d
 by-four P a b c d e (suc (suc (suc (suc k)))) = e (suc (suc (suc (suc k)))) (omega arith)
 
-coloured : (b : Bool) (f : ℕ) → (b && leb 1 f && leb f 3) ≡ (b && colour (formatOf f))
-coloured true = by-four (λ (f : ℕ). (leb 1 f && leb f 3) ≡ colour (formatOf f)) refl refl refl refl other
+coloured : (b : Bool) (f : ℕ) → (b && leb 1 f && leb f 3) ≡ (b && hasChroma (formatOf f))
+coloured true = by-four (λ (f : ℕ). (leb 1 f && leb f 3) ≡ hasChroma (formatOf f)) refl refl refl refl other
   where
-    other : (k : ℕ) → 4 ≤ k → (leb 1 k && leb k 3) ≡ colour (formatOf k)
+    other : (k : ℕ) → 4 ≤ k → (leb 1 k && leb k 3) ≡ hasChroma (formatOf k)
     other k h =
         simp (le-leb 1 k (omega arith), lt-leb k 3 (omega arith), ne-eqb k 0 (λ e. let q : k ≡ 0 = e in omega arith), ne-eqb k 1 (λ e. let q : k ≡ 1 = e in omega arith), ne-eqb k 2 (λ e. let q : k ≡ 2 = e in omega arith), ne-eqb k 3 (λ e. let q : k ≡ 3 = e in omega arith))
 coloured false = λ f. refl
@@ -71,7 +71,7 @@ unfolding chromaReachNo
 chroma-no whole g =
     let q = chromaPlaceOk (chromaBlock g) in
     ap (λ (p : Bool). cond (depthOk (g .bits)) (cond (sizeOk (g .n)) (cond p (cond whole (cond q 0 6) 5) 4) 2) 1) (coloured (pictureOk (chromaPicture g)) (g .format))
-    ∙ ap (λ (k : ℕ). cond (depthOk (g .bits)) k 1) (same-number (sizeOk (g .n)) (pictureOk (chromaPicture g) && colour (formatOf (g .format))) q whole)
+    ∙ ap (λ (k : ℕ). cond (depthOk (g .bits)) k 1) (same-number (sizeOk (g .n)) (pictureOk (chromaPicture g) && hasChroma (formatOf (g .format))) q whole)
 
 -- the number stands in the reach, and a reach of number 0 is the block's own
 reach-no : (k : ℕ) (r : Reach) → r .no ≡ 0 → served k r (noReach k) .no ≡ k
@@ -98,18 +98,18 @@ gather-fine bits k whole e =
     stuck t z = false≢true (ap (λ (v : ℕ). eqb v 2 || eqb v 4) (sym z) ∙ t)
 
 -- What the work of a gather rests on: the rule's counts, and the reads inside the plane
-pub record Ready (has : ℤ → ℤ → Bool) (r : Reach) (len width row col n : ℕ) : Type 0 where
+pub record GatherReady (has : ℤ → ℤ → Bool) (r : Reach) (len width row col n : ℕ) : Type 0 where
   pub known : Counted has row col n r
   pub reads : Reads r (spotOf width row col) len n
 
-ready : {has : ℤ → ℤ → Bool} {height width : ℕ} → Rule has height width → (r : Reach) (len row col n : ℕ) → r ≡ reachBy 0 has row col n → len ≡ height * width
-    → n ≤ 32 → Ready has r len width row col n
+ready : {has : ℤ → ℤ → Bool} {height width : ℕ} → HasRule has height width → (r : Reach) (len row col n : ℕ) → r ≡ reachBy 0 has row col n → len ≡ height * width
+    → n ≤ 32 → GatherReady has r len width row col n
 ready {has} {height} {width} rule r len row col n er el small =
-    subst (λ (q : Reach). Ready has q len width row col n) (sym er)
-    (subst (λ (l : ℕ). Ready has (reachBy 0 has row col n) l width row col n) (sym el) (record { known = counted rule row col n; reads = reads rule row col n small }))
+    subst (λ (q : Reach). GatherReady has q len width row col n) (sym er)
+    (subst (λ (l : ℕ). GatherReady has (reachBy 0 has row col n) l width row col n) (sym el) (record { known = counted rule row col n; reads = reads rule row col n small }))
 
 pub luma-ready : (len : ℕ) (g : LumaRefGeometry) (r : Reach) → r ≡ lumaReach (lumaBlock g) → lumaNo len g ≡ 0
-    → (depthOk (g .bits) ≡ true) × Ready (lumaHas (lumaBlock g)) r len (g .picture .width) (g .«block_row» .0) (g .«block_col» .0) (g .n)
+    → (depthOk (g .bits) ≡ true) × GatherReady (lumaHas (lumaBlock g)) r len (g .picture .width) (g .«block_row» .0) (g .«block_col» .0) (g .n)
 unfolding lumaReach lumaNo
 luma-ready len g r er e =
     let b = lumaBlock g in
@@ -123,8 +123,8 @@ luma-ready len g r er e =
 
 pub chroma-ready : (cb cr : ℕ) (g : ChromaRefGeometry) (r : Reach) → r ≡ chromaReach (chromaBlock g) → chromaNo cb cr g ≡ 0
     → (depthOk (g .bits) ≡ true)
-    × Ready (chromaHas (chromaBlock g)) r cb (chromaWidth (chromaBlock g)) (g .«block_row» .0) (g .«block_col» .0) (g .n)
-    × Ready (chromaHas (chromaBlock g)) r cr (chromaWidth (chromaBlock g)) (g .«block_row» .0) (g .«block_col» .0) (g .n)
+    × GatherReady (chromaHas (chromaBlock g)) r cb (chromaWidth (chromaBlock g)) (g .«block_row» .0) (g .«block_col» .0) (g .n)
+    × GatherReady (chromaHas (chromaBlock g)) r cr (chromaWidth (chromaBlock g)) (g .«block_row» .0) (g .«block_col» .0) (g .n)
 unfolding chromaReach chromaNo
 chroma-ready cb cr g r er e =
     let b = chromaBlock g in
@@ -132,7 +132,7 @@ chroma-ready cb cr g r er e =
     let f = gather-fine (g .bits) (chromaReachNo b) whole (sym (chroma-no whole g) ∙ e) in
     let w = chroma-fine b (f .1) in
     let l = both-true (eqb cb (chromaLength g)) (eqb cr (chromaLength g)) (f .2) in
-    let one : (len : ℕ) → eqb len (chromaLength g) ≡ true → Ready (chromaHas b) r len (chromaWidth b) (g .«block_row» .0) (g .«block_col» .0) (g .n) =
+    let one : (len : ℕ) → eqb len (chromaLength g) ≡ true → GatherReady (chromaHas b) r len (chromaWidth b) (g .«block_row» .0) (g .«block_col» .0) (g .n) =
     λ len t.
     ready (chroma-rule b (w .good)) r len (g .«block_row» .0) (g .«block_col» .0) (g .n)
     (er ∙ sym (worked (chromaReachNo b) (reachBy 0 (chromaHas b) (b .row .0) (b .col .0) (b .n)) (noReach (chromaReachNo b)) (f .1)))
@@ -155,7 +155,7 @@ chroma-number whole g el ew ek =
     ek ∙ ap₂ (gatherNo (g .bits)) (ap (λ (q : Layout). q .reach .no) el ∙ chroma-reach-no g) ew ∙ sym (chroma-no whole g)
 
 -- the rows of a plane, from the parts that the code makes
-module _ {has : ℤ → ℤ → Bool} {r : Reach} (plane : List ℕ) (width row col n bits : ℕ) (y : Ready has r (length plane) width row col n) {s : Spot}
+module _ {has : ℤ → ℤ → Bool} {r : Reach} (plane : List ℕ) (width row col n bits : ℕ) (y : GatherReady has r (length plane) width row col n) {s : Spot}
     (es : s ≡ spotOf width row col) where
   inside : Reads r s (length plane) n
   inside = subst (λ (t : Spot). Reads r t (length plane) n) (sym es) (y .reads)
@@ -169,7 +169,7 @@ module _ {has : ℤ → ℤ → Bool} {r : Reach} (plane : List ℕ) (width row 
 
 -- the same for the two doors, whose calls are not refused
 module _ (plane : List ℕ) (g : LumaRefGeometry) {l : Layout} (el : l ≡ lumaLayout g) (e : lumaNo (length plane) g ≡ 0) where
-  abbrev luma : (depthOk (g .bits) ≡ true) × Ready (lumaHas (lumaBlock g)) (l .reach) (length plane) (g .picture .width) (g .«block_row» .0) (g .«block_col» .0) (g .n)
+  abbrev luma : (depthOk (g .bits) ≡ true) × GatherReady (lumaHas (lumaBlock g)) (l .reach) (length plane) (g .picture .width) (g .«block_row» .0) (g .«block_col» .0) (g .n)
   luma = luma-ready (length plane) g (l .reach) (ap (λ (q : Layout). q .reach) el) e
 
   pub luma-inside : Reads (l .reach) (l .spot) (length plane) (g .n)
@@ -181,7 +181,7 @@ module _ (plane : List ℕ) (g : LumaRefGeometry) {l : Layout} (el : l ≡ lumaL
 
 module _ (cb cr : List ℕ) (g : ChromaRefGeometry) {l : Layout} (el : l ≡ chromaLayout g) (e : chromaNo (length cb) (length cr) g ≡ 0) where
   abbrev Chroma : List ℕ → Type 0
-  Chroma plane = Ready (chromaHas (chromaBlock g)) (l .reach) (length plane) (chromaWidth (chromaBlock g)) (g .«block_row» .0) (g .«block_col» .0) (g .n)
+  Chroma plane = GatherReady (chromaHas (chromaBlock g)) (l .reach) (length plane) (chromaWidth (chromaBlock g)) (g .«block_row» .0) (g .«block_col» .0) (g .n)
 
   abbrev fine : (depthOk (g .bits) ≡ true) × Chroma cb × Chroma cr
   fine = chroma-ready (length cb) (length cr) g (l .reach) (ap (λ (q : Layout). q .reach) el) e

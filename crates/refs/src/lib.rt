@@ -11,7 +11,7 @@ ghost use Rattle.refs.specs.Door.{getReferenceSamplesChromaPair};
 ghost use Rattle.refs.specs.Served.{gatherNo};
 ghost use Rattle.refs.specs.substitution.Line.{restBy};
 ghost use Rattle.refs.specs.Spots.{spotOf, lumaLayout, chromaLayout, onEdge, cornerOn, planeRows, Few, Reads};
-ghost use Rattle.refs.specs.Seen.{seenCorner, entry, padded, withCorner, padRows};
+ghost use Rattle.refs.specs.Seen.{cornerSeen, entryIn, padded, withCorner, padRows};
 use domain::rows;
 use domain::rows::Gathered;
 use domain::rows::Rows;
@@ -104,7 +104,7 @@ fn edge(plane: &[u16], at: usize, step: usize, have: usize, out: &mut [u16])
 // The corner where it is there, else 0.
 fn corner_seen(plane: &[u16], s: Spot, r: Reach, n: usize) -> u16
     requires { ⌜ Reads r s (length (now plane)) n ⌝ }
-    ensures { λ v. ⌜ v ≡ seenCorner r (cornerOn (now (plane .entry)) s) ⌝ }
+    ensures { λ v. ⌜ v ≡ cornerSeen r (cornerOn (now (plane .entry)) s) ⌝ }
 {
     let at = s.corner;
     if r.corner { plane[at] } else { 0 }
@@ -113,7 +113,7 @@ fn corner_seen(plane: &[u16], s: Spot, r: Reach, n: usize) -> u16
 // The last entry that is there, or another sample where none is.
 fn last_of(row: &[u16], have: usize, other: u16) -> u16
     requires { ⌜ have ≤ length (now row) ⌝ }
-    ensures { λ v. ⌜ v ≡ restBy have (entry (now (row .entry))) other ⌝ }
+    ensures { λ v. ⌜ v ≡ restBy have (entryIn (now (row .entry))) other ⌝ }
 {
     if have > 0 { row[have - 1] } else { other }
 }
@@ -134,7 +134,7 @@ fn pad(row: &mut [u16], have: usize, count: usize, rest: u16)
 // Completes a plane's two rows, above and left, of what was read, where a neighbour is there, and gives the corner: what stands before the
 // first sample that is there is that sample, a missing corner takes left[0], and what stands after the last one of the row above is
 // that one, or the corner. The rows are lent: by value they would go through memory once more.
-fn finish(two: &mut [[u16; 65]; 2], seen: u16, r: Reach, n: usize) -> u16
+fn pad_rows(two: &mut [[u16; 65]; 2], seen: u16, r: Reach, n: usize) -> u16
     requires { ⌜ Few r n × (length (now two) ≡ 2) ⌝ }
     ensures { λ c. ⌜ withCorner c (now (two .exit)) ≡ padRows r (withCorner seen (now (two .entry))) n ⌝ }
 {
@@ -171,7 +171,7 @@ fn plane_rows(plane: &[u16], s: Spot, r: Reach, n: usize, neutral: u16) -> Rows
     edge(plane, s.above, 1, r.above, &mut two[0]);
     edge(plane, s.left, s.width, r.left, &mut two[1]);
     let seen = corner_seen(plane, s, r, n);
-    let corner = finish(&mut two, seen, r, n);
+    let corner = pad_rows(&mut two, seen, r, n);
     with_corner(corner, two)
 }
 
@@ -306,7 +306,7 @@ pub fn chroma_layout(geo: ChromaRefGeometry) -> Layout
 }
 
 // The rows of Cb and of Cr: one layout for both.
-fn chroma_rows(plane_cb: &[u16], plane_cr: &[u16], geo: ChromaRefGeometry, l: Layout) -> [Rows; 2]
+fn chroma_pair(plane_cb: &[u16], plane_cr: &[u16], geo: ChromaRefGeometry, l: Layout) -> [Rows; 2]
     requires { ⌜ (l ≡ chromaLayout geo) × (chromaNo (length (now «plane_cb»)) (length (now «plane_cr»)) geo ≡ 0) ⌝ }
     ensures { λ r. ⌜ r ≡ chromaPair (now («plane_cb» .entry)) (now («plane_cr» .entry)) geo ⌝ }
 {
@@ -339,6 +339,6 @@ pub fn get_reference_samples_chroma_pair(
     }
     GatheredPair {
         no: 0,
-        planes: chroma_rows(plane_cb, plane_cr, geo, l),
+        planes: chroma_pair(plane_cb, plane_cr, geo, l),
     }
 }

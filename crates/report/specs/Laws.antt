@@ -20,9 +20,9 @@ use Rattle.walk.specs.Door.{steppedBy}
 use Rattle.walk.specs.Lent.{scratchTables}
 use Rattle.walk.specs.calls.Places.{place-in}
 use Rattle.report.specs.sums.Sums.{absolutes}
-use Rattle.report.specs.text.Text.{laid, line}
+use Rattle.report.specs.text.Text.{laid, blockLine}
 use Rattle.report.specs.text.Laws.{Laid, then, said}
-use Rattle.report.specs.Told.{Job, fresh, lines}
+use Rattle.report.specs.Told.{Job, noneDone, lines}
 
 -- a plan whose blocks have their residuals among so many, and of which the text has room
 pub record Listed (plan : Plan) (residuals : ℕ) : Type 0 where
@@ -35,7 +35,7 @@ pub lines-none : (plan : ℕ → Block) (v : List ℤ) (d : List ℕ) → Laid 0
 unfolding lines laid
 lines-none plan v d = record { over = refl; ends = refl; short = omega arith }
 
-pub lines-more : (plan : ℕ → Block) (v : List ℤ) (k : ℕ) → lines plan v k ++ line (plan k) (absolutes v (place plan k) (plan k .side * plan k .side)) ≡ lines plan v (k + 1)
+pub lines-more : (plan : ℕ → Block) (v : List ℤ) (k : ℕ) → lines plan v k ++ blockLine (plan k) (absolutes v (place plan k) (plan k .side * plan k .side)) ≡ lines plan v (k + 1)
 unfolding lines
 lines-more plan v k = rw add-one
 
@@ -48,15 +48,15 @@ module _ (plan : Plan) (v : List ℤ) (ok : Listed plan (length v)) (k at : ℕ)
   among = omega (arith, place-in (plan .block) k (plan .count) at b l e q, ok .all)
 
   pub next-line : {p r sum : ℕ} {d x y : List ℕ} → Laid 0 (lines (plan .block) v k) d x p (105 * k) → sum ≡ absolutes v at (b .side * b .side)
-      → Laid p (line b sum) x y r 105 → 105 * k ≤ length d → Laid 0 (lines (plan .block) v (k + 1)) d y r (105 * (k + 1))
+      → Laid p (blockLine b sum) x y r 105 → 105 * k ≤ length d → Laid 0 (lines (plan .block) v (k + 1)) d y r (105 * (k + 1))
   next-line {p} {r} {sum} {d} {x} {y} before s this h =
-      let t : line b sum ≡ line (plan .block k) (absolutes v (place (plan .block) k) (plan .block k .side * plan .block k .side)) =
-      ap (line b) (s ∙ ap (λ (i : ℕ). absolutes v i (b .side * b .side)) e) ∙ ap (λ (u : Block). line u (absolutes v (place (plan .block) k) (u .side * u .side))) q in
+      let t : blockLine b sum ≡ blockLine (plan .block k) (absolutes v (place (plan .block) k) (plan .block k .side * plan .block k .side)) =
+      ap (blockLine b) (s ∙ ap (λ (i : ℕ). absolutes v i (b .side * b .side)) e) ∙ ap (λ (u : Block). blockLine u (absolutes v (place (plan .block) k) (u .side * u .side))) q in
       said _ _ (then before this (omega arith)) (ap (λ (u : List ℕ). lines (plan .block) v k ++ u) t ∙ lines-more (plan .block) v k) (omega arith)
 
 -- what the walk gives: its number, the block of a refusal, and the residuals
 pub record WholeWalk (j : Job) (w x : World) (r : Stepped) : Type 0 where
-  pub gives : r ≡ steppedBy (walkVerdict (j .still) (j .plan) scratchTables 0 (j .source) w) (j .plan) fresh (j .plan .count)
+  pub gives : r ≡ steppedBy (walkVerdict (j .still) (j .plan) scratchTables 0 (j .source) w) (j .plan) noneDone (j .plan .count)
   pub leaves : x ≡ walkAfter (j .still) (j .plan) scratchTables 0 (j .plan .count) (j .source) w
 
 -- the first k of n entries, in a buffer of m

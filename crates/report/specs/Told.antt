@@ -18,7 +18,7 @@ use Rattle.report.specs.declared.Printout.{Printout}
 use Rattle.report.specs.declared.file.Trailer.{Trailer}
 use Rattle.report.specs.file.File.{trailerOf, fileOk, sourceOf, planIn}
 use Rattle.report.specs.sums.Sums.{agree, absolutes}
-use Rattle.report.specs.text.Text.{laid, line, refusal, ending}
+use Rattle.report.specs.text.Text.{laid, blockLine, refusal, ending}
 
 -- a file's contents: the still, its plan and its source
 pub record Job : Type 0 where
@@ -27,15 +27,15 @@ pub record Job : Type 0 where
   pub source : List ℕ
 
 -- the still that a trailer names
-abbrev pub stillOf : Trailer → Still
-stillOf t = record { bits = t .bits; frame = record { width = t .width; height = t .height; ctu = t .ctu } }
+abbrev pub stillIn : Trailer → Still
+stillIn t = record { bits = t .bits; frame = record { width = t .width; height = t .height; ctu = t .ctu } }
 
 abbrev pub jobOf : List ℕ → Job
-jobOf b = let t = trailerOf b in record { still = stillOf t; plan = planIn b t; source = sourceOf b t }
+jobOf b = let t = trailerOf b in record { still = stillIn t; plan = planIn b t; source = sourceOf b t }
 
 -- the program's own: a fresh record, a plane of zeros, work plane and residuals before the walk
-abbrev pub fresh : Progress
-fresh = record { done = 0 }
+abbrev pub noneDone : Progress
+noneDone = record { done = 0 }
 
 abbrev pub zeros : Still → List ℕ
 zeros s = replicate (s .frame .height * s .frame .width) 0
@@ -51,20 +51,20 @@ abbrev pub residuals : Job → List ℤ
 residuals j = walkAfter (j .still) (j .plan) scratchTables 0 (j .plan .count) (j .source) (blank (j .still)) .residuals
 
 -- the replay over zeros
-abbrev pub replayed : Job → List ℕ
-replayed j = replayAfter (j .still) (j .plan) scratchTables 0 (j .plan .count) (residuals j) (zeros (j .still))
+abbrev pub replayedPlane : Job → List ℕ
+replayedPlane j = replayAfter (j .still) (j .plan) scratchTables 0 (j .plan .count) (residuals j) (zeros (j .still))
 
 -- the lines of the first k blocks
 unfoldable pub lines : (ℕ → Block) → List ℤ → ℕ → List ℕ
 lines plan v zero = []
-lines plan v (suc k) = lines plan v k ++ line (plan k) (absolutes v (place plan k) (plan k .side * plan k .side))
+lines plan v (suc k) = lines plan v k ++ blockLine (plan k) (absolutes v (place plan k) (plan k .side * plan k .side))
 
 -- what is printed of a file that number 12 is not given for
 unfoldable pub told : Job → List ℕ
 told j =
     let v = verdict j in
     cond (eqb (v .no) 0)
-    (lines (j .plan .block) (residuals j) (j .plan .count) ++ ending (j .plan .count) (agree (replayed j) (j .source) (length (j .source))))
+    (lines (j .plan .block) (residuals j) (j .plan .count) ++ ending (j .plan .count) (agree (replayedPlane j) (j .source) (length (j .source))))
     (refusal (v .no) (v .block))
 
 -- and of every input: number 12 comes before everything

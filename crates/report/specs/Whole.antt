@@ -15,7 +15,7 @@ use Rattle.laws.specs.Bytes.{leAt}
 use Rattle.laws.specs.Choose.{if-yes, if-no, both-true, unserved}
 use Rattle.domain.specs.Facts.{size-small}
 use Rattle.report.specs.declared.file.Trailer.{Trailer}
-use Rattle.report.specs.file.File.{trailerOf, area, regionsOk, fileOk, tabulated, sourceOf, planIn}
+use Rattle.report.specs.file.File.{trailerOf, areaOf, regionsOk, fileOk, tabulated, sourceOf, planIn}
 use Rattle.plan.specs.declared.tiling.Verdict.{Verdict}
 use Rattle.plan.specs.tiling.Plan.{Plan, planOf}
 use Rattle.plan.specs.tiling.Cover.{area as plan-area}
@@ -32,7 +32,7 @@ use Rattle.report.specs.sums.Sums.{agree}
 use Rattle.report.specs.text.Text.{laid, refusal, ending}
 use Rattle.report.specs.text.Laws.{Laid}
 use Rattle.report.specs.declared.Printout.{Printout}
-use Rattle.report.specs.Told.{Job, stillOf, jobOf, fresh, zeros, blank, verdict, residuals, replayed, lines, told, printed, reportOf}
+use Rattle.report.specs.Told.{Job, stillIn, jobOf, noneDone, zeros, blank, verdict, residuals, replayedPlane, lines, told, printed, reportOf}
 use Rattle.report.specs.Laws.{Listed, WholeWalk, take-fill}
 
 -- what the program lends a walk: few blocks, planes and residuals of zeros, room for the text
@@ -54,17 +54,17 @@ stepped-block : (v : Verdict) (plan : Plan) (p : Progress) (grant : ℕ) → (v 
 stepped-block v plan p grant h = ap (λ (a : Stepped). a .block) (sym (unserved (v .no) _ _ h))
 
 module _ {j : Job} {w x : World} {r : Stepped} (h : WholeWalk j w x r) (b : w ≡ blank (j .still)) where
-  given : r ≡ steppedBy (verdict j) (j .plan) fresh (j .plan .count)
-  given = h .gives ∙ ap (λ (u : World). steppedBy (walkVerdict (j .still) (j .plan) scratchTables 0 (j .source) u) (j .plan) fresh (j .plan .count)) b
+  given : r ≡ steppedBy (verdict j) (j .plan) noneDone (j .plan .count)
+  given = h .gives ∙ ap (λ (u : World). steppedBy (walkVerdict (j .still) (j .plan) scratchTables 0 (j .source) u) (j .plan) noneDone (j .plan .count)) b
 
   number-is : r .no ≡ verdict j .no
-  number-is = ap (λ (u : Stepped). u .no) given ∙ stepped-no (verdict j) (j .plan) fresh (j .plan .count)
+  number-is = ap (λ (u : Stepped). u .no) given ∙ stepped-no (verdict j) (j .plan) noneDone (j .plan .count)
 
   pub refused-told : (r .no ≡ 0 → ⊥) → refusal (r .no) (r .block) ≡ told j
   unfolding told
   refused-told z =
       let k : verdict j .no ≡ 0 → ⊥ = λ e. z (number-is ∙ e) in
-      ap₂ refusal number-is (ap (λ (u : Stepped). u .block) given ∙ stepped-block (verdict j) (j .plan) fresh (j .plan .count) k)
+      ap₂ refusal number-is (ap (λ (u : Stepped). u .block) given ∙ stepped-block (verdict j) (j .plan) noneDone (j .plan .count) k)
       ∙ if-no (eqb (verdict j .no) 0) _ _ _ (ne-eqb (verdict j .no) 0 k) refl
 
   pub residuals-are : x .residuals ≡ residuals j
@@ -96,32 +96,32 @@ module _ {j : Job} {w x : World} {r : Stepped} (h : WholeWalk j w x r) (b : w �
     unfolding told
     served-told plane back same e q s =
         let v = residuals-are in
-        let f : back ≡ replayed j = q ∙ ap₂ (λ (u : List ℤ) (d : List ℕ). replayAfter (j .still) (j .plan) scratchTables 0 (j .plan .count) u d) v e in
+        let f : back ≡ replayedPlane j = q ∙ ap₂ (λ (u : List ℤ) (d : List ℕ). replayAfter (j .still) (j .plan) scratchTables 0 (j .plan .count) u d) v e in
         ap₂ (λ (u : List ℤ) (t : Bool). lines (j .plan .block) u (j .plan .count) ++ ending (j .plan .count) t) v (s ∙ ap (λ (d : List ℕ). agree d (j .source) (length (j .source))) f)
         ∙ if-yes (eqb (verdict j .no) 0) _ _ _ (eq-eqb (verdict j .no) 0 (sym number-is ∙ z)) refl
 
 -- a file that number 12 is not given for, and its trailer
-pub record Held (b : List ℕ) (t : Trailer) : Type 0 where
+pub record GoodFile (b : List ℕ) (t : Trailer) : Type 0 where
   pub trailer : t ≡ trailerOf b
-  pub samples-few : area t ≤ 8192
+  pub samples-few : areaOf t ≤ 8192
   pub blocks-few : t .blocks ≤ 512
-  pub samples-in : t .samples + 2 * area t ≤ length b
+  pub samples-in : t .samples + 2 * areaOf t ≤ length b
   pub plan-in : t .plan + 6 * t .blocks ≤ length b
 
-pub held-file : (b : List ℕ) (t : Trailer) → fileOk b ≡ true → t ≡ trailerOf b → Held b t
+pub held-file : (b : List ℕ) (t : Trailer) → fileOk b ≡ true → t ≡ trailerOf b → GoodFile b t
 unfolding fileOk
 held-file b t e q =
     let start = length b - 16 in
     let x = both-true (leb 16 (length b) && leb (length b) 65536) (regionsOk (trailerOf b) start) e in
     let r : regionsOk t start ≡ true = ap (λ (u : Trailer). regionsOk u start) q ∙ x .1 in
-    let a = both-true (leb (area t) 8192 && leb (t .blocks) 512 && leb (t .samples + 2 * area t) start) (leb (t .plan + 6 * t .blocks) start) r in
-    let c = both-true (leb (area t) 8192 && leb (t .blocks) 512) (leb (t .samples + 2 * area t) start) (a .0) in
-    let d = both-true (leb (area t) 8192) (leb (t .blocks) 512) (c .0) in
+    let a = both-true (leb (areaOf t) 8192 && leb (t .blocks) 512 && leb (t .samples + 2 * areaOf t) start) (leb (t .plan + 6 * t .blocks) start) r in
+    let c = both-true (leb (areaOf t) 8192 && leb (t .blocks) 512) (leb (t .samples + 2 * areaOf t) start) (a .0) in
+    let d = both-true (leb (areaOf t) 8192) (leb (t .blocks) 512) (c .0) in
     record {
       trailer = q;
-      samples-few = leb-true (area t) 8192 (d .0);
+      samples-few = leb-true (areaOf t) 8192 (d .0);
       blocks-few = leb-true (t .blocks) 512 (d .1);
-      samples-in = omega (arith, leb-true (t .samples + 2 * area t) start (c .1));
+      samples-in = omega (arith, leb-true (t .samples + 2 * areaOf t) start (c .1));
       plan-in = omega (arith, leb-true (t .plan + 6 * t .blocks) start (a .1));
     }
 
@@ -142,7 +142,7 @@ take-zeros : {A : Type 0} (n m : ℕ) (z : A) → n ≤ m → take n (replicate 
 unfolding fill
 take-zeros n m z h = take-fill (λ k. z) 0 n m z (omega arith) h
 
-pub blank-part : {f : List ℕ} (s : Still) (t : Trailer) (n blocks room : ℕ) (d e : List ℕ) (v : List ℤ) → Held f t → s ≡ stillOf t → n ≡ area t → blocks ≡ t .blocks → 65536 ≤ room
+pub blank-part : {f : List ℕ} (s : Still) (t : Trailer) (n blocks room : ℕ) (d e : List ℕ) (v : List ℤ) → GoodFile f t → s ≡ stillIn t → n ≡ areaOf t → blocks ≡ t .blocks → 65536 ≤ room
     → d ≡ replicate 8192 0 → v ≡ replicate 8192 (pos 0) → e ≡ replicate 8192 0
     → Blank s blocks (record { work = take n d; residuals = take n v }) (take n e) room
 blank-part s t n blocks room d e v h i m k r p q u =
@@ -160,7 +160,7 @@ field-is f n d h p =
     ap (take n) p ∙ ap (λ (j : ℕ). take n (fill f j (replicate 512 0))) few ∙ take-fill f n n 512 0 (omega arith) h
 
 -- what is read is what the file asks to be walked
-pub job-is : (b : List ℕ) (t : Trailer) (s : Still) (n : ℕ) (rows cols sides modes source : List ℕ) → Held b t → s ≡ stillOf t → n ≡ area t
+pub job-is : (b : List ℕ) (t : Trailer) (s : Still) (n : ℕ) (rows cols sides modes source : List ℕ) → GoodFile b t → s ≡ stillIn t → n ≡ areaOf t
     → rows ≡ fill (λ (k : ℕ). leAt 2 b (t .plan + 6 * k)) (min (t .blocks) 512) (replicate 512 0)
     → cols ≡ fill (λ (k : ℕ). leAt 2 b (t .plan + 2 + 6 * k)) (min (t .blocks) 512) (replicate 512 0)
     → sides ≡ fill (λ (k : ℕ). getD b (t .plan + 4 + 6 * k) 0) (min (t .blocks) 512) (replicate 512 0)
@@ -169,14 +169,14 @@ pub job-is : (b : List ℕ) (t : Trailer) (s : Still) (n : ℕ) (rows cols sides
     → let m = t .blocks in
     record { still = s; plan = planOf (take m rows) (take m cols) (take m sides) (take m modes); source = take n source } ≡ jobOf b
 job-is b t s n rows cols sides modes source h e m p₀ p₁ p₂ p₃ q =
-    let all : min n 8192 ≡ area t = omega (arith, h .samples-few, m) in
+    let all : min n 8192 ≡ areaOf t = omega (arith, h .samples-few, m) in
     let x₀ = field-is _ (t .blocks) rows (h .blocks-few) p₀ in
     let x₁ = field-is _ (t .blocks) cols (h .blocks-few) p₁ in
     let x₂ = field-is _ (t .blocks) sides (h .blocks-few) p₂ in
     let x₃ = field-is _ (t .blocks) modes (h .blocks-few) p₃ in
-    let y : take n source ≡ sourceOf b t = ap (take n) q ∙ ap₂ (λ (j k : ℕ). take j (fill (λ (i : ℕ). leAt 2 b (t .samples + 2 * i)) k (replicate 8192 0))) m all ∙ take-fill _ (area t) (area t) 8192 0 (omega arith) (h .samples-few) in
+    let y : take n source ≡ sourceOf b t = ap (take n) q ∙ ap₂ (λ (j k : ℕ). take j (fill (λ (i : ℕ). leAt 2 b (t .samples + 2 * i)) k (replicate 8192 0))) m all ∙ take-fill _ (areaOf t) (areaOf t) 8192 0 (omega arith) (h .samples-few) in
     (λ i. record { still = e i; plan = planOf (x₀ i) (x₁ i) (x₂ i) (x₃ i); source = y i })
-    ∙ ap (λ (u : Trailer). record { still = stillOf u; plan = planIn b u; source = sourceOf b u }) (h .trailer)
+    ∙ ap (λ (u : Trailer). record { still = stillIn u; plan = planIn b u; source = sourceOf b u }) (h .trailer)
 
 -- the whole text of an input
 pub printed-is : (b : List ℕ) (t : Bool) → fileOk b ≡ t → cond t (told (jobOf b)) (refusal 12 0) ≡ printed b

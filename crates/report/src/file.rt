@@ -5,7 +5,7 @@ ghost use Prim.Native.Nat.{ℕ, _+_, _-_, _*_, _≤_, _<_, min};
 ghost use lib.ListN.{getD, replicate};
 ghost use Rattle.laws.specs.Fill.{fill};
 ghost use Rattle.laws.specs.Bytes.{leAt};
-ghost use Rattle.report.specs.file.File.{trailerOf, area, regionsOk, fileOk};
+ghost use Rattle.report.specs.file.File.{trailerOf, areaOf, regionsOk, fileOk};
 use domain::helpers;
 
 // The last 16 bytes of the input.
@@ -78,7 +78,7 @@ pub(crate) fn trailer_of(b: &[u8]) -> Trailer
 
 // How many samples the picture has.
 pub(crate) fn area_of(t: Trailer) -> usize
-    ensures { λ r. ⌜ (r ≡ area t) × (r < 4294967296) ⌝ }
+    ensures { λ r. ⌜ (r ≡ areaOf t) × (r < 4294967296) ⌝ }
 {
     (t.height as usize) * (t.width as usize)
 }

@@ -12,10 +12,10 @@ ghost use lib.IntN.{pos};
 ghost use Rattle.plan.specs.tiling.Plan.{planOf};
 ghost use Rattle.walk.specs.Lent.{scratchTables, world};
 ghost use Rattle.walk.specs.calls.Door.{replayAfter};
-ghost use Rattle.report.specs.Told.{stillOf, lines, told, jobOf, printed, reportOf};
+ghost use Rattle.report.specs.Told.{stillIn, lines, told, jobOf, printed, reportOf};
 ghost use Rattle.report.specs.text.Laws.{Laid};
 ghost use Rattle.report.specs.Laws.{Listed, WholeWalk};
-ghost use Rattle.report.specs.Whole.{Blank, Held};
+ghost use Rattle.report.specs.Whole.{Blank, GoodFile};
 use crate::file::Trailer;
 use plan::tiling::Frame;
 use walk::Progress;
@@ -188,8 +188,8 @@ fn tell(
     text::lay_ending(&mut *out, lines, rows.len(), same)
 }
 
-fn still_of(t: Trailer) -> Still
-    ensures { λ r. ⌜ r ≡ stillOf t ⌝ }
+fn still_in(t: Trailer) -> Still
+    ensures { λ r. ⌜ r ≡ stillIn t ⌝ }
 {
     let frame = Frame {
         width: t.width as u32,
@@ -204,7 +204,7 @@ fn still_of(t: Trailer) -> Still
 
 // The text of a file that number 12 is not given for.
 fn tell_file(out: &mut [u8], b: &[u8], t: Trailer) -> usize
-    requires { ⌜ Held (now b) t × (65536 ≤ count (now out)) ⌝ }
+    requires { ⌜ GoodFile (now b) t × (65536 ≤ count (now out)) ⌝ }
     ensures { λ r. ⌜ Laid 0 (told (jobOf (now (b .entry)))) (now (out .entry)) (now (out .exit)) r 65536 ⌝ }
 {
     let samples = file::area_of(t);
@@ -220,7 +220,7 @@ fn tell_file(out: &mut [u8], b: &[u8], t: Trailer) -> usize
     let mut plane = blank_plane();
     tell(
         &mut *out,
-        still_of(t),
+        still_in(t),
         &rows[..blocks],
         &cols[..blocks],
         &sides[..blocks],

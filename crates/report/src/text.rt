@@ -4,7 +4,7 @@ ghost use mathlib.Core.Path.{_≡_};
 ghost use Prim.Native.Nat.{_+_, _≤_};
 ghost use lib.Dec.{leb};
 ghost use lib.ListN.{length};
-ghost use Rattle.report.specs.text.Text.{number, line, refusal, ending, laidIn, endIn};
+ghost use Rattle.report.specs.text.Text.{number, blockLine, refusal, ending, laidIn, endIn};
 ghost use Rattle.report.specs.text.Laws.{Laid};
 use plan::tiling::Block;
 
@@ -35,7 +35,7 @@ fn lay_number(out: &mut [u8], at: usize, n: u64, after: u8) -> usize
 
 fn line_at(out: &mut [u8], at: usize, b: Block, sum: u64) -> usize
     requires { ⌜ at + 105 ≤ length (now out) ⌝ }
-    ensures { λ r. ⌜ Laid at (line b sum) (now (out .entry)) (now (out .exit)) r 105 ⌝ }
+    ensures { λ r. ⌜ Laid at (blockLine b sum) (now (out .entry)) (now (out .exit)) r 105 ⌝ }
 {
     let row = lay_number(&mut *out, at, b.row as u64, b' ');
     let col = lay_number(&mut *out, row, b.col as u64, b' ');
@@ -77,7 +77,7 @@ fn lies(at: usize, k: usize, len: usize) -> bool
 
 // A line for a block from `at` on. Each of these tells where its text ends; where there is no room it writes nothing and gives `at` back.
 pub(crate) fn lay_line(out: &mut [u8], at: usize, b: Block, sum: u64) -> usize
-    ensures { λ r. ⌜ (now (out .exit) ≡ laidIn 105 at (line b sum) (now (out .entry))) × (r ≡ endIn 105 at (line b
+    ensures { λ r. ⌜ (now (out .exit) ≡ laidIn 105 at (blockLine b sum) (now (out .entry))) × (r ≡ endIn 105 at (blockLine b
         sum) (now (out .entry))) ⌝ }
 {
     if !lies(at, 105, out.len()) {

@@ -41,7 +41,7 @@ each-small rs (suc k) e i h =
     ⊎-elim (λ q. rw q (leb-true (natAbs (getD rs k (pos 0))) 65535 (o .1))) (λ l. each-small rs k (o .0) i l) (eq-or-lt-of-le (le-of-suc-le-suc h))
 
 -- three buffers hold so many runs of 16
-pub record Fits (runs a b c : ℕ) : Type 0 where
+pub record RunsFit (runs a b c : ℕ) : Type 0 where
   pub few : runs ≤ 64
   pub first : runs * 16 ≤ a
   pub second : runs * 16 ≤ b
@@ -52,7 +52,7 @@ pub size-fits : (n a b c : ℕ) → residualNo n a b c ≡ 0 → Size n
 unfolding residualNo
 size-fits n a b c e = size-of n (passed (sizeOk n) _ 2 (omega arith) e .0)
 
-pub runs-fit : (n a b c : ℕ) → residualNo n a b c ≡ 0 → (runs : ℕ) → runs * 16 ≡ n * n → runs ≤ 64 → Fits runs a b c
+pub runs-fit : (n a b c : ℕ) → residualNo n a b c ≡ 0 → (runs : ℕ) → runs * 16 ≡ n * n → runs ≤ 64 → RunsFit runs a b c
 unfolding residualNo
 runs-fit n a b c e runs q h =
     let k = n * n in
@@ -88,12 +88,12 @@ module _ (n a b c : ℕ) (more : List Check) where
   first-goes e = goes (sizeOk n) (leb (n * n) a && leb (n * n) b && leb (n * n) c) more e
 
 -- a reconstruction that is not refused
-pub record Sound (bits n pred : ℕ) (rs : List ℤ) (out : ℕ) : Type 0 where
+pub record ReconstructReady (bits n pred : ℕ) (rs : List ℤ) (out : ℕ) : Type 0 where
   pub depth : Depth bits
   pub buffers : residualNo n pred (length rs) out ≡ 0
   pub small : (i : ℕ) → i < n * n → natAbs (getD rs i (pos 0)) ≤ 65535
 
-pub sound : (bits n pred : ℕ) (rs : List ℤ) (out : ℕ) → reconstructNo bits n pred rs out ≡ 0 → Sound bits n pred rs out
+pub sound : (bits n pred : ℕ) (rs : List ℤ) (out : ℕ) → reconstructNo bits n pred rs out ≡ 0 → ReconstructReady bits n pred rs out
 unfolding reconstructNo residualNo
 sound bits n pred rs out e =
     let long = leb (n * n) pred && leb (n * n) (length rs) && leb (n * n) out in

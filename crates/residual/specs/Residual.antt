@@ -12,8 +12,8 @@ use Rattle.domain.specs.Domain.{depthOk, sizeOk}
 use Rattle.samples.specs.deltas.Deltas.{residualOk}
 
 -- original less prediction, at entry i
-abbrev pub residualAt : List ℕ → List ℕ → ℕ → ℤ
-residualAt orig pred i = pos (getD orig i 0) -ℤ pos (getD pred i 0)
+abbrev pub differenceAt : List ℕ → List ℕ → ℕ → ℤ
+differenceAt orig pred i = pos (getD orig i 0) -ℤ pos (getD pred i 0)
 
 -- prediction plus residual, brought to 0..largest, at entry i
 abbrev pub rebuiltTo : ℕ → List ℕ → List ℤ → ℕ → ℕ
@@ -38,7 +38,7 @@ reconstructNo bits n pred residual out =
 -- what the lent buffer holds afterwards: the first n * n entries are written, the rest is kept
 unfoldable pub residualsAfter : ℕ → List ℕ → List ℕ → List ℤ → List ℤ
 residualsAfter n orig pred residual =
-    served (residualNo n (length orig) (length pred) (length residual)) (fill (residualAt orig pred) (n * n) residual) residual
+    served (residualNo n (length orig) (length pred) (length residual)) (fill (differenceAt orig pred) (n * n) residual) residual
 
 unfoldable pub reconstructed : ℕ → ℕ → List ℕ → List ℤ → List ℕ → List ℕ
 reconstructed bits n pred residual out =

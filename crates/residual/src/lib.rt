@@ -8,9 +8,9 @@ ghost use lib.IntN.{pos, natAbs, _+ℤ_};
 ghost use Rattle.laws.specs.Fill.{fill, run};
 ghost use Rattle.h265.specs.Notation.{clipTo};
 ghost use Rattle.domain.specs.Facts.{Size};
-ghost use Rattle.residual.specs.Residual.{residualAt, rebuiltTo, allInRange, residualNo, reconstructNo, residualsAfter};
+ghost use Rattle.residual.specs.Residual.{differenceAt, rebuiltTo, allInRange, residualNo, reconstructNo, residualsAfter};
 ghost use Rattle.residual.specs.Residual.{reconstructed};
-ghost use Rattle.residual.specs.Laws.{Fits};
+ghost use Rattle.residual.specs.Laws.{RunsFit};
 ghost use Rattle.residual.specs.Narrow.{raise, highPart};
 use domain::helpers;
 use fmt::depth;
@@ -55,7 +55,7 @@ fn residual_no(n: usize, orig: usize, pred: usize, residual: usize) -> u32
 // A run of 16 residuals goes by way of an array of its own, so that every sample is read before the first is written.
 fn residual_run(orig: &[u16], pred: &[u16], at: usize) -> [i32; 16]
     requires { ⌜ (at + 16 ≤ length (now orig)) × (at + 16 ≤ length (now pred)) ⌝ }
-    ensures { λ r. ⌜ r ≡ fill (λ (j : ℕ). residualAt (now (orig .entry)) (now (pred .entry)) (at + j)) 16 (replicate
+    ensures { λ r. ⌜ r ≡ fill (λ (j : ℕ). differenceAt (now (orig .entry)) (now (pred .entry)) (at + j)) 16 (replicate
         16 (pos 0)) ⌝ }
 {
     let mut to = [0i32; 16];
@@ -75,8 +75,8 @@ fn store_residuals(from: [i32; 16], at: usize, residual: &mut [i32])
 }
 
 fn residuals(orig: &[u16], pred: &[u16], runs: usize, residual: &mut [i32])
-    requires { ⌜ Fits runs (length (now orig)) (length (now pred)) (length (now residual)) ⌝ }
-    ensures { λ _. ⌜ now (residual .exit) ≡ fill (residualAt (now (orig .entry)) (now (pred .entry))) (runs * 16) (now
+    requires { ⌜ RunsFit runs (length (now orig)) (length (now pred)) (length (now residual)) ⌝ }
+    ensures { λ _. ⌜ now (residual .exit) ≡ fill (differenceAt (now (orig .entry)) (now (pred .entry))) (runs * 16) (now
         (residual .entry)) ⌝ }
 {
     for r in 0..runs {
@@ -188,7 +188,7 @@ fn store_samples(from: [u16; 16], at: usize, out: &mut [u16])
 }
 
 fn rebuild(pred: &[u16], residual: &[i32], runs: usize, largest: u16, out: &mut [u16])
-    requires { ⌜ Fits runs (length (now pred)) (length (now residual)) (length (now out)) × ((i : ℕ) → i < runs * 16 →
+    requires { ⌜ RunsFit runs (length (now pred)) (length (now residual)) (length (now out)) × ((i : ℕ) → i < runs * 16 →
         natAbs (getD (now residual) i (pos 0)) ≤ 65535) ⌝ }
     ensures { λ _. ⌜ now (out .exit) ≡ fill (rebuiltTo largest (now (pred .entry)) (now (residual .entry))) (runs *
         16) (now (out .entry)) ⌝ }

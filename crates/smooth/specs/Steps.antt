@@ -50,14 +50,14 @@ module _ (n corner : ℕ) (row : List ℕ) where
   strong-kept = refl
 
 -- what a call that is not refused knows
-pub record Ready (n above left : ℕ) : Type 0 where
+pub record SmoothReady (n above left : ℕ) : Type 0 where
   pub size : Size n
   pub low : 4 ≤ n
   pub high : n ≤ 32
   pub up : 65 ≤ above
   pub side : 65 ≤ left
 
-pub ready : (n above left : ℕ) → filterNo n above left ≡ 0 → Ready n above left
+pub ready : (n above left : ℕ) → filterNo n above left ≡ 0 → SmoothReady n above left
 ready n above left e =
     let p = passed (sizeOk n) _ 2 (omega arith) e in
     let q = passed (leb 65 above && leb 65 left) 0 5 (omega arith) (p .1) .0 in
@@ -76,7 +76,7 @@ module _ (allowed : Bool) (bits n corner : ℕ) (above left : List ℕ) where
   unfolding smoothed
   give-weak f u p q = rw (weak-is allowed bits n (fromRows corner above left) f, u, p, q)
 
-pub luma-ready : (bits n above left : ℕ) → filterLumaNo bits n above left ≡ 0 → Depth bits × Ready n above left
+pub luma-ready : (bits n above left : ℕ) → filterLumaNo bits n above left ≡ 0 → Depth bits × SmoothReady n above left
 luma-ready bits n above left e =
     let p = passed (depthOk bits) (filterNo n above left) 1 (omega arith) e in (depth-of bits (p .0), ready n above left (p .1))
 

@@ -10,7 +10,7 @@ ghost use Rattle.domain.specs.Facts.{Depth};
 ghost use Rattle.smooth.specs.Smoothing.{ruleNo, filterNo, filterLumaNo, shouldFilterRefs, filterReferences, filterLumaRefs};
 ghost use Rattle.smooth.specs.Smoothing.{rowOf, smoothed};
 ghost use Rattle.smooth.specs.Forms.{weakRow};
-ghost use Rattle.smooth.specs.Steps.{Ready};
+ghost use Rattle.smooth.specs.Steps.{SmoothReady};
 use domain::rows;
 use samples::filters;
 
@@ -75,7 +75,7 @@ fn filter_no(n: usize, above: usize, left: usize) -> u32
 }
 
 // Number 1 before them.
-fn luma_no(bits: u32, n: usize, above: usize, left: usize) -> u32
+fn filter_luma_no(bits: u32, n: usize, above: usize, left: usize) -> u32
     ensures { λ r. ⌜ r ≡ filterLumaNo bits n above left ⌝ }
 {
     if !domain::depth_ok(bits) {
@@ -118,7 +118,7 @@ fn strong_row(corner: u16, row: &[u16]) -> [u16; 65]
 
 // Whether the strong form is taken, where it is allowed.
 fn is_strong(allowed: bool, corner: u16, above: &[u16], left: &[u16], n: usize, bits: u32) -> bool
-    requires { ⌜ Depth bits × Ready n (length (now above)) (length (now left)) ⌝ }
+    requires { ⌜ Depth bits × SmoothReady n (length (now above)) (length (now left)) ⌝ }
     ensures { λ r. ⌜ r ≡ biIntFlag allowed bits n (fromRows corner (now (above .entry)) (now (left .entry))) ⌝ }
 {
     let up = filters::is_straight(bits, corner, above[31], above[63]);
@@ -135,7 +135,7 @@ fn smooth_rows(
     n: usize,
     bits: u32,
 ) -> rows::Rows
-    requires { ⌜ Depth bits × Ready n (length (now above)) (length (now left)) ⌝ }
+    requires { ⌜ Depth bits × SmoothReady n (length (now above)) (length (now left)) ⌝ }
     ensures { λ r. ⌜ r ≡ smoothed allowed bits n corner (now (above .entry)) (now (left .entry)) ⌝ }
 {
     if is_strong(allowed, corner, above, left, n, bits) {
@@ -182,7 +182,7 @@ pub fn filter_references(corner: u16, above: &[u16], left: &[u16], n: usize) -> 
 pub fn filter_luma_refs(corner: u16, above: &[u16], left: &[u16], n: usize, bits: u32) -> Smoothed
     ensures { λ r. ⌜ r ≡ filterLumaRefs true corner (now (above .entry)) (now (left .entry)) n bits ⌝ }
 {
-    let no = luma_no(bits, n, above.len(), left.len());
+    let no = filter_luma_no(bits, n, above.len(), left.len());
     if no == 0 {
         return Smoothed {
             no: 0,

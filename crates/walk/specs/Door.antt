@@ -11,7 +11,7 @@ use Rattle.plan.specs.declared.tiling.Verdict.{Verdict}
 use Rattle.plan.specs.tiling.Plan.{Plan}
 use Rattle.walk.specs.declared.checks.Still.{Still}
 use Rattle.walk.specs.checks.Checks.{Tables}
-use Rattle.walk.specs.calls.Steps.{doing}
+use Rattle.walk.specs.calls.Steps.{doingOf}
 use Rattle.walk.specs.block.Walked.{World}
 use Rattle.walk.specs.Lent.{Residuals, lentTables, worldBefore, worldAfter}
 use Rattle.walk.specs.calls.Door.{replayVerdict, replayAfter, walkVerdict, walkAfter}
@@ -21,7 +21,7 @@ use Rattle.walk.specs.declared.Stepped.{Stepped}
 -- the successor of the record, or the record as given
 abbrev pub steppedBy : Verdict → Plan → Progress → ℕ → Stepped
 steppedBy v plan p grant =
-    let did = doing (plan .count) (p .done) grant in
+    let did = doingOf (plan .count) (p .done) grant in
     served (v .no) (record { no = 0; block = 0; did = did; next = record { done = p .done + did } }) (record { no = v .no; block = v .block; did = 0; next = p })
 
 -- a call of replay from the plane d: its answer r, the plane e after it, and that a refusal keeps the scratch

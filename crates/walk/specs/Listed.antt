@@ -16,7 +16,7 @@ use Rattle.walk.specs.checks.Checks.{Tables, replayNo, walkNo, settle}
 use Rattle.walk.specs.block.Rebuilt.{replayUnit}
 use Rattle.walk.specs.block.Walked.{World, walkUnit}
 use Rattle.walk.specs.declared.calls.Step.{Step}
-use Rattle.walk.specs.calls.Steps.{stepBy}
+use Rattle.walk.specs.calls.Steps.{stepOf}
 use Rattle.walk.specs.calls.Door.{replayVerdict, replayAfter, walkVerdict, walkAfter}
 use Rattle.walk.specs.calls.Ready.{ReplayReady, WalkReady}
 use Rattle.walk.specs.calls.Laws as calls
@@ -31,21 +31,21 @@ bare count = record { whole = true; count = count; block = λ _. noBlock }
 
 -- what a call comes to
 unfoldable pub callOf : Verdict → Plan → Progress → ℕ → Call
-callOf v plan p grant = record { answer = steppedBy v plan p grant; upto = stepBy v (plan .count) (p .done) grant .upto }
+callOf v plan p grant = record { answer = steppedBy v plan p grant; upto = stepOf v (plan .count) (p .done) grant .upto }
 
 -- the two ways of a call
 module _ (v : Verdict) (plan : Plan) (p : Progress) (grant : ℕ) where
   abbrev pub made : Step → Progress → Call
   made t next = record { answer = record { no = t .no; block = t .block; did = t .did; next = next }; upto = t .upto }
 
-  pub refused-call : (t : Step) → t ≡ stepBy v (plan .count) (p .done) grant → (v .no ≡ 0 → ⊥) → made t p ≡ callOf v plan p grant
-  unfolding callOf stepBy
+  pub refused-call : (t : Step) → t ≡ stepOf v (plan .count) (p .done) grant → (v .no ≡ 0 → ⊥) → made t p ≡ callOf v plan p grant
+  unfolding callOf stepOf
   refused-call t e d =
       ap (λ (x : Step). made x p) (e ∙ sym (unserved (v .no) _ _ d))
       ∙ ap₂ (λ (x : Stepped) (u : Step). record { answer = x; upto = u .upto }) (unserved (v .no) _ _ d) (unserved (v .no) _ _ d)
 
-  pub granted-call : (t : Step) → t ≡ stepBy v (plan .count) (p .done) grant → v .no ≡ 0 → made t (record { done = t .upto }) ≡ callOf v plan p grant
-  unfolding callOf stepBy
+  pub granted-call : (t : Step) → t ≡ stepOf v (plan .count) (p .done) grant → v .no ≡ 0 → made t (record { done = t .upto }) ≡ callOf v plan p grant
+  unfolding callOf stepOf
   granted-call t e z =
       ap (λ (x : Step). made x (record { done = x .upto })) (e ∙ sym (worked (v .no) _ _ z))
       ∙ ap₂ (λ (x : Stepped) (u : Step). record { answer = x; upto = u .upto }) (worked (v .no) _ _ z) (worked (v .no) _ _ z)
@@ -56,7 +56,7 @@ module _ (v : Verdict) (plan : Plan) (p : Progress) (grant : ℕ) (c : Call) (is
   unfolding callOf
   answer-is = ap (λ (x : Call). x .answer) is
 
-  upto-is : c .upto ≡ stepBy v (plan .count) (p .done) grant .upto
+  upto-is : c .upto ≡ stepOf v (plan .count) (p .done) grant .upto
   unfolding callOf
   upto-is = ap (λ (x : Call). x .upto) is
 

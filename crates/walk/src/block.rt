@@ -10,7 +10,7 @@ ghost use Rattle.walk.specs.block.Predicted.{predictedAt};
 ghost use Rattle.walk.specs.block.Ready.{Ready, Lies};
 ghost use Rattle.walk.specs.block.Rebuilt.{rebuilt};
 ghost use Rattle.walk.specs.block.Walked.{walked};
-ghost use Rattle.walk.specs.block.Bridge.{geoOf};
+ghost use Rattle.walk.specs.block.Bridge.{geometryOf};
 use crate::block_rows;
 use crate::checks::Still;
 use fmt::LumaCol;
@@ -22,7 +22,7 @@ use refs::LumaRefGeometry;
 
 // A block as the gather takes it.
 pub fn geometry(s: Still, b: Block) -> LumaRefGeometry
-    ensures { λ r. ⌜ r ≡ geoOf s b ⌝ }
+    ensures { λ r. ⌜ r ≡ geometryOf s b ⌝ }
 {
     let picture = Picture {
         width: s.frame.width,

@@ -2,7 +2,7 @@
 // Rests on what a verdict is.
 ghost use mathlib.Core.Path.{_≡_};
 ghost use Prim.Native.Nat.{min, _-_};
-ghost use Rattle.walk.specs.calls.Steps.{doing, stepBy};
+ghost use Rattle.walk.specs.calls.Steps.{doingOf, stepOf};
 use domain::helpers;
 use plan::tiling::Verdict;
 
@@ -31,14 +31,14 @@ fn rest_of(count: usize, done: u32) -> u32
 
 // The lesser of the grant and what remains.
 pub fn doing_of(count: usize, done: u32, grant: u32) -> u32
-    ensures { λ r. ⌜ r ≡ doing count done grant ⌝ }
+    ensures { λ r. ⌜ r ≡ doingOf count done grant ⌝ }
 {
     helpers::min(grant, rest_of(count, done))
 }
 
 // The step of a call, of which so many blocks are done and whose plan has `count`.
 pub(crate) fn step_of(done: u32, v: Verdict, count: usize, grant: u32) -> Step
-    ensures { λ r. ⌜ r ≡ stepBy v count done grant ⌝ }
+    ensures { λ r. ⌜ r ≡ stepOf v count done grant ⌝ }
 {
     if v.no != 0 {
         return Step {

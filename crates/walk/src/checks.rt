@@ -4,7 +4,7 @@ ghost use mathlib.Core.Path.{_≡_};
 ghost use Prim.Native.Nat.{ℕ};
 ghost use lib.Dec.{leb};
 ghost use Rattle.samples.specs.deltas.Deltas.{residualOk};
-ghost use Rattle.walk.specs.checks.Checks.{every, whole, roomy, openingNo, replayNo, walkNo, settle};
+ghost use Rattle.walk.specs.checks.Checks.{every, isWhole, isRoomy, openingNo, replayNo, walkNo, settle};
 use fmt::depth;
 use plan::tiling::Frame;
 use plan::tiling::Verdict;
@@ -18,14 +18,14 @@ pub struct Still {
 
 // Number 5: whether so many entries are the picture's samples.
 pub(crate) fn is_whole(s: Still, len: usize) -> bool
-    ensures { λ r. ⌜ r ≡ whole s len ⌝ }
+    ensures { λ r. ⌜ r ≡ isWhole s len ⌝ }
 {
     len == (s.frame.height as usize) * (s.frame.width as usize)
 }
 
 // Number 5: whether the tables are long enough.
 pub(crate) fn is_roomy(refs: usize, indices: usize, fractions: usize) -> bool
-    ensures { λ r. ⌜ r ≡ roomy (record { refs = refs; indices = indices; fractions = fractions }) ⌝ }
+    ensures { λ r. ⌜ r ≡ isRoomy (record { refs = refs; indices = indices; fractions = fractions }) ⌝ }
 {
     (refs >= 193) & (indices >= 32) & (fractions >= 32)
 }

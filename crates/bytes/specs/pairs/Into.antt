@@ -10,14 +10,14 @@ use Rattle.laws.specs.Bytes.{byteOf}
 use Rattle.bytes.specs.Bytes.{samplesOf}
 
 -- work that is done where its count is at most m and its lists are long enough
-abbrev pub within : ℕ → ℕ → Bool → List ℕ → List ℕ → List ℕ
-within m count long work kept = cond (leb count m) (cond long work kept) kept
+abbrev pub servedWithin : ℕ → ℕ → Bool → List ℕ → List ℕ → List ℕ
+servedWithin m count long work kept = cond (leb count m) (cond long work kept) kept
 
 -- the first samples of bytes
 unfoldable pub readInto : ℕ → List ℕ → List ℕ → List ℕ
-readInto count row d = within 32 count (leb (4 * count) (length row) && leb (2 * count) (length d)) (fill (λ i. getD (samplesOf row) i 0) (2 * count) d) d
+readInto count row d = servedWithin 32 count (leb (4 * count) (length row) && leb (2 * count) (length d)) (fill (λ i. getD (samplesOf row) i 0) (2 * count) d) d
 
 -- the bytes of the first samples
 unfoldable pub storeInto : ℕ → List ℕ → List ℕ → List ℕ
 storeInto count samples d =
-    within 512 count (leb (2 * count) (length samples) && leb (4 * count) (length d)) (fill (byteOf 2 (λ i. getD samples i 0)) (4 * count) d) d
+    servedWithin 512 count (leb (2 * count) (length samples) && leb (4 * count) (length d)) (fill (byteOf 2 (λ i. getD samples i 0)) (4 * count) d) d

@@ -9,10 +9,10 @@ use borrow.Author.Tests.{le-leb}
 use Rattle.laws.specs.Fill.{fill}
 use Rattle.laws.specs.Bytes.{byteOf}
 use Rattle.bytes.specs.Bytes.{samplesOf}
-use Rattle.bytes.specs.pairs.Into.{within, readInto, storeInto}
+use Rattle.bytes.specs.pairs.Into.{servedWithin, readInto, storeInto}
 
 -- where all is long enough
-enough : (m count : ℕ) (long : Bool) (work kept : List ℕ) → count ≤ m → long ≡ true → within m count long work kept ≡ work
+enough : (m count : ℕ) (long : Bool) (work kept : List ℕ) → count ≤ m → long ≡ true → servedWithin m count long work kept ≡ work
 enough m count long work kept h e = rw (le-leb count m h, e)
 
 pub read-done : (count : ℕ) (row d : List ℕ) → count ≤ 32 → 4 * count ≤ length row → 2 * count ≤ length d → readInto count row d ≡ fill (λ i. getD (samplesOf row) i 0) (2 * count) d

@@ -13,7 +13,7 @@ use Rattle.domain.specs.declared.rows.Rows.{Rows}
 use Rattle.domain.specs.rows.Neighbours.{levelRows}
 use Rattle.refs.specs.substitution.Line.{anyBy}
 use Rattle.refs.specs.declared.Spot.{Spot}
-use Rattle.refs.specs.Counts.{startOf, cornerOf, restOf, edgeOf, reached, fromReach}
+use Rattle.refs.specs.Counts.{startOf, cornerOf, restOf, paddedEdge, reached, fromReach}
 use Rattle.refs.specs.Spots.{onEdge, cornerOn, aboveOn, leftOn, planeRows, Reads}
 use Rattle.refs.specs.Seen.{padded, pad-edge}
 use Rattle.camera.specs.declared.gather.Border.{Border}
@@ -21,11 +21,11 @@ use Rattle.camera.specs.declared.gather.Around.{Around}
 
 -- an edge out of a plane, 65 entries
 abbrev pub edgeIn : List ℕ → Border → ℕ → List ℕ
-edgeIn plane e n = edgeOf (2 * n + 1) (e .have) (onEdge plane (e .at) (e .step)) (e .rest)
+edgeIn plane e n = paddedEdge (2 * n + 1) (e .have) (onEdge plane (e .at) (e .step)) (e .rest)
 
 -- an edge as it is read into a row: what is there, then what the others have up to entry 2n
-abbrev pub readInto : List ℕ → Border → ℕ → List ℕ → List ℕ
-readInto plane e n row = padded (2 * n + 1) (e .have) (e .rest) (fill (onEdge plane (e .at) (e .step)) (e .have) row)
+abbrev pub readEdge : List ℕ → Border → ℕ → List ℕ → List ℕ
+readEdge plane e n row = padded (2 * n + 1) (e .have) (e .rest) (fill (onEdge plane (e .at) (e .step)) (e .have) row)
 
 -- a loop that goes on where another ended: none, one entry more, and all
 pub rest-none : (v k : ℕ) (d : List ℕ) → d ≡ run (λ j. v) k (k - k) d
@@ -37,7 +37,7 @@ rest-more v k i d {e} h p =
     ∙ ap (λ (j : ℕ). run (λ (m : ℕ). v) k j d) (let q : i - k + 1 ≡ i + 1 - k = omega arith in q)
 
 pub edge-read : (plane : List ℕ) (e : Border) (n : ℕ) (d : List ℕ) {k i : ℕ} {x y : List ℕ} → k ≡ e .have → i ≡ 2 * n + 1 → x ≡ fill (onEdge plane (e .at) (e .step)) k d
-    → y ≡ run (λ j. e .rest) k (i - k) x → y ≡ readInto plane e n d
+    → y ≡ run (λ j. e .rest) k (i - k) x → y ≡ readEdge plane e n d
 edge-read plane e n d {k} {i} ek ei ex ey =
     ey ∙ ap (run (λ (j : ℕ). e .rest) k (i - k)) ex
     ∙ ap₂ (λ (a b : ℕ). run (λ (j : ℕ). e .rest) a (b - a) (fill (onEdge plane (e .at) (e .step)) a d)) ek ei
@@ -96,12 +96,12 @@ module _ (plane : List ℕ) (s : Spot) (r : Reach) (n : ℕ) {a : Around} (ea : 
 
   -- from both edges as they are read into rows of zeros
   pub around-read : (neutral : ℕ) → anyBy (r .corner) (r .above) (r .left) ≡ true → Reads r s (length plane) n → {x y : List ℕ} {v : Rows}
-      → x ≡ readInto plane (a .above) n (replicate 65 0) → y ≡ readInto plane (a .left) n (replicate 65 0) → v ≡ record { corner = a .corner; above = x; left = y }
+      → x ≡ readEdge plane (a .above) n (replicate 65 0) → y ≡ readEdge plane (a .left) n (replicate 65 0) → v ≡ record { corner = a .corner; above = x; left = y }
       → v ≡ planeRows plane s r n neutral
   around-read neutral any reads ex ey ev =
       let k = around-kept reads in
       ev ∙ ap₂ (λ (u w : List ℕ). record { corner = a .corner; above = u; left = w }) (ex ∙ read-edge (a .above) (k .0 .few)) (ey ∙ read-edge (a .left) (k .1 .few))
       ∙ around-rows neutral any
     where
-      read-edge : (e : Border) → e .have ≤ 2 * n + 1 → readInto plane e n (replicate 65 0) ≡ edgeIn plane e n
+      read-edge : (e : Border) → e .have ≤ 2 * n + 1 → readEdge plane e n (replicate 65 0) ≡ edgeIn plane e n
       read-edge e few = pad-edge (e .have) (onEdge plane (e .at) (e .step)) (e .rest) (2 * n + 1) few

@@ -19,21 +19,21 @@ use Rattle.domain.specs.rows.Neighbours.{levelRows}
 use Rattle.refs.specs.substitution.Line.{anyBy}
 use Rattle.refs.specs.declared.Spot.{Spot}
 use Rattle.camera.specs.declared.gather.Around.{Around}
-use Rattle.refs.specs.Counts.{edgeOf}
+use Rattle.refs.specs.Counts.{paddedEdge}
 use Rattle.refs.specs.Spots.{planeRows}
-use Rattle.refs.specs.Seen.{entry, finish-none}
+use Rattle.refs.specs.Seen.{entryIn, finish-none}
 use Rattle.camera.specs.gather.Around.{edgeIn, rowsOf, aroundOf, around-rows}
 
 -- what is there, what is not, and what is past it, one after the other
 module _ (n have rest at : ℕ) (on : ℕ → ℕ) (d : List ℕ) (side : n ≤ 32) (few : have ≤ 2 * n + 1) where
   abbrev row : List ℕ
-  row = edgeOf (2 * n + 1) have on rest
+  row = paddedEdge (2 * n + 1) have on rest
 
   abbrev line : ℕ → ℕ
-  line = entry row
+  line = entryIn row
 
   within : (i : ℕ) → i < 2 * n + 1 → line i ≡ cond (ltb i have) (on i) rest
-  unfolding edgeOf
+  unfolding paddedEdge
   within i h = fill-at (λ k. cond (ltb k have) (on k) rest) (2 * n + 1) (replicate 65 0) i 0 h (omega (arith, length-replicate {A = ℕ} 65 0))
 
   there : (i : ℕ) → i < have → on i ≡ line i
@@ -43,7 +43,7 @@ module _ (n have rest at : ℕ) (on : ℕ → ℕ) (d : List ℕ) (side : n ≤ 
   after i h = sym (within (have + i) (omega arith) ∙ ap (λ (b : Bool). cond b (on (have + i)) rest) (le-ltb (have + i) have (omega arith)))
 
   past : (i : ℕ) → i < 65 - (2 * n + 1) → 0 ≡ line (2 * n + 1 + i)
-  unfolding edgeOf
+  unfolding paddedEdge
   past i h = sym (fill-past (λ k. cond (ltb k have) (on k) rest) (2 * n + 1) (replicate 65 0) (2 * n + 1 + i) 0 (omega arith) ∙ getD-replicate 65 (2 * n + 1 + i) 0 0 (omega arith))
 
   pub edge-stored : {x y z : List ℕ} → x ≡ run (byteOf 2 on) (2 * at) (2 * have) d
@@ -59,7 +59,7 @@ module _ (n have rest at : ℕ) (on : ℕ → ℕ) (d : List ℕ) (side : n ≤ 
 -- one value in all 131 samples
 pub level-stored : (v at : ℕ) (d : List ℕ) → run (byteOf 2 (λ i. v)) (2 * at) (2 * 131) d ≡ rowsAt (2 * at) (levelRows v) d
 unfolding rowsAt
-level-stored v at d = samples-same (λ i. v) (entry (inLine (levelRows v))) at 131 d (λ i h. sym (getD-replicate 131 i v 0 h))
+level-stored v at d = samples-same (λ i. v) (entryIn (inLine (levelRows v))) at 131 d (λ i h. sym (getD-replicate 131 i v 0 h))
 
 -- the rows of a plane, where no neighbour is there, and where one is
 module _ (plane : List ℕ) (s : Spot) (r : Reach) (n neutral at : ℕ) (d : List ℕ) where
@@ -70,7 +70,7 @@ module _ (plane : List ℕ) (s : Spot) (r : Reach) (n neutral at : ℕ) (d : Lis
   pub some-stored : {a : Around} → a ≡ aroundOf plane s r → anyBy (r .corner) (r .above) (r .left) ≡ true → {x y z : List ℕ}
       → x ≡ set (set d (2 * at) (a .corner % 256)) (2 * at + 1) (byte1 (a .corner)) → y ≡ run (sampleByte (edgeIn plane (a .above) n)) (2 * (at + 1)) (2 * 65) x
       → z ≡ run (sampleByte (edgeIn plane (a .left) n)) (2 * (at + 66)) (2 * 65) y → z ≡ rowsAt (2 * at) (planeRows plane s r n neutral) d
-  unfolding edgeOf
+  unfolding paddedEdge
   some-stored {a} ea any p q w =
       rows-stored (rowsOf plane n a) at d (length-fill _ (2 * n + 1) (replicate 65 0) ∙ length-replicate {A = ℕ} 65 0) p q w
       ∙ ap (λ (v : Rows). rowsAt (2 * at) v d) (around-rows plane s r n ea neutral any)

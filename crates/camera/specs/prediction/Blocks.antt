@@ -20,18 +20,18 @@ use Rattle.h265.specs.Dc.{dc, dcVal}
 use Rattle.predict.specs.refusals.Refusals.{flatNo, angularNo}
 use Rattle.predict.specs.Lent.{withScratch}
 use Rattle.predict.specs.modes.Modes.{byMode, by-mode-alone}
-use Rattle.predict.specs.by_mode.Door.{Block, side, highest}
+use Rattle.predict.specs.by_mode.Door.{Predictable, side, highest}
 use Rattle.predict.specs.Contents.{chromaAt, chroma-plain}
-use Rattle.camera.specs.prediction.Entries.{rowOf, neighboursIn, blockIn, planarIn, dcIn, angularIn, chromaIn}
+use Rattle.camera.specs.prediction.Entries.{rowIn, neighboursIn, blockIn, planarIn, dcIn, angularIn, chromaIn}
 
 -- rows of 65 entries and room for the block, in samples
-pub record Held (n above left pred : ℕ) : Type 0 where
+pub record SampleRoom (n above left pred : ℕ) : Type 0 where
   pub above-long : 65 ≤ above
   pub left-long : 65 ≤ left
   pub block-long : n * n ≤ pred
 
 -- the doors serve them, angular prediction with tables as long as the scratch's
-module _ {bits n mode a l p : ℕ} (b : Block bits n mode) (h : Held n a l p) where
+module _ {bits n mode a l p : ℕ} (b : Predictable bits n mode) (h : SampleRoom n a l p) where
   pub flat-serves : flatNo n a l p ≡ 0
   unfolding flatNo
   flat-serves = rw (b .size, le-leb 65 a (h .above-long), le-leb 65 l (h .left-long), le-leb (n * n) p (h .block-long))
@@ -58,7 +58,7 @@ stored g n k p d e few hp hd {pred} {out} made put =
     (ap (λ (m : List ℕ). getD m (j / 2) 0) made ∙ fill-at (λ i. g (i / n) (i % n)) (n * n) p (j / 2) 0 (omega arith) (omega arith)))
 
 -- a row as it was read, and as the definitions have it, as far as a side reads
-alike : (n : ℕ) (b : List ℕ) → n ≤ 32 → 130 ≤ length b → {a : List ℕ} → a ≡ readInto n b (replicate 65 0) → (i : ℕ) → i < 2 * n → getD a i 0 ≡ getD (rowOf b) i 0
+alike : (n : ℕ) (b : List ℕ) → n ≤ 32 → 130 ≤ length b → {a : List ℕ} → a ≡ readInto n b (replicate 65 0) → (i : ℕ) → i < 2 * n → getD a i 0 ≡ getD (rowIn b) i 0
 alike n b most long e i h =
     let q = length-replicate {A = ℕ} 65 0 in
     ap (λ (l : List ℕ). getD l i 0) (e ∙ read-done n b (replicate 65 0) most (omega arith) (omega arith))
@@ -66,7 +66,7 @@ alike n b most long e i h =
     ∙ sym (fill-at (λ j. getD (samplesOf b) j 0) 65 (replicate 65 0) i 0 (omega arith) (omega arith))
 
 -- a block made of rows that were read is the one of the rows in bytes
-pub read-block : (bits n mode corner : ℕ) (edge : Bool) (above left p : List ℕ) → Block bits n mode → 130 ≤ length above → 130 ≤ length left
+pub read-block : (bits n mode corner : ℕ) (edge : Bool) (above left p : List ℕ) → Predictable bits n mode → 130 ≤ length above → 130 ≤ length left
     → {a l : List ℕ} → a ≡ readInto n above (replicate 65 0) → l ≡ readInto n left (replicate 65 0)
     → block (λ (y x : ℕ). byMode bits edge edge n mode (fromRows corner a l) x y) n p ≡ block (λ (y x : ℕ). byMode bits edge edge n mode (neighboursIn corner above left) x y) n p
 read-block bits n mode corner edge above left p b ha hl ea el =

@@ -7,16 +7,16 @@ use lib.Dec.{leb}
 use borrow.Author.Tests.{leb-true}
 use Rattle.laws.specs.Choose.{passed, both-true}
 use Rattle.domain.specs.Domain.{depthOk, sizeOk, modeOk}
-use Rattle.predict.specs.by_mode.Door.{Block}
-use Rattle.camera.specs.prediction.Entries.{room, flatEntryNo, modeEntryNo}
+use Rattle.predict.specs.by_mode.Door.{Predictable}
+use Rattle.camera.specs.prediction.Entries.{hasRoom, flatEntryNo, modeEntryNo}
 
 -- rows and a buffer that are long enough, in bytes
-pub record Fit (n above left out : ℕ) : Type 0 where
+pub record HasRoom (n above left out : ℕ) : Type 0 where
   pub above-long : 130 ≤ above
   pub left-long : 130 ≤ left
   pub block-long : 2 * (n * n) ≤ out
 
-fit : (n above left out : ℕ) → room n above left out ≡ true → Fit n above left out
+fit : (n above left out : ℕ) → hasRoom n above left out ≡ true → HasRoom n above left out
 fit n above left out e =
     let a = both-true (leb 130 above && leb 130 left) (leb (2 * (n * n)) out) e in
     let b = both-true (leb 130 above) (leb 130 left) (a .0) in
@@ -24,19 +24,19 @@ fit n above left out e =
 
 -- planar and DC, at any depth and mode: they take neither
 pub flat-fit : (n above left out : ℕ) → flatEntryNo n above left out ≡ 0 → (bits mode : ℕ) → depthOk bits ≡ true → modeOk mode ≡ true
-    → Block bits n mode × Fit n above left out
+    → Predictable bits n mode × HasRoom n above left out
 unfolding flatEntryNo
 flat-fit n above left out e bits mode d m =
     let s = passed (sizeOk n) _ 2 (omega arith) e in
-    (record { depth = d; size = s .0; inside = m }, fit n above left out (passed (room n above left out) 0 5 (omega arith) (s .1) .0))
+    (record { depth = d; size = s .0; inside = m }, fit n above left out (passed (hasRoom n above left out) 0 5 (omega arith) (s .1) .0))
 
 -- angular and the chroma block, whichever modes they take
 pub mode-fit : (bits n mode above left out : ℕ) (taken : Bool) → (taken ≡ true → modeOk mode ≡ true) → modeEntryNo bits n taken above left out ≡ 0
-    → Block bits n mode × (Fit n above left out × (taken ≡ true))
+    → Predictable bits n mode × (HasRoom n above left out × (taken ≡ true))
 unfolding modeEntryNo
 mode-fit bits n mode above left out taken h e =
     let d = passed (depthOk bits) _ 1 (omega arith) e in
     let s = passed (sizeOk n) _ 2 (omega arith) (d .1) in
     let m = passed taken _ 3 (omega arith) (s .1) in
-    let t = passed (room n above left out) 0 5 (omega arith) (m .1) in
+    let t = passed (hasRoom n above left out) 0 5 (omega arith) (m .1) in
     (record { depth = d .0; size = s .0; inside = h (m .0) }, (fit n above left out (t .0), m .0))

@@ -20,23 +20,23 @@ use Rattle.predict.specs.Contents.{chromaAt}
 use Rattle.camera.specs.Written.{Written, entry}
 
 -- Rows of 65 samples, a block of n · n in rows; what is beyond is neither read nor written.
-abbrev pub rowOf : List ℕ → List ℕ
-rowOf b = fill (λ i. getD (samplesOf b) i 0) 65 (replicate 65 0)
+abbrev pub rowIn : List ℕ → List ℕ
+rowIn b = fill (λ i. getD (samplesOf b) i 0) 65 (replicate 65 0)
 
 abbrev pub neighboursIn : ℕ → List ℕ → List ℕ → Neighbours
-neighboursIn corner above left = fromRows corner (rowOf above) (rowOf left)
+neighboursIn corner above left = fromRows corner (rowIn above) (rowIn left)
 
 -- a buffer after a block was written into it; g is the sample in a row and a column
 unfoldable pub blockIn : (ℕ → ℕ → ℕ) → ℕ → List ℕ → List ℕ
 blockIn g n d = fill (byteOf 2 (λ i. g (i / n) (i % n))) (2 * (n * n)) d
 
 -- the rows' bytes and the block's
-abbrev pub room : ℕ → ℕ → ℕ → ℕ → Bool
-room n above left out = leb (2 * predictorRow n) above && leb (2 * predictorRow n) left && leb (2 * (n * n)) out
+abbrev pub hasRoom : ℕ → ℕ → ℕ → ℕ → Bool
+hasRoom n above left out = leb (2 * predictorRow n) above && leb (2 * predictorRow n) left && leb (2 * (n * n)) out
 
 -- planar and DC refuse 2 and 5
 unfoldable pub flatEntryNo : ℕ → ℕ → ℕ → ℕ → ℕ
-flatEntryNo n above left out = firstFail ((2 unless sizeOk n) ∷ (5 unless room n above left out) ∷ [])
+flatEntryNo n above left out = firstFail ((2 unless sizeOk n) ∷ (5 unless hasRoom n above left out) ∷ [])
 
 abbrev flatEntry : (ℕ → ℕ → ℕ) → ℕ → List ℕ → List ℕ → List ℕ → Written
 flatEntry g n above left d = entry (flatEntryNo n (length above) (length left) (length d)) (blockIn g n d) d
@@ -57,7 +57,7 @@ dcEntry n edge above left d = flatEntry (dcIn (not (eqb edge 0)) n above left) n
 -- angular and the chroma block refuse 1, 2, 3 and 5; whether the entry takes the mode is told
 unfoldable pub modeEntryNo : ℕ → ℕ → Bool → ℕ → ℕ → ℕ → ℕ
 modeEntryNo bits n taken above left out =
-    firstFail ((1 unless depthOk bits) ∷ (2 unless sizeOk n) ∷ (3 unless taken) ∷ (5 unless room n above left out) ∷ [])
+    firstFail ((1 unless depthOk bits) ∷ (2 unless sizeOk n) ∷ (3 unless taken) ∷ (5 unless hasRoom n above left out) ∷ [])
 
 abbrev modeEntry : (ℕ → ℕ → ℕ) → ℕ → ℕ → Bool → List ℕ → List ℕ → List ℕ → Written
 modeEntry g bits n taken above left d = entry (modeEntryNo bits n taken (length above) (length left) (length d)) (blockIn g n d) d

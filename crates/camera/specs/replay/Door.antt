@@ -8,7 +8,7 @@ use Rattle.laws.specs.Chain.{units}
 use Rattle.bytes.specs.Bytes.{samplesOf, bytesOf, residualsOf}
 use Rattle.plan.specs.RecordPlan.{recordsOf}
 use Rattle.walk.specs.declared.checks.Still.{Still}
-use Rattle.walk.specs.calls.Steps.{doing}
+use Rattle.walk.specs.calls.Steps.{doingOf}
 use Rattle.walk.specs.block.Rebuilt.{replayUnit}
 use Rattle.camera.specs.replay.Verdict.{Lent, byteVerdict, answered}
 
@@ -18,14 +18,14 @@ blockWritten s done l = let v = byteVerdict s done l in served (v .no) 0 (v .blo
 
 -- and the next record, or the record as given where it is refused
 abbrev pub nextWritten : Still → ℕ → Lent → ℕ → ℕ
-nextWritten s done l grant = served (byteVerdict s done l .no) (done + doing (recordsOf (l .plan) .count) done grant) done
+nextWritten s done l grant = served (byteVerdict s done l .no) (done + doingOf (recordsOf (l .plan) .count) done grant) done
 
 -- the plane after a call
 unfoldable pub planeAfter : Still → ℕ → Lent → ℕ → List ℕ → List ℕ
 planeAfter s done l grant plane =
     let plan = recordsOf (l .plan) in
     served (byteVerdict s done l .no)
-    (bytesOf (units (replayUnit s (plan .block) (residualsOf (l .residuals))) done (doing (plan .count) done grant) (samplesOf plane)))
+    (bytesOf (units (replayUnit s (plan .block) (residualsOf (l .residuals))) done (doingOf (plan .count) done grant) (samplesOf plane)))
     plane
 
 -- the result buffer after a call: block number and next record

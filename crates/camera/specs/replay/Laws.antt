@@ -20,7 +20,7 @@ use Rattle.samples.specs.deltas.Deltas.{residualOk}
 use Rattle.walk.specs.declared.checks.Still.{Still}
 use Rattle.walk.specs.checks.Checks.{every, callNo, replayFits}
 use Rattle.walk.specs.Lent.{scratchTables}
-use Rattle.walk.specs.calls.Steps.{doing}
+use Rattle.walk.specs.calls.Steps.{doingOf}
 use Rattle.walk.specs.block.Rebuilt.{replayUnit}
 use Rattle.walk.specs.calls.Door.{verdictOf, replayVerdict}
 use Rattle.walk.specs.calls.Ready.{Sound}
@@ -80,12 +80,12 @@ module _ (s : Still) (done : ℕ) (l : Lent) (grant : ℕ) (v : Verdict) (e : v 
 -- a served call; e is what the plane holds after it, and its samples are known
 module _ (s : Still) (done : ℕ) (l : Lent) (grant : ℕ) (z : byteVerdict s done l .no ≡ 0) where
   pub plane-done : (plane e : List ℕ) → length e % 2 ≡ 0 → AreBytes e
-      → samplesOf e ≡ units (replayUnit s (recordsOf (l .plan) .block) (residualsOf (l .residuals))) done (doing (recordsOf (l .plan) .count) done grant) (samplesOf plane)
+      → samplesOf e ≡ units (replayUnit s (recordsOf (l .plan) .block) (residualsOf (l .residuals))) done (doingOf (recordsOf (l .plan) .count) done grant) (samplesOf plane)
       → e ≡ planeAfter s done l grant plane
   unfolding planeAfter
   plane-done plane e even small q = sym (bytes-back e even small) ∙ ap bytesOf q ∙ worked (byteVerdict s done l .no) _ plane z
 
-  pub result-served : (next : ℕ) (result : List ℕ) → next ≡ done + doing (recordsOf (l .plan) .count) done grant → answered 0 next result ≡ resultAfter s done l grant result
+  pub result-served : (next : ℕ) (result : List ℕ) → next ≡ done + doingOf (recordsOf (l .plan) .count) done grant → answered 0 next result ≡ resultAfter s done l grant result
   unfolding resultAfter
   result-served next result q =
       ap₂ (λ (b k : ℕ). answered b k result) (worked (byteVerdict s done l .no) 0 _ z) (q ∙ worked (byteVerdict s done l .no) _ done z)

@@ -18,7 +18,7 @@ use Rattle.plan.specs.tiling.Tiling.{place}
 use Rattle.plan.specs.RecordPlan.{recordsOf}
 use Rattle.walk.specs.declared.checks.Still.{Still}
 use Rattle.walk.specs.Lent.{scratchTables}
-use Rattle.walk.specs.calls.Steps.{doing}
+use Rattle.walk.specs.calls.Steps.{doingOf}
 use Rattle.walk.specs.block.Rebuilt.{replayUnit}
 use Rattle.walk.specs.block.RebuiltLaws.{rebuilt-length}
 use Rattle.walk.specs.calls.Door.{replayVerdict, replayAfter}
@@ -45,7 +45,7 @@ module _ (s : Still) (depth : Depth (s .bits)) (plan : ℕ → Block) (v : List 
 -- a call on a plane of bytes that all fit
 module _ (s : Still) (done : ℕ) (l : Lent) (grant : ℕ) (plane : List ℕ) (same : l .plane ≡ length plane) (fit : bytesFit s l ≡ true) (bytes : AreBytes plane) where
   abbrev work : List ℕ
-  work = units (replayUnit s (recordsOf (l .plan) .block) (residualsOf (l .residuals))) done (doing (recordsOf (l .plan) .count) done grant) (samplesOf plane)
+  work = units (replayUnit s (recordsOf (l .plan) .block) (residualsOf (l .residuals))) done (doingOf (recordsOf (l .plan) .count) done grant) (samplesOf plane)
 
   -- its verdict is that on what the bytes spell
   pub spelt-verdict : byteVerdict s done l ≡ replayVerdict s (recordsOf (l .plan)) scratchTables done (length (samplesOf plane)) (residualsOf (l .residuals))
@@ -71,8 +71,8 @@ module _ (s : Still) (done : ℕ) (l : Lent) (grant : ℕ) (plane : List ℕ) (s
           let a = worked (byteVerdict s done l .no) (bytesOf work) plane z in
           let b = worked (replayVerdict s (recordsOf (l .plan)) scratchTables done (length (samplesOf plane)) (residualsOf (l .residuals)) .no) work (samplesOf plane) (sym number ∙ z) in
           let q = served-sound s done l z .0 in
-          let small = below-units s (q .depth) (recordsOf (l .plan) .block) (residualsOf (l .residuals)) done (doing (recordsOf (l .plan) .count) done grant) (samplesOf plane) (samples-below plane bytes) in
-          let n = length-units s (q .depth) (recordsOf (l .plan) .block) (residualsOf (l .residuals)) done (doing (recordsOf (l .plan) .count) done grant) (samplesOf plane) in
+          let small = below-units s (q .depth) (recordsOf (l .plan) .block) (residualsOf (l .residuals)) done (doingOf (recordsOf (l .plan) .count) done grant) (samplesOf plane) (samples-below plane bytes) in
+          let n = length-units s (q .depth) (recordsOf (l .plan) .block) (residualsOf (l .residuals)) done (doingOf (recordsOf (l .plan) .count) done grant) (samplesOf plane) in
           let f = fitting s l fit .plane in
           record {
             spells = ap samplesOf (sym a) ∙ samples-back work small ∙ b;

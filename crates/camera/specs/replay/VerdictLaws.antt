@@ -77,10 +77,10 @@ settled-bytes s done l found v early e f q =
     verdict-from s done l v early e (q ∙ settle-is s (recordsOf (l .plan)) done early found (λ _. f) (λ z. early-good s l (sym e ∙ z)))
 
 -- four stores of a number, and two numbers that answer a call
-abbrev pub wordAt : List ℕ → ℕ → ℕ → List ℕ
-wordAt d at v = set (set (set (set d at (v % 256)) (at + 1) (byte1 v)) (at + 2) (byte2 v)) (at + 3) (byte3 v)
+abbrev pub putWord : List ℕ → ℕ → ℕ → List ℕ
+putWord d at v = set (set (set (set d at (v % 256)) (at + 1) (byte1 v)) (at + 2) (byte2 v)) (at + 3) (byte3 v)
 
-pub words-stored : (d : List ℕ) (v w : ℕ) → 8 ≤ length d → wordAt (wordAt d 0 v) 4 w ≡ answered v w d
+pub words-stored : (d : List ℕ) (v w : ℕ) → 8 ≤ length d → putWord (putWord d 0 v) 4 w ≡ answered v w d
 unfolding answered
 words-stored d v w l = pair-stored d v w l ∙ if-yes (leb 8 (length d)) _ d _ (le-leb 8 (length d) l) refl
 

@@ -15,7 +15,7 @@ use Rattle.h265.specs.Order.{minTbAddrZs, zScan, interleaved}
 use Rattle.h265.specs.Filtering as filtering
 use Rattle.h265.specs.Filtering.{filterFlag, straight, biIntFlag, weakAt, filtered}
 use Rattle.h265.specs.Planar.{planar}
-use Rattle.h265.specs.Dc.{sum, dcVal, dc}
+use Rattle.h265.specs.Dc.{sumTo, dcVal, dc}
 use Rattle.h265.specs.Angular.{intraPredAngle, invAngle, ref, project, angular}
 use Rattle.order.specs.declared.Picture.{Picture}
 use Rattle.order.specs.Order.{numberAt, orderNo, decodeOrder}
@@ -99,8 +99,8 @@ entry31 end = getD (filterLumaRefs true 100 (bent end) (bent end) 32 8 .rows .ab
 abbrev pub ordinary31 : ℕ → ℕ
 ordinary31 end = getD (filterReferences 100 (bent end) (bent end) 32 .above) 31 0
 
-abbrev pub strongAt : ℕ → ℕ
-strongAt end = bit (not (eqb (entry31 end) (ordinary31 end)))
+abbrev pub strongOf : ℕ → ℕ
+strongOf end = bit (not (eqb (entry31 end) (ordinary31 end)))
 
 -- P9's sample and residual, all through a block of 4
 abbrev pub restoredTo : ℕ → ℤ → ℕ
@@ -158,7 +158,7 @@ p7 =
     is 1 ∷ 0 ∷ 1 ∷ 0 ∷ 1 ∷ 0 ∷ []
 
 abbrev p8 : Figure
-p8 = strongAt 107 ∷ entry31 107 ∷ strongAt 108 ∷ [] is 1 ∷ 104 ∷ 0 ∷ []
+p8 = strongOf 107 ∷ entry31 107 ∷ strongOf 108 ∷ [] is 1 ∷ 104 ∷ 0 ∷ []
 
 -- 250 + 10 and 5 - 9
 abbrev p9 : Figure
@@ -173,7 +173,7 @@ table corner left0 above0 = p1 ∷ p2 ∷ p3 ∷ p4 ∷ p5 corner left0 above0 �
 
 -- the calls give what document 01 says
 pub figures : (corner left0 above0 : ℕ) → map (λ f. f .given) (table corner left0 above0) ≡ map (λ f. f .said) (table corner left0 above0)
-unfolding fill rows flatNo planar dc dcVal sum angular project ref intraPredAngle invAngle halvings
+unfolding fill rows flatNo planar dc dcVal sumTo angular project ref intraPredAngle invAngle halvings
     decodeOrder orderNo numberAt minTbAddrZs zScan interleaved shouldFilterRefs filterFlag filterReferences filterLumaRefs smoothed rowOf
     filtered biIntFlag straight filtering.strongAt weakAt reconstructed reconstructNo allInRange
 figures corner left0 above0 = refl

@@ -5,14 +5,14 @@ use native.Mathlib.Omega.{arith}
 use lib.ListN.{length}
 use Rattle.laws.specs.Fill.{fill}
 use Rattle.laws.specs.FillLaws.{fill-none, fill-more, fill-done}
-use Rattle.listing.specs.Drawn.{next, numberAfter, sampleOf}
+use Rattle.listing.specs.Drawn.{nextOf, numberAfter, drawnSample}
 use Rattle.listing.specs.Laws.{number-none, number-more}
 use borrow.Author.Needs.{needs}
 use Rattle.listing.proofs.draw_into.Statement.{statement}
 use Rattle.listing.proofs.draw_into.Tie as tie
 
 abbrev Inv-loop : tie.InvT-loop
-Inv-loop seed top out₀ x₀ i₀ i-end out x i = (i ≤ i-end) × (i-end ≡ length out₀) × (length out ≡ length out₀) × (x ≡ numberAfter seed i) × (out ≡ fill (λ (j : ℕ). sampleOf (numberAfter seed (j + 1)) top) i out₀)
+Inv-loop seed top out₀ x₀ i₀ i-end out x i = (i ≤ i-end) × (i-end ≡ length out₀) × (length out ≡ length out₀) × (x ≡ numberAfter seed i) × (out ≡ fill (λ (j : ℕ). drawnSample (numberAfter seed (j + 1)) top) i out₀)
 
 abbrev μ-loop : tie.MeasureT-loop
 μ-loop seed top out₀ x₀ i₀ i-end out x i = i-end - i
@@ -41,8 +41,8 @@ loop-less c = search needs
 loop-again : tie.Need-loop-again Inv-loop μ-loop
 loop-again c =
     let v = c .before .before .before .loop .inv in
-    let x = c .before .next .ensures ∙ ap next (v .3) ∙ number-more _ _ in
-    (omega arith, v .1, search needs, x, fill-more _ _ (v .4) (c .sample .ensures ∙ ap (λ (y : ℕ). sampleOf y (c .before .before .before .before .before .args .top)) x))
+    let x = c .before .next .ensures ∙ ap nextOf (v .3) ∙ number-more _ _ in
+    (omega arith, v .1, search needs, x, fill-more _ _ (v .4) (c .sample .ensures ∙ ap (λ (y : ℕ). drawnSample y (c .before .before .before .before .before .args .top)) x))
 
 same-length : tie.Need-same-length Inv-loop μ-loop
 same-length c = search needs

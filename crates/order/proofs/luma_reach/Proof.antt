@@ -6,19 +6,19 @@ use borrow.Author.Needs.{needs}
 use Rattle.order.proofs.luma_reach.Statement.{statement}
 use Rattle.order.proofs.luma_reach.Tie as tie
 
-luma-no-requires : tie.Need-luma-no-requires
-luma-no-requires c κs = search needs
+luma-reach-no-requires : tie.Need-luma-reach-no-requires
+luma-reach-no-requires c κs = search needs
 
 returns : tie.Need-returns
 unfolding lumaReach
-returns c = simp (← c .before .luma-no .ensures, ne-eqb _ _ (c .if1 .taken))
+returns c = simp (← c .before .luma-reach-no .ensures, ne-eqb _ _ (c .if1 .taken))
 
 luma-work-requires : tie.Need-luma-work-requires
-luma-work-requires c κs = sym (c .before .luma-no .ensures) ∙ c .if1 .left
+luma-work-requires c κs = sym (c .before .luma-reach-no .ensures) ∙ c .if1 .left
 
 returns-2 : tie.Need-returns-2
 unfolding lumaReach
-returns-2 c = simp (c .luma-work .ensures, ← c .before .before .luma-no .ensures, c .before .if1 .left)
+returns-2 c = simp (c .luma-work .ensures, ← c .before .before .luma-reach-no .ensures, c .before .if1 .left)
 
 pub luma-reach-spec : {M : Type 1} → statement M
-luma-reach-spec = tie.close (tie.spec luma-no-requires returns luma-work-requires returns-2)
+luma-reach-spec = tie.close (tie.spec luma-reach-no-requires returns luma-work-requires returns-2)

@@ -15,7 +15,7 @@ use Rattle.order.specs.Good.{Good, sized, levels, ctusIn, ctus-cover, cell-in, 
 use Rattle.plan.specs.declared.tiling.Frame.{Frame}
 use Rattle.plan.specs.tiling.Tiling.{pictureOf, In, cellAt}
 use Rattle.plan.specs.tiling.Check.{aheadBy, ahead}
-use Rattle.plan.specs.tiling.Cell.{rowOf, colOf, cell-of, of-cell}
+use Rattle.plan.specs.tiling.Cell.{cellRow, cellCol, cell-of, of-cell}
 use Rattle.plan.specs.tiling.Count.{cnt, cnt-add, cnt-none, cnt-zero, cnt-mono, from-start, four, part, halves, glue, two}
 
 -- halvings from the CTU to the cell, and the CTUs in a row
@@ -27,7 +27,7 @@ across f = ctusIn (pictureOf f)
 
 -- whether the cell that has number m is in the picture
 unfoldable pub inside : Frame → ℕ → Bool
-inside f m = ltb (4 * rowOf (deep f) (across f) m) (f .height) && ltb (4 * colOf (deep f) (across f) m) (f .width)
+inside f m = ltb (4 * cellRow (deep f) (across f) m) (f .height) && ltb (4 * cellCol (deep f) (across f) m) (f .width)
 
 -- no cell of the picture has this number or a greater one
 unfoldable pub numbers : Frame → ℕ
@@ -93,18 +93,18 @@ module _ {f : Frame} (g : Good (pictureOf f)) where
       omega (arith, cell-bound k 256 w (b .0) (b .1), number-cell g r c)
 
   -- the first sample of the cell that has number m
-  pub is-num : (m : ℕ) → cellAt f (4 * rowOf k w m) (4 * colOf k w m) ≡ m
+  pub is-num : (m : ℕ) → cellAt f (4 * cellRow k w m) (4 * cellCol k w m) ≡ m
   is-num m =
-      let y : 4 * rowOf k w m / 4 ≡ rowOf k w m = omega arith in
-      let x : 4 * colOf k w m / 4 ≡ colOf k w m = omega arith in
-      number-cell g (4 * rowOf k w m) (4 * colOf k w m) ∙ ap₂ (cellNo k w) y x ∙ cell-of k w m w-pos
+      let y : 4 * cellRow k w m / 4 ≡ cellRow k w m = omega arith in
+      let x : 4 * cellCol k w m / 4 ≡ cellCol k w m = omega arith in
+      number-cell g (4 * cellRow k w m) (4 * cellCol k w m) ∙ ap₂ (cellNo k w) y x ∙ cell-of k w m w-pos
 
   -- a number whose cell is inside is that of a sample of the picture
   pub inside-num : (m : ℕ) → p m ≡ true → (r : ℕ) × (c : ℕ) × In f r c × (cellAt f r c ≡ m)
   unfolding inside
   inside-num m e =
-      let b = both-true (ltb (4 * rowOf k w m) (f .height)) (ltb (4 * colOf k w m) (f .width)) e in
-      (4 * rowOf k w m, 4 * colOf k w m, (ltb-true _ _ (b .0), ltb-true _ _ (b .1)), is-num m)
+      let b = both-true (ltb (4 * cellRow k w m) (f .height)) (ltb (4 * cellCol k w m) (f .width)) e in
+      (4 * cellRow k w m, 4 * cellCol k w m, (ltb-true _ _ (b .0), ltb-true _ _ (b .1)), is-num m)
 
   one-cell : (Y X : ℕ) → X < w * 2 ^ k → cnt p (cellNo k w Y X) 1 ≡ part 1 H Y * part 1 W X
   unfolding cnt inside

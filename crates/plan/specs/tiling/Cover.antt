@@ -17,7 +17,7 @@ use Rattle.plan.specs.declared.tiling.Frame.{Frame}
 use Rattle.plan.specs.declared.tiling.Block.{Block}
 use Rattle.plan.specs.tiling.Tiling.{pictureOf, In, cellAt, Of, Covered, Placed, Next, GoodPlan, place}
 use Rattle.plan.specs.tiling.Check.{ahead}
-use Rattle.plan.specs.tiling.Cell.{rowOf, colOf, col-of-lt}
+use Rattle.plan.specs.tiling.Cell.{cellRow, cellCol, col-of-lt}
 use Rattle.plan.specs.tiling.Count.{cnt, cnt-all, cnt-mono, cnt-up, cnt-meets, from-start}
 use Rattle.plan.specs.tiling.Area.{deep, across, inside, numbers, w-pos, num-inside, num-lt, is-num, inside-num, picture-area, cnt-most, ahead-is}
 
@@ -106,8 +106,8 @@ module _ {f : Frame} (g : Good (pictureOf f)) (b : Block) (p : Placed f b) where
   run-inside : (m : ℕ) → first ≤ m → m < first + cells (b .side) → inside f m ≡ true
   unfolding inside
   run-inside m low high =
-      let r = 4 * rowOf (deep f) (across f) m in
-      let c = 4 * colOf (deep f) (across f) m in
+      let r = 4 * cellRow (deep f) (across f) m in
+      let c = 4 * cellCol (deep f) (across f) m in
       let e : cellAt f r c ≡ m = is-num g m in
       let o = run-of r c (omega (arith, col-of-lt (deep f) (across f) m (w-pos g), ap (λ (u : ℕ). across f * u) (sized g .split))) (omega arith) (omega arith) in
       simp (lt-ltb r (f .height) (omega (arith, o .bottom, p .row-in)), lt-ltb c (f .width) (omega (arith, o .right, p .col-in)))

@@ -15,7 +15,7 @@ use Rattle.plan.specs.declared.tiling.Verdict.{Verdict}
 use Rattle.plan.specs.tiling.Tiling.{pictureOf}
 use Rattle.plan.specs.tiling.Check.{blockNo}
 use Rattle.plan.specs.tiling.PlanCheck.{verdictFrom}
-use Rattle.plan.specs.tiling.Tests.{Numbered, is-fine, not-size, not-mode, not-placed, not-next, numbered}
+use Rattle.plan.specs.tiling.Tests.{BlockNumbered, is-fine, not-size, not-mode, not-placed, not-next, numbered}
 use Rattle.plan.specs.tiling.Cover.{block-area}
 
 -- the loop over the blocks: block i is next, and `covered` samples lie before it; v is the whole verdict
@@ -40,7 +40,7 @@ pub block-fits : {f : Frame} → Good (pictureOf f) → (b : Block) (covered : �
     → (b .side * b .side ≤ 1024) × ((16 ≤ b .side * b .side) × (covered + b .side * b .side ≤ f .height * f .width))
 block-fits {f} g b covered z = go (numbered f b covered)
   where
-    go : Numbered f b covered (blockNo f b covered) → (b .side * b .side ≤ 1024) × ((16 ≤ b .side * b .side) × (covered + b .side * b .side ≤ f .height * f .width))
+    go : BlockNumbered f b covered (blockNo f b covered) → (b .side * b .side ≤ 1024) × ((16 ≤ b .side * b .side) × (covered + b .side * b .side ≤ f .height * f .width))
     go (is-fine x p m a) =
         let s = size-small (b .side) (p .size) in
         (mul-le-mul (s .1) (s .1), (mul-le-mul (s .0) (s .0), omega (arith, a, block-area g b p .1)))

@@ -48,19 +48,19 @@ of-placed f b p =
     )
 
 -- what a block's number tells, where `covered` samples lie before it
-pub data Numbered (f : Frame) (b : Block) (covered n : ℕ) : Type 0 where
-  is-fine : n ≡ 0 → Placed f b → b .mode ≤ 34 → ahead f (b .row) (b .col) ≡ covered → Numbered f b covered n
-  not-size : n ≡ 2 → (Size (b .side) → ⊥) → Numbered f b covered n
-  not-mode : n ≡ 3 → Size (b .side) → 34 < b .mode → Numbered f b covered n
-  not-placed : n ≡ 6 → Size (b .side) → b .mode ≤ 34 → (Placed f b → ⊥) → Numbered f b covered n
-  not-next : n ≡ 9 → Placed f b → b .mode ≤ 34 → (ahead f (b .row) (b .col) ≡ covered → ⊥) → Numbered f b covered n
+pub data BlockNumbered (f : Frame) (b : Block) (covered n : ℕ) : Type 0 where
+  is-fine : n ≡ 0 → Placed f b → b .mode ≤ 34 → ahead f (b .row) (b .col) ≡ covered → BlockNumbered f b covered n
+  not-size : n ≡ 2 → (Size (b .side) → ⊥) → BlockNumbered f b covered n
+  not-mode : n ≡ 3 → Size (b .side) → 34 < b .mode → BlockNumbered f b covered n
+  not-placed : n ≡ 6 → Size (b .side) → b .mode ≤ 34 → (Placed f b → ⊥) → BlockNumbered f b covered n
+  not-next : n ≡ 9 → Placed f b → b .mode ≤ 34 → (ahead f (b .row) (b .col) ≡ covered → ⊥) → BlockNumbered f b covered n
 
-pub numbered : (f : Frame) (b : Block) (covered : ℕ) → Numbered f b covered (blockNo f b covered)
+pub numbered : (f : Frame) (b : Block) (covered : ℕ) → BlockNumbered f b covered (blockNo f b covered)
 unfolding blockNo
 numbered f b covered = go (sizeOk (b .side)) (modeOk (b .mode)) (placedOk f b) (eqb (ahead f (b .row) (b .col)) covered) refl refl refl refl
   where
     go : (s m p a : Bool) → sizeOk (b .side) ≡ s → modeOk (b .mode) ≡ m → placedOk f b ≡ p → eqb (ahead f (b .row) (b .col)) covered ≡ a
-        → Numbered f b covered (cond s (cond m (cond p (cond a 0 9) 6) 3) 2)
+        → BlockNumbered f b covered (cond s (cond m (cond p (cond a 0 9) 6) 3) 2)
     go true true true true es em ep ea = is-fine refl (placed-of f b (size-of (b .side) es) ep) (leb-true (b .mode) 34 em) (eqb-true (ahead f (b .row) (b .col)) covered ea)
     go true true true false es em ep ea = not-next refl (placed-of f b (size-of (b .side) es) ep) (leb-true (b .mode) 34 em) (eqb-false (ahead f (b .row) (b .col)) covered ea)
     go true true false a es em ep ea = not-placed refl (size-of (b .side) es) (leb-true (b .mode) 34 em) (λ p. true≢false (sym (of-placed f b p) ∙ ep))

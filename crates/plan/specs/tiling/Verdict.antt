@@ -20,7 +20,7 @@ use Rattle.plan.specs.tiling.Tiling.{pictureOf, In, Covered, Placed, Nex
 use Rattle.plan.specs.tiling.Plan.{Plan}
 use Rattle.plan.specs.tiling.Check.{ahead, blockNo}
 use Rattle.plan.specs.tiling.PlanCheck.{verdictFrom, planVerdict}
-use Rattle.plan.specs.tiling.Tests.{picture-good, good-picture, Numbered, is-fine, not-size, not-mode, not-placed, not-next, numbered}
+use Rattle.plan.specs.tiling.Tests.{picture-good, good-picture, BlockNumbered, is-fine, not-size, not-mode, not-placed, not-next, numbered}
 use Rattle.plan.specs.tiling.Cover.{Checked, refusal-9, gap, good-plan}
 
 -- the modes of the first n blocks are modes
@@ -39,7 +39,7 @@ pub data Broken (f : Frame) (plan : ℕ → Block) (k n : ℕ) : Type 0 where
   bad-order : n ≡ 9 → Placed f (plan k) → plan k .mode ≤ 34 → (Next f plan k → ⊥) → Broken f plan k n
 
 -- block k is the first that breaks a rule, and that rule has number n
-pub record Refused (f : Frame) (plan : ℕ → Block) (count n k : ℕ) : Type 0 where
+pub record FirstBroken (f : Frame) (plan : ℕ → Block) (count n k : ℕ) : Type 0 where
   pub listed : k < count
   pub before : Fine f plan k
   pub broken : Broken f plan k n
@@ -62,7 +62,7 @@ pub data Told (f : Frame) (l : Plan) (v : Verdict) : Type 0 where
   is-good : v ≡ record { no = 0; block = 0 } → l .whole ≡ true → Accepted f (l .block) (l .count) → Told f l v
   bad-picture : v ≡ record { no = 4; block = 0 } → (Good (pictureOf f) → ⊥) → Told f l v
   not-whole : v ≡ record { no = 5; block = 0 } → Good (pictureOf f) → l .whole ≡ false → Told f l v
-  bad-block : (n k : ℕ) → v ≡ record { no = n; block = k } → Good (pictureOf f) → l .whole ≡ true → Refused f (l .block) (l .count) n k → Told f l v
+  bad-block : (n k : ℕ) → v ≡ record { no = n; block = k } → Good (pictureOf f) → l .whole ≡ true → FirstBroken f (l .block) (l .count) n k → Told f l v
   bad-cover : v ≡ record { no = 10; block = 0 } → Good (pictureOf f) → l .whole ≡ true → Gap f (l .block) (l .count) → Told f l v
 
 module _ (f : Frame) (l : Plan) (g : Good (pictureOf f)) (w : l .whole ≡ true) where
@@ -121,7 +121,7 @@ module _ (f : Frame) (l : Plan) (g : Good (pictureOf f)) (w : l .whole ≡ true)
       rest : Verdict
       rest = verdictFrom f plan m (suc k) (place plan k + plan k .side * plan k .side)
 
-      go : (Found (suc k) → Told f l (verdictFrom f plan m (suc k) (place plan (suc k)))) → Numbered f (plan k) (place plan k) x
+      go : (Found (suc k) → Told f l (verdictFrom f plan m (suc k) (place plan (suc k)))) → BlockNumbered f (plan k) (place plan k) x
           → Told f l (cond (eqb x 0) rest (record { no = x; block = k }))
       go ih (is-fine z p md a) =
           subst (Told f l) (if-yes (eqb x 0) rest (record { no = x; block = k }) rest (eq-eqb x 0 z) refl) (ih (more k h p md a))
@@ -195,14 +195,14 @@ module _ (f : Frame) (l : Plan) where
       go (bad-cover q g w a) = absurd (a .bare (x .plan-good .all (a .row) (a .col) (a .inside)))
 
   -- every number but 0, 4, 5 and 10 is about the block it names, and 10 about a sample
-  pub verdict-block : (v .no ≡ 0 → ⊥) → (v .no ≡ 4 → ⊥) → (v .no ≡ 5 → ⊥) → (v .no ≡ 10 → ⊥) → Refused f (l .block) (l .count) (v .no) (v .block)
+  pub verdict-block : (v .no ≡ 0 → ⊥) → (v .no ≡ 4 → ⊥) → (v .no ≡ 5 → ⊥) → (v .no ≡ 10 → ⊥) → FirstBroken f (l .block) (l .count) (v .no) (v .block)
   verdict-block good picture whole cover = go (told f l)
     where
-      go : Told f l v → Refused f (l .block) (l .count) (v .no) (v .block)
+      go : Told f l v → FirstBroken f (l .block) (l .count) (v .no) (v .block)
       go (is-good q w a) = absurd (good (no-of q))
       go (bad-picture q a) = absurd (picture (no-of q))
       go (not-whole q g w) = absurd (whole (no-of q))
-      go (bad-block n k q g w r) = subst (λ (u : Verdict). Refused f (l .block) (l .count) (u .no) (u .block)) (sym q) r
+      go (bad-block n k q g w r) = subst (λ (u : Verdict). FirstBroken f (l .block) (l .count) (u .no) (u .block)) (sym q) r
       go (bad-cover q g w a) = absurd (cover (no-of q))
 
   pub verdict-cover : v .no ≡ 10 → Gap f (l .block) (l .count)

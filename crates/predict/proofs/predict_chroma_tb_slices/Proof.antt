@@ -3,15 +3,15 @@ use mathlib.Core.Path.{refl, sym, _∙_}
 use lib.ListN.{length}
 use Rattle.laws.specs.Choose.{worked, unserved}
 use Rattle.h265.specs.Notation.{fromRows}
-use Rattle.predict.specs.refusals.Refusals.{Lent, lengths}
-use Rattle.predict.specs.by_mode.Door.{Given, given, side}
+use Rattle.predict.specs.refusals.Refusals.{Lengths, lengths}
+use Rattle.predict.specs.by_mode.Door.{ModeReady, given, side}
 use Rattle.predict.specs.Contents.{chroma-block}
 use borrow.Author.Needs.{needs}
 use Rattle.predict.proofs.predict_chroma_tb_slices.Statement.{statement}
 use Rattle.predict.proofs.predict_chroma_tb_slices.Tie as tie
 
 -- what a call that is served has
-abbrev lentBy : tie.Start → Lent
+abbrev lentBy : tie.Start → Lengths
 lentBy s =
     let a = s .args in
     lengths (length (a .above .now)) (length (a .left .now)) (length (a .pred .now)) (length (a .refs .now)) (length (a .indices .now)) (length (a .fractions .now))

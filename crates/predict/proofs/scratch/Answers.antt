@@ -4,13 +4,13 @@ use Prim.Native.Nat.{ℕ}
 use mathlib.Core.List.{List}
 use lib.ListN.{length}
 use Rattle.laws.specs.Choose.{served}
-use Rattle.predict.specs.refusals.Refusals.{Lent, lengths}
+use Rattle.predict.specs.refusals.Refusals.{Lengths, lengths}
 use Rattle.predict.specs.declared.scratch.AngularScratch.{AngularScratch}
 use Rattle.predict.specs.Lent.{withScratch}
 use Rattle.predict.proofs.scratch.Tables.{Long}
 
 -- the call's number by what is lent, the lengths of the rows, the work, the block and the scratch before; then the answer, and the scratch and the block after
-module _ (number : Lent → ℕ) (above left : ℕ) (work before : List ℕ) (h : AngularScratch) (r : ℕ) (h′ : AngularScratch) (after : List ℕ) where
+module _ (number : Lengths → ℕ) (above left : ℕ) (work before : List ℕ) (h : AngularScratch) (r : ℕ) (h′ : AngularScratch) (after : List ℕ) where
   abbrev pub Said : Type 0
   Said = (r ≡ number (lengths above left (length before) (length (h .refs)) (length (h .indices)) (length (h .fractions))))
       × ((after ≡ served r work before) × ((r ≡ 0 → ⊥) → (h′ .refs ≡ h .refs) × ((h′ .indices ≡ h .indices) × (h′ .fractions ≡ h .fractions))))

@@ -14,7 +14,7 @@ use Rattle.domain.specs.Facts.{Size, size-small}
 use Rattle.h265.specs.Notation.{Neighbours, fromRows}
 use Rattle.h265.specs.Angular.{angular}
 use Rattle.samples.specs.taps.Taps.{interpOf, edgeOf}
-use Rattle.predict.specs.angular.Unsigned.{angles, inverses, startOf, refAt, sampleAt, angularAt}
+use Rattle.predict.specs.angular.Unsigned.{angles, inverses, refStart, refAt, verticalAt, angularAt}
 use Rattle.predict.specs.angular.Bridge.{angular-same}
 use Rattle.predict.specs.angles.Starts.{lineStart, fractionOf, firstOf}
 use Rattle.predict.specs.angles.Angles.{turns, bends}
@@ -46,21 +46,21 @@ module _ (corner : ℕ) (main side : List ℕ) where
       ∙ ap (λ (i : ℕ). run G lo i d) t
 
   -- a sample from the main row itself, where the angle is not negative
-  main-line : (e inv r c : ℕ) → 32 ≤ e → r < 32 → lineAt main 0 e r c ≡ sampleAt nb e inv r c
-  unfolding sampleAt
+  main-line : (e inv r c : ℕ) → 32 ≤ e → r < 32 → lineAt main 0 e r c ≡ verticalAt nb e inv r c
+  unfolding verticalAt
   main-line e inv r c h l =
       let y : (r + 1) * 32 ≤ (r + 1) * e = mul-le-mul-left (r + 1) h in
-      let a : lineStart 0 e r + c ≡ startOf e r + c - 65 = omega arith in
-      let b : lineStart 0 e r + c + 1 ≡ startOf e r + c + 1 - 65 = omega arith in
-      rw (b, a, ← ref-main nb inv (startOf e r + c) (omega arith), ← ref-main nb inv (startOf e r + c + 1) (omega arith))
+      let a : lineStart 0 e r + c ≡ refStart e r + c - 65 = omega arith in
+      let b : lineStart 0 e r + c + 1 ≡ refStart e r + c + 1 - 65 = omega arith in
+      rw (b, a, ← ref-main nb inv (refStart e r + c) (omega arith), ← ref-main nb inv (refStart e r + c + 1) (omega arith))
 
   -- a sample from the references
-  refs-line : (e inv n : ℕ) (refs d : List ℕ) (r c : ℕ) → e < 32 → n ≤ 32 → r < n → c < n → 65 + n ≤ length d → refs ≡ run (λ (i : ℕ). refAt (fromRows corner main side) inv (firstOf e n + i)) (firstOf e n) (65 + n - firstOf e n) d → lineAt refs 65 e r c ≡ sampleAt nb e inv r c
-  unfolding sampleAt
+  refs-line : (e inv n : ℕ) (refs d : List ℕ) (r c : ℕ) → e < 32 → n ≤ 32 → r < n → c < n → 65 + n ≤ length d → refs ≡ run (λ (i : ℕ). refAt (fromRows corner main side) inv (firstOf e n + i)) (firstOf e n) (65 + n - firstOf e n) d → lineAt refs 65 e r c ≡ verticalAt nb e inv r c
+  unfolding verticalAt
   refs-line e inv n refs d r c h s hr hc l b =
       let f = first-le e n r h hr in
-      let q : lineStart 65 e r ≡ startOf e r = omega arith in
-      rw (q, b, at (startOf e r + c) (omega arith) (omega arith), at (startOf e r + c + 1) (omega arith) (omega arith))
+      let q : lineStart 65 e r ≡ refStart e r = omega arith in
+      rw (q, b, at (refStart e r + c) (omega arith) (omega arith), at (refStart e r + c + 1) (omega arith) (omega arith))
     where
       at : (j : ℕ) → firstOf e n ≤ j → j ≤ 64 + n → getD (run (λ (i : ℕ). refAt nb inv (firstOf e n + i)) (firstOf e n) (65 + n - firstOf e n) d) j 0 ≡ refAt nb inv j
       at j a z =
@@ -74,16 +74,16 @@ module _ (corner : ℕ) (main side : List ℕ) where
     some : 0 < n
     some = let h = size-small n s .0 in omega arith
 
-    pub down-refs : (refs d₀ : List ℕ) → e < 32 → 65 + n ≤ length d₀ → refs ≡ run (λ (i : ℕ). refAt (fromRows corner main side) inv (firstOf e n + i)) (firstOf e n) (65 + n - firstOf e n) d₀ → block (lineAt refs 65 e) n d ≡ block (sampleAt (fromRows corner main side) e inv) n d
+    pub down-refs : (refs d₀ : List ℕ) → e < 32 → 65 + n ≤ length d₀ → refs ≡ run (λ (i : ℕ). refAt (fromRows corner main side) inv (firstOf e n + i)) (firstOf e n) (65 + n - firstOf e n) d₀ → block (lineAt refs 65 e) n d ≡ block (verticalAt (fromRows corner main side) e inv) n d
     down-refs refs d₀ h l b = rows-same _ _ n n d (λ r c hr hc. refs-line e inv n refs d₀ r c h (size-small n s .1) hr hc l b) some
 
-    pub across-refs : (refs d₀ : List ℕ) → e < 32 → 65 + n ≤ length d₀ → refs ≡ run (λ (i : ℕ). refAt (fromRows corner main side) inv (firstOf e n + i)) (firstOf e n) (65 + n - firstOf e n) d₀ → block (λ (r c : ℕ). lineAt refs 65 e c r) n d ≡ block (λ (r c : ℕ). sampleAt (fromRows corner main side) e inv c r) n d
+    pub across-refs : (refs d₀ : List ℕ) → e < 32 → 65 + n ≤ length d₀ → refs ≡ run (λ (i : ℕ). refAt (fromRows corner main side) inv (firstOf e n + i)) (firstOf e n) (65 + n - firstOf e n) d₀ → block (λ (r c : ℕ). lineAt refs 65 e c r) n d ≡ block (λ (r c : ℕ). verticalAt (fromRows corner main side) e inv c r) n d
     across-refs refs d₀ h l b = rows-same _ _ n n d (λ r c hr hc. refs-line e inv n refs d₀ c r h (size-small n s .1) hc hr l b) some
 
-    pub down-main : 32 ≤ e → block (lineAt main 0 e) n d ≡ block (sampleAt (fromRows corner main side) e inv) n d
+    pub down-main : 32 ≤ e → block (lineAt main 0 e) n d ≡ block (verticalAt (fromRows corner main side) e inv) n d
     down-main h = rows-same _ _ n n d (λ r c hr hc. let z = size-small n s .1 in main-line e inv r c h (omega arith)) some
 
-    pub across-main : 32 ≤ e → block (λ (r c : ℕ). lineAt main 0 e c r) n d ≡ block (λ (r c : ℕ). sampleAt (fromRows corner main side) e inv c r) n d
+    pub across-main : 32 ≤ e → block (λ (r c : ℕ). lineAt main 0 e c r) n d ≡ block (λ (r c : ℕ). verticalAt (fromRows corner main side) e inv c r) n d
     across-main h = rows-same _ _ n n d (λ r c hr hc. let z = size-small n s .1 in main-line e inv c r h (omega arith)) some
 
     -- angle 32 is the same in both directions
@@ -94,11 +94,11 @@ module _ (corner : ℕ) (main side : List ℕ) where
         let a : lineStart 0 64 r + c ≡ lineStart 0 64 c + r = omega arith in
         rw (f, g, a)
 
-    pub across-whole : e ≡ 64 → block (lineAt main 0 e) n d ≡ block (λ (r c : ℕ). sampleAt (fromRows corner main side) e inv c r) n d
+    pub across-whole : e ≡ 64 → block (lineAt main 0 e) n d ≡ block (λ (r c : ℕ). verticalAt (fromRows corner main side) e inv c r) n d
     across-whole q = rows-same _ _ n n d (λ r c hr hc. rw q (turned r c)) some ∙ across-main (omega arith)
 
   -- angle 0 of a horizontal mode: the main row's own sample
-  flat : (r c : ℕ) → c < 32 → getD main r 0 ≡ sampleAt nb 32 0 c r
+  flat : (r c : ℕ) → c < 32 → getD main r 0 ≡ verticalAt nb 32 0 c r
   flat r c h =
       let f : fractionOf 32 c ≡ 0 = omega arith in
       let a : lineStart 0 32 c + r ≡ r = omega arith in
@@ -153,7 +153,7 @@ module _ (corner : ℕ) (above left : List ℕ) (bits n : ℕ) (edge : Bool) (s 
     pub text : block (λ (y x : ℕ). angularAt bits edge n mode (fromRows corner above left) x y) n d ≡ block (λ (y x : ℕ). angular bits edge n mode (fromRows corner above left) x y) n d
     text = rows-same _ _ n n d (λ y x hy hx. sym (angular-same bits n mode edge (fromRows corner above left) x y few hi hx hy)) any
 
-    pub steep : 18 ≤ mode → (mode ≡ 26 → ⊥) → block (sampleAt (fromRows corner above left) (getD turns (mode - 18) 0) (getD bends (mode - 18) 0)) n d ≡ block (λ (y x : ℕ). angular bits edge n mode (fromRows corner above left) x y) n d
+    pub steep : 18 ≤ mode → (mode ≡ 26 → ⊥) → block (verticalAt (fromRows corner above left) (getD turns (mode - 18) 0) (getD bends (mode - 18) 0)) n d ≡ block (λ (y x : ℕ). angular bits edge n mode (fromRows corner above left) x y) n d
     unfolding angularAt
     steep h f =
         let q : mode - 18 ≡ mode - 18 + (18 - mode) = omega arith in
@@ -161,7 +161,7 @@ module _ (corner : ℕ) (above left : List ℕ) (bits n : ℕ) (edge : Bool) (s 
         let i : getD bends (mode - 18) 0 ≡ getD inverses mode 0 = ap (λ (k : ℕ). getD bends k 0) q ∙ bend-inverse mode (omega arith) hi in
         rw (e, i) (rows-same _ _ n n d (λ y x hy hx. rw (le-leb 18 mode h, ne-eqb mode 26 f)) any) ∙ text
 
-    pub shallow : 2 ≤ mode → mode < 18 → (mode ≡ 10 → ⊥) → block (λ (r c : ℕ). sampleAt (fromRows corner left above) (getD turns (18 - mode) 0) (getD bends (18 - mode) 0) c r) n d ≡ block (λ (y x : ℕ). angular bits edge n mode (fromRows corner above left) x y) n d
+    pub shallow : 2 ≤ mode → mode < 18 → (mode ≡ 10 → ⊥) → block (λ (r c : ℕ). verticalAt (fromRows corner left above) (getD turns (18 - mode) 0) (getD bends (18 - mode) 0) c r) n d ≡ block (λ (y x : ℕ). angular bits edge n mode (fromRows corner above left) x y) n d
     unfolding angularAt
     shallow lo h f =
         let q : 18 - mode ≡ mode - 18 + (18 - mode) = omega arith in

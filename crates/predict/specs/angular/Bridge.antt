@@ -16,7 +16,7 @@ use Rattle.h265.specs.Angular.{intraPredAngle, invAngle, ref, project, angular}
 use Rattle.predict.specs.angles.Starts.{fractionOf}
 use Rattle.predict.specs.angular.Lines.{first-le}
 use Rattle.samples.specs.taps.Taps.{interpOf}
-use Rattle.predict.specs.angular.Unsigned.{angles, inverses, startOf, sideOf, refAt, sampleAt, mirror, angularAt}
+use Rattle.predict.specs.angular.Unsigned.{angles, inverses, refStart, sideOf, refAt, verticalAt, mirror, angularAt}
 use Rattle.laws.specs.Diff.{order, sub-neg, sub-pos, as-sub, sub-eq, sub-add, sub-mul, sub-shr, sub-le, sub-lt}
 
 -- the two tables, held against the standard's at every mode by a test that antt computes
@@ -55,10 +55,10 @@ index-of e r = ap (λ (z : ℤ). shrZ z 32) (sub-mul (r + 1) e 32) ∙ sub-shr (
 fact-of : (e r : ℕ) → low5 (pos (r + 1) *ℤ subℕ e 32) ≡ fractionOf e r
 fact-of e r = ap low5 (sub-mul (r + 1) e 32) ∙ sub-low5 ((r + 1) * e) (r + 1)
 
-place : (e r c k : ℕ) → r < 32 → pos c +ℤ subℕ ((r + 1) * e / 32) (r + 1) +ℤ pos (k + 1) ≡ subℕ (startOf e r + c + k) 64
+place : (e r c k : ℕ) → r < 32 → pos c +ℤ subℕ ((r + 1) * e / 32) (r + 1) +ℤ pos (k + 1) ≡ subℕ (refStart e r + c + k) 64
 place e r c k h =
     rw (as-sub c, as-sub (k + 1), sub-add c 0 ((r + 1) * e / 32) (r + 1), sub-add (c + (r + 1) * e / 32) (0 + (r + 1)) (k + 1) 0)
-    (sub-eq (c + (r + 1) * e / 32 + (k + 1)) (0 + (r + 1) + 0) (startOf e r + c + k) 64 (omega arith))
+    (sub-eq (c + (r + 1) * e / 32 + (k + 1)) (0 + (r + 1) + 0) (refStart e r + c + k) 64 (omega arith))
 
 -- the neighbours as the text reads them, straight or mirrored: main is above, side is left
 module _ (p : ℤ → ℤ → ℕ) (nb : Neighbours) (atMain : (i : ℕ) → p (pos i) (negsuc 0) ≡ nb .above i) (atSide : (i : ℕ) → p (negsuc 0) (pos i) ≡ nb .left i) (atCorner : p (negsuc 0) (negsuc 0) ≡ nb .corner) where
@@ -109,13 +109,13 @@ module _ (p : ℤ → ℤ → ℕ) (nb : Neighbours) (atMain : (i : ℕ) → p (
 
   -- the row's samples read no reference that the text gives no value
   module _ (n e inv r c : ℕ) (s : n ≤ 32) (t : e ≤ 64) (hr : r < n) (hc : c < n) where
-    low : (j : ℕ) → startOf e r ≤ j → j < 64 → (e < 32) × (n * e / 32 + 65 ≤ j + n)
+    low : (j : ℕ) → refStart e r ≤ j → j < 64 → (e < 32) × (n * e / 32 + 65 ≤ j + n)
     low j f h =
         ⊎-elim (λ l. (l, let q = first-le e n r l hr in omega arith))
         (λ l. let y : (r + 1) * 32 ≤ (r + 1) * e = mul-le-mul-left (r + 1) l in absurd (omega arith))
         (order e 32)
 
-    high : (j : ℕ) → j ≤ startOf e r + c + 1 → (fractionOf e r ≡ 0 → j ≤ startOf e r + c) → (j ≤ 64 + n) ⊎ ((32 ≤ e) × (j ≤ 64 + 2 * n))
+    high : (j : ℕ) → j ≤ refStart e r + c + 1 → (fractionOf e r ≡ 0 → j ≤ refStart e r + c) → (j ≤ 64 + n) ⊎ ((32 ≤ e) × (j ≤ 64 + 2 * n))
     high j f z =
         let y : (r + 1) * e ≤ (r + 1) * 64 = mul-le-mul-left (r + 1) t in
         ⊎-elim
@@ -123,10 +123,10 @@ module _ (p : ℤ → ℤ → ℕ) (nb : Neighbours) (atMain : (i : ℕ) → p (
         (λ l. ⊎-elim (λ p. inr (l, omega arith)) (λ p. let q : fractionOf e r ≡ 0 = omega arith in let w = z q in inr (l, omega arith)) (order 0 (fractionOf e r)))
         (order e 32)
 
-    projected : project (ref p n (subℕ e 32) (negℤ (pos inv))) (subℕ e 32) c r ≡ sampleAt nb e inv r c
-    unfolding project sampleAt interpOf
+    projected : project (ref p n (subℕ e 32) (negℤ (pos inv))) (subℕ e 32) c r ≡ verticalAt nb e inv r c
+    unfolding project verticalAt interpOf
     projected =
-        let j = startOf e r + c in
+        let j = refStart e r + c in
         let i = index-of e r in
         let f = fact-of e r in
         let first : ref p n (subℕ e 32) (negℤ (pos inv)) (pos c +ℤ (pos (r + 1) *ℤ subℕ e 32 >> 5) +ℤ pos 1) ≡ refAt nb inv j =

@@ -8,10 +8,10 @@ use borrow.Author.Tests.{leb-true}
 use Rattle.laws.specs.Choose.{passed, both-true}
 use Rattle.domain.specs.Domain.{depthOk, sizeOk, modeOk, predictorRow}
 use Rattle.domain.specs.Facts.{Depth, Size, at-size, depth-of, size-of, size-small}
-use Rattle.predict.specs.refusals.Refusals.{Lent, enough, angularNo}
+use Rattle.predict.specs.refusals.Refusals.{Lengths, isEnough, angularNo}
 
 -- what a call that is served has
-pub record Fit (bits n mode : ℕ) (l : Lent) : Type 0 where
+pub record Fit (bits n mode : ℕ) (l : Lengths) : Type 0 where
   pub depth : Depth bits
   pub size : Size n
   pub low : 2 ≤ mode
@@ -25,12 +25,12 @@ pub record Fit (bits n mode : ℕ) (l : Lent) : Type 0 where
 long : (n k : ℕ) → Size n → predictorRow n ≤ k → 2 * n ≤ k
 long n k s = at-size (λ (m : ℕ). predictorRow m ≤ k → 2 * m ≤ k) (λ h. omega arith) (λ h. omega arith) (λ h. omega arith) (λ h. omega arith) n s
 
-pub fit : (bits n mode : ℕ) (l : Lent) → angularNo bits n mode l ≡ 0 → Fit bits n mode l
+pub fit : (bits n mode : ℕ) (l : Lengths) → angularNo bits n mode l ≡ 0 → Fit bits n mode l
 fit bits n mode l e =
     let p = passed (depthOk bits) _ 1 (omega arith) e in
     let q = passed (sizeOk n) _ 2 (omega arith) (p .1) in
     let r = passed (leb 2 mode && modeOk mode) _ 3 (omega arith) (q .1) in
-    let s = passed (enough n l) _ 5 (omega arith) (r .1) in
+    let s = passed (isEnough n l) _ 5 (omega arith) (r .1) in
     let m = both-true (leb 2 mode) (modeOk mode) (r .0) in
     let a = both-true _ (leb 32 (l .fractions)) (s .0) in
     let b = both-true _ (leb 32 (l .indices)) (a .0) in

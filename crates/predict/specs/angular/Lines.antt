@@ -9,14 +9,14 @@ use lib.Dec.{leb}
 use lib.ListN.{getD}
 use Rattle.predict.specs.angles.Starts.{lineStart, fractionOf, firstOf}
 use Rattle.samples.specs.taps.Taps.{interpOf}
-use Rattle.predict.specs.angular.Unsigned.{startOf}
+use Rattle.predict.specs.angular.Unsigned.{refStart}
 
 -- a sample of a line, between two references
 abbrev pub lineAt : List ℕ → ℕ → ℕ → ℕ → ℕ → ℕ
 lineAt refs b e r c = interpOf (fractionOf e r) (getD refs (lineStart b e r + c) 0) (getD refs (lineStart b e r + c + 1) 0)
 
 -- a negative angle's rows start at it or later, and at the corner or before
-pub first-le : (e n r : ℕ) → e < 32 → r < n → (firstOf e n ≤ startOf e r) × (startOf e r ≤ 64)
+pub first-le : (e n r : ℕ) → e < 32 → r < n → (firstOf e n ≤ refStart e r) × (refStart e r ≤ 64)
 first-le e n r h l =
     let m = n - (r + 1) in
     let s : r + 1 + m ≡ n = omega arith in
@@ -30,7 +30,7 @@ unfoldable pub reachOf : ℕ → ℕ → ℕ
 reachOf e n = cond (leb 32 e) (2 * n) n
 
 -- an angle whose rows of n stay within r references, for a block that p samples hold
-pub record Reads (b e n r p : ℕ) : Type 0 where
+pub record LineReads (b e n r p : ℕ) : Type 0 where
   pub angle : e ≤ 64
   pub base : 32 ≤ b + e
   pub near : b ≤ 128

@@ -19,8 +19,8 @@ inverses =
     0 ∷ 0 ∷ 0 ∷ 0 ∷ 0 ∷ 0 ∷ 0 ∷ 0 ∷ 0 ∷ 0 ∷ 0 ∷ 4096 ∷ 1638 ∷ 910 ∷ 630 ∷ 482 ∷ 390 ∷ 315 ∷ 256 ∷ 315 ∷ 390 ∷ 482 ∷ 630 ∷ 910 ∷ 1638 ∷ 4096 ∷ 0 ∷ 0 ∷ 0 ∷ 0 ∷ 0 ∷ 0 ∷ 0 ∷ 0 ∷ 0 ∷ []
 
 -- where row r of an angle starts among the references
-abbrev pub startOf : ℕ → ℕ → ℕ
-startOf e r = 64 + (r + 1) * e / 32 - r
+abbrev pub refStart : ℕ → ℕ → ℕ
+refStart e r = 64 + (r + 1) * e / 32 - r
 
 -- which entry of the side row reference j is projected from, counted from 1; 0 is the corner
 abbrev pub sideOf : ℕ → ℕ → ℕ
@@ -32,9 +32,9 @@ refAt nb inv j =
     cond (ltb 64 j) (nb .above (j - 65)) (cond (eqb (sideOf inv j) 0) (nb .corner) (nb .left (sideOf inv j - 1)))
 
 -- the sample in row r and column c of a vertical mode
-unfoldable pub sampleAt : Neighbours → ℕ → ℕ → ℕ → ℕ → ℕ
-sampleAt nb e inv r c =
-    interpOf (fractionOf e r) (refAt nb inv (startOf e r + c)) (refAt nb inv (startOf e r + c + 1))
+unfoldable pub verticalAt : Neighbours → ℕ → ℕ → ℕ → ℕ → ℕ
+verticalAt nb e inv r c =
+    interpOf (fractionOf e r) (refAt nb inv (refStart e r + c)) (refAt nb inv (refStart e r + c + 1))
 
 -- above and left exchanged: a horizontal mode is a vertical one, mirrored
 abbrev pub mirror : Neighbours → Neighbours
@@ -44,5 +44,5 @@ mirror nb = record { corner = nb .corner; above = nb .left; left = nb .above }
 unfoldable pub angularAt : ℕ → Bool → ℕ → ℕ → Neighbours → ℕ → ℕ → ℕ
 angularAt bits edge n mode nb x y =
     cond (leb 18 mode)
-    (cond (eqb mode 26 && (eqb x 0 && (edge && ltb n 32))) (edgeOf (2 ^ bits - 1) (nb .above 0) (nb .left y) (nb .corner)) (sampleAt nb (getD angles mode 0) (getD inverses mode 0) y x))
-    (cond (eqb mode 10 && (eqb y 0 && (edge && ltb n 32))) (edgeOf (2 ^ bits - 1) (nb .left 0) (nb .above x) (nb .corner)) (sampleAt (mirror nb) (getD angles mode 0) (getD inverses mode 0) x y))
+    (cond (eqb mode 26 && (eqb x 0 && (edge && ltb n 32))) (edgeOf (2 ^ bits - 1) (nb .above 0) (nb .left y) (nb .corner)) (verticalAt nb (getD angles mode 0) (getD inverses mode 0) y x))
+    (cond (eqb mode 10 && (eqb y 0 && (edge && ltb n 32))) (edgeOf (2 ^ bits - 1) (nb .left 0) (nb .above x) (nb .corner)) (verticalAt (mirror nb) (getD angles mode 0) (getD inverses mode 0) x y))

@@ -8,16 +8,16 @@ use borrow.Author.Tests.{leb-true}
 use Rattle.laws.specs.Choose.{passed, both-true}
 use Rattle.domain.specs.Domain.{depthOk, sizeOk, modeOk, predictorRow}
 use Rattle.domain.specs.Facts.{Depth, Size, depth-of, size-of, size-small}
-use Rattle.predict.specs.refusals.Refusals.{Lent, enough, predictNo}
-use Rattle.predict.specs.planar_dc.Flat.{Ready}
+use Rattle.predict.specs.refusals.Refusals.{Lengths, isEnough, predictNo}
+use Rattle.predict.specs.planar_dc.Flat.{FlatReady}
 
 -- the tests of a block that hold where a call is served
-pub record Block (bits n mode : ℕ) : Type 0 where
+pub record Predictable (bits n mode : ℕ) : Type 0 where
   pub depth : depthOk bits ≡ true
   pub size : sizeOk n ≡ true
   pub inside : modeOk mode ≡ true
 
-module _ {bits n mode : ℕ} (b : Block bits n mode) where
+module _ {bits n mode : ℕ} (b : Predictable bits n mode) where
   pub side : Size n
   side = size-of n (b .size)
 
@@ -25,19 +25,19 @@ module _ {bits n mode : ℕ} (b : Block bits n mode) where
   highest = leb-true mode 34 (b .inside)
 
 -- and what it is lent: two rows, the block's buffer and the references of the scratch
-pub record Given (bits n mode above left pred refs : ℕ) : Type 0 where
-  pub block : Block bits n mode
+pub record ModeReady (bits n mode above left pred refs : ℕ) : Type 0 where
+  pub block : Predictable bits n mode
   pub above-long : 65 ≤ above
   pub left-long : 65 ≤ left
   pub room : n * n ≤ pred
   pub refs-long : 193 ≤ refs
 
-pub given : (bits n mode : ℕ) (l : Lent) → predictNo bits n mode l ≡ 0 → Given bits n mode (l .above) (l .left) (l .pred) (l .refs)
+pub given : (bits n mode : ℕ) (l : Lengths) → predictNo bits n mode l ≡ 0 → ModeReady bits n mode (l .above) (l .left) (l .pred) (l .refs)
 given bits n mode l e =
     let p = passed (depthOk bits) _ 1 (omega arith) e in
     let q = passed (sizeOk n) _ 2 (omega arith) (p .1) in
     let r = passed (modeOk mode) _ 3 (omega arith) (q .1) in
-    let s = passed (enough n l) _ 5 (omega arith) (r .1) in
+    let s = passed (isEnough n l) _ 5 (omega arith) (r .1) in
     let a = both-true _ (leb 32 (l .fractions)) (s .0) in
     let b = both-true _ (leb 32 (l .indices)) (a .0) in
     let c = both-true _ (leb 193 (l .refs)) (b .0) in
@@ -51,8 +51,8 @@ given bits n mode l e =
       refs-long = leb-true _ _ (c .1);
     }
 
-module _ {bits n mode above left pred refs : ℕ} (g : Given bits n mode above left pred refs) where
-  pub flat-ready : Ready n above left × (n * n ≤ pred)
+module _ {bits n mode above left pred refs : ℕ} (g : ModeReady bits n mode above left pred refs) where
+  pub flat-ready : FlatReady n above left × (n * n ≤ pred)
   flat-ready =
       let h = size-small n (side (g .block)) in
       let a = g .above-long in

@@ -9,21 +9,21 @@ use Rattle.h265.specs.Filtering.{filterFlag}
 use Rattle.smooth.specs.declared.Rule.{Rule}
 use Rattle.smooth.specs.declared.Smoothed.{Smoothed}
 use Rattle.smooth.specs.Smoothing.{smoothed, shouldFilterRefs, filterLumaRefs}
-use Rattle.predict.specs.by_mode.Door.{Block}
+use Rattle.predict.specs.by_mode.Door.{Predictable}
 
-unfoldable pub lumaRows : ℕ → ℕ → ℕ → Rows → Rows
-lumaRows bits n mode rows = cond (filterFlag n mode) (smoothed true bits n (rows .corner) (rows .above) (rows .left)) rows
+unfoldable pub preparedRows : ℕ → ℕ → ℕ → Rows → Rows
+preparedRows bits n mode rows = cond (filterFlag n mode) (smoothed true bits n (rows .corner) (rows .above) (rows .left)) rows
 
-module _ (bits n mode : ℕ) (b : Block bits n mode) (rows : Rows) (r : Rule) (e : r ≡ shouldFilterRefs mode n) where
+module _ (bits n mode : ℕ) (b : Predictable bits n mode) (rows : Rows) (r : Rule) (e : r ≡ shouldFilterRefs mode n) where
   flag : r .yes ≡ filterFlag n mode
   unfolding shouldFilterRefs
   flag = ap (λ (q : Rule). q .yes) e ∙ rw (b .size, b .inside)
 
   pub rows-smoothed : length (rows .above) ≡ 65 → length (rows .left) ≡ 65 → r .yes ≡ true → (m : Smoothed)
-      → m ≡ filterLumaRefs true (rows .corner) (rows .above) (rows .left) n bits → m .rows ≡ lumaRows bits n mode rows
-  unfolding filterLumaRefs lumaRows
+      → m ≡ filterLumaRefs true (rows .corner) (rows .above) (rows .left) n bits → m .rows ≡ preparedRows bits n mode rows
+  unfolding filterLumaRefs preparedRows
   rows-smoothed ha hl y m f = rw (sym flag ∙ y) (ap (λ (q : Smoothed). q .rows) f ∙ rw (b .depth, b .size, ha, hl))
 
-  pub rows-kept : r .yes ≡ false → rows ≡ lumaRows bits n mode rows
-  unfolding lumaRows
+  pub rows-kept : r .yes ≡ false → rows ≡ preparedRows bits n mode rows
+  unfolding preparedRows
   rows-kept y = rw (sym flag ∙ y)

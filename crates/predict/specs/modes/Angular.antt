@@ -12,7 +12,7 @@ use Rattle.domain.specs.Facts.{Size, size-small}
 use Rattle.h265.specs.Notation.{Neighbours}
 use Rattle.h265.specs.Angular.{angular}
 use Rattle.samples.specs.taps.Taps.{interpOf}
-use Rattle.predict.specs.angular.Unsigned.{angles, inverses, startOf, sideOf, refAt, sampleAt, mirror, angularAt}
+use Rattle.predict.specs.angular.Unsigned.{angles, inverses, refStart, sideOf, refAt, verticalAt, mirror, angularAt}
 use Rattle.predict.specs.angles.Starts.{fractionOf, firstOf}
 use Rattle.predict.specs.angular.Lines.{first-le}
 use Rattle.predict.specs.angular.Tables.{side-reach}
@@ -42,9 +42,9 @@ ref-flat v inv j = one (ltb 64 j) (eqb (sideOf inv j) 0) where
   one false true = refl
   one false false = refl
 
-sample-flat : (v e inv r c : ℕ) → sampleAt (even v) e inv r c ≡ v
-unfolding sampleAt
-sample-flat v e inv r c = rw (ref-flat v inv (startOf e r + c), ref-flat v inv (startOf e r + c + 1)) (interp-flat (fractionOf e r) v (omega arith))
+sample-flat : (v e inv r c : ℕ) → verticalAt (even v) e inv r c ≡ v
+unfolding verticalAt
+sample-flat v e inv r c = rw (ref-flat v inv (refStart e r + c), ref-flat v inv (refStart e r + c + 1)) (interp-flat (fractionOf e r) v (omega arith))
 
 module _ (n : ℕ) (p q : Neighbours) (u : Under n p q) where
   ref-rises : (inv j : ℕ) → j ≤ 64 + 2 * n → (j ≤ 64 → sideOf inv j ≤ 2 * n) → refAt p inv j ≤ refAt q inv j
@@ -57,14 +57,14 @@ module _ (n : ℕ) (p q : Neighbours) (u : Under n p q) where
       (order 0 (sideOf inv j)))
       (order 64 j)
 
-  sample-rises : (e inv r k : ℕ) → e ≤ 64 → r < n → k < n → n ≤ 32 → (e < 32 → sideOf inv (firstOf e n) ≤ 2 * n) → sampleAt p e inv r k ≤ sampleAt q e inv r k
-  unfolding sampleAt
+  sample-rises : (e inv r k : ℕ) → e ≤ 64 → r < n → k < n → n ≤ 32 → (e < 32 → sideOf inv (firstOf e n) ≤ 2 * n) → verticalAt p e inv r k ≤ verticalAt q e inv r k
+  unfolding verticalAt
   sample-rises e inv r k t hr hk sm sd =
       let y : (r + 1) * e ≤ (r + 1) * 64 = mul-le-mul-left (r + 1) t in
-      interp-rises (fractionOf e r) _ _ _ _ (ref-rises inv (startOf e r + k) (omega arith) (λ l. side (startOf e r + k) (omega arith) l))
-      (λ f. ref-rises inv (startOf e r + k + 1) (omega arith) (λ l. side (startOf e r + k + 1) (omega arith) l))
+      interp-rises (fractionOf e r) _ _ _ _ (ref-rises inv (refStart e r + k) (omega arith) (λ l. side (refStart e r + k) (omega arith) l))
+      (λ f. ref-rises inv (refStart e r + k + 1) (omega arith) (λ l. side (refStart e r + k + 1) (omega arith) l))
     where
-      side : (j : ℕ) → startOf e r ≤ j → j ≤ 64 → sideOf inv j ≤ 2 * n
+      side : (j : ℕ) → refStart e r ≤ j → j ≤ 64 → sideOf inv j ≤ 2 * n
       side j f l =
           ⊎-elim (λ b. let q = first-le e n r b hr in let z = side-falls inv (firstOf e n) j (omega arith) in let o = sd b in omega arith)
           (λ b. let y : (r + 1) * 32 ≤ (r + 1) * e = mul-le-mul-left (r + 1) b in absurd (omega arith))
@@ -77,7 +77,7 @@ off true true = refl
 
 module _ (n mode : ℕ) (s : Size n) (h : mode < 35) where
   abbrev sample : Neighbours → ℕ → ℕ → ℕ
-  sample nb r c = sampleAt nb (getD angles mode 0) (getD inverses mode 0) r c
+  sample nb r c = verticalAt nb (getD angles mode 0) (getD inverses mode 0) r c
 
   rises : (p q : Neighbours) → Under n p q → (r c : ℕ) → r < n → c < n → sample p r c ≤ sample q r c
   rises p q u r c hr hc = sample-rises n p q u _ _ r c (angle-most mode h) hr hc (size-small n s .1) (λ z. side-reach mode n h s)

@@ -9,9 +9,9 @@ use lib.Dec.{ltb, eqb}
 use Rattle.domain.specs.Facts.{Size, size-small}
 use Rattle.h265.specs.Notation.{Neighbours}
 use Rattle.h265.specs.Planar.{planar}
-use Rattle.h265.specs.Dc.{sum, dcVal, dc}
+use Rattle.h265.specs.Dc.{sumTo, dcVal, dc}
 use Rattle.samples.specs.taps.Taps.{blended, cornered}
-use Rattle.predict.specs.planar_dc.Flat.{planarMix}
+use Rattle.predict.specs.planar_dc.Flat.{planarSample}
 use Rattle.predict.specs.planar_dc.Text.{planar-mix, dc-quotient}
 use Rattle.h265.specs.Mean.{Under, even, Mean, Agree, between, alone}
 
@@ -29,8 +29,8 @@ parts n x v h = sym (ap (λ (k : ℕ). k * v) (let e : n ≡ n - 1 - x + (x + 1)
 twice : (n v : ℕ) → 2 * n * v ≡ n * v + n * v
 twice n v = ap (λ (k : ℕ). k * v) (let e : 2 * n ≡ n + n = omega arith in e) ∙ add-mul n n v
 
-mix-rises : (n y x l tr t bl l′ tr′ t′ bl′ : ℕ) → 0 < n → l ≤ l′ → tr ≤ tr′ → t ≤ t′ → bl ≤ bl′ → planarMix n y x l tr t bl ≤ planarMix n y x l′ tr′ t′ bl′
-unfolding planarMix
+mix-rises : (n y x l tr t bl l′ tr′ t′ bl′ : ℕ) → 0 < n → l ≤ l′ → tr ≤ tr′ → t ≤ t′ → bl ≤ bl′ → planarSample n y x l tr t bl ≤ planarSample n y x l′ tr′ t′ bl′
+unfolding planarSample
 mix-rises n y x l tr t bl l′ tr′ t′ bl′ h p q r s =
     let i = mul-le-mul-left (n - 1 - x) p in
     let j = mul-le-mul-left (x + 1) q in
@@ -38,8 +38,8 @@ mix-rises n y x l tr t bl l′ tr′ t′ bl′ h p q r s =
     let m = mul-le-mul-left (y + 1) s in
     fewer (2 * n) _ _ (omega arith) (omega arith)
 
-mix-flat : (n y x v : ℕ) → x < n → y < n → planarMix n y x v v v v ≡ v
-unfolding planarMix
+mix-flat : (n y x v : ℕ) → x < n → y < n → planarSample n y x v v v v ≡ v
+unfolding planarSample
 mix-flat n y x v hx hy =
     let p = parts n x v hx in
     let q = parts n y v hy in
@@ -55,13 +55,13 @@ mean-planar n x y s hx hy = record {
   flat = λ v. rw (← planar-mix n s (even v) y x) (mix-flat n y x v hx hy);
 }
 
-sum-rises : (f g : ℕ → ℕ) (k : ℕ) → ((i : ℕ) → i < k → f i ≤ g i) → sum f k ≤ sum g k
-unfolding sum
+sum-rises : (f g : ℕ → ℕ) (k : ℕ) → ((i : ℕ) → i < k → f i ≤ g i) → sumTo f k ≤ sumTo g k
+unfolding sumTo
 sum-rises f g zero h = le-refl 0
 sum-rises f g (suc k) h = let p = sum-rises f g k (λ i l. h i (omega arith)) in let q = h k (omega arith) in omega arith
 
-sum-flat : (v k : ℕ) → sum (λ (i : ℕ). v) k ≡ k * v
-unfolding sum
+sum-flat : (v k : ℕ) → sumTo (λ (i : ℕ). v) k ≡ k * v
+unfolding sumTo
 sum-flat v zero = sym (zero-mul v)
 sum-flat v (suc k) = rw (suc-mul, sum-flat v k)
 
@@ -78,7 +78,7 @@ mean-value n s = record {
       let t = twice n v in
       let p = sum-flat v n in
       rw (← dc-quotient n s (even v) _ refl)
-      (ap (λ (k : ℕ). k / (2 * n)) (let e : sum (λ (i : ℕ). v) n + sum (λ (i : ℕ). v) n + n ≡ 2 * n * v + n = omega arith in e) ∙ weighed (2 * n) v n (omega arith));
+      (ap (λ (k : ℕ). k / (2 * n)) (let e : sumTo (λ (i : ℕ). v) n + sumTo (λ (i : ℕ). v) n + n ≡ 2 * n * v + n = omega arith in e) ∙ weighed (2 * n) v n (omega arith));
 }
 
 -- the edge, by where a sample lies

@@ -10,7 +10,7 @@ use borrow.Author.Tests.{ne-eqb}
 use Rattle.laws.specs.Fill.{block}
 use Rattle.domain.specs.Facts.{Size}
 use Rattle.h265.specs.Notation.{Neighbours, fromRows}
-use Rattle.h265.specs.Setting.{Component, Flags}
+use Rattle.h265.specs.Setting.{Component, CodingFlags}
 use Rattle.h265.specs.Filtering.{filtered}
 use Rattle.h265.specs.Planar.{planar}
 use Rattle.h265.specs.Dc.{dcVal, dc}
@@ -30,7 +30,7 @@ abbrev pub plain : ℕ → ℕ → ℕ → Neighbours → ℕ → ℕ → ℕ
 plain bits n mode nb x y = byMode bits false false n mode nb x y
 
 -- the standard's process is the mode's clause on the neighbours that it prepared
-pub is-by-mode : (c : Component) (f : Flags) (n mode : ℕ) (nb : Neighbours) (x y : ℕ) → predSamples c f n mode nb x y ≡ byMode (c .bits) (c .luma) (c .luma && not (f .edgeOff)) n mode (prepared c f n mode nb) x y
+pub is-by-mode : (c : Component) (f : CodingFlags) (n mode : ℕ) (nb : Neighbours) (x y : ℕ) → predSamples c f n mode nb x y ≡ byMode (c .bits) (c .luma) (c .luma && not (f .edgeOff)) n mode (prepared c f n mode nb) x y
 unfolding predSamples byMode
 is-by-mode c f n mode nb x y = refl
 
@@ -75,7 +75,7 @@ module _ (n mode : ℕ) (s : Size n) (h : mode ≤ 34) (x y : ℕ) (hx : x < n) 
       picked-mean (eqb mode 0) n _ _ (mean-planar n x y s hx hy)
       (picked-mean (eqb mode 1) n _ _ (mean-dc false n x y s hx hy) (mean-angular n mode s (omega arith) bits x y hx hy))
 
-prepared-agrees : (c : Component) (f : Flags) (n mode : ℕ) (a b : Neighbours) → 0 < n → Agree n a b → Agree n (prepared c f n mode a) (prepared c f n mode b)
+prepared-agrees : (c : Component) (f : CodingFlags) (n mode : ℕ) (a b : Neighbours) → 0 < n → Agree n a b → Agree n (prepared c f n mode a) (prepared c f n mode b)
 unfolding prepared
 prepared-agrees c f n mode a b h e = go (filters c f n mode) where
   go : (t : Bool) → Agree n (cond t (filtered (f .strong && c .luma) (c .bits) n a) a) (cond t (filtered (f .strong && c .luma) (c .bits) n b) b)
@@ -83,7 +83,7 @@ prepared-agrees c f n mode a b h e = go (filters c f n mode) where
   go false = e
 
 -- entries from 2n on reach no predicted sample: smoothed or not, of any component, under any flags
-pub pred-alone : (c : Component) (f : Flags) (n mode x y : ℕ) (a b : Neighbours) → Size n → mode ≤ 34 → x < n → y < n → Agree n a b
+pub pred-alone : (c : Component) (f : CodingFlags) (n mode x y : ℕ) (a b : Neighbours) → Size n → mode ≤ 34 → x < n → y < n → Agree n a b
     → predSamples c f n mode a x y ≡ predSamples c f n mode b x y
 pred-alone c f n mode x y a b s h hx hy e =
     rw (is-by-mode c f n mode a x y, is-by-mode c f n mode b x y)

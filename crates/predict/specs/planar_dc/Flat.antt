@@ -12,7 +12,7 @@ use Rattle.domain.specs.Facts.{Size, size-of, size-small, at-size}
 use Rattle.predict.specs.refusals.Refusals.{flatNo}
 
 -- what the loops ask of the side and the rows: planar reads entries 0 .. n, DC less
-pub record Ready (n a l : ℕ) : Type 0 where
+pub record FlatReady (n a l : ℕ) : Type 0 where
   pub size : Size n
   pub some : 4 ≤ n
   pub most : n ≤ 32
@@ -23,7 +23,7 @@ row-enough : (n : ℕ) → Size n → 2 * n ≤ predictorRow n
 row-enough n s = at-size (λ (m : ℕ). 2 * m ≤ predictorRow m) (omega arith) (omega arith) (omega arith) (omega arith) n s
 
 -- a call that is not refused
-pub ready : (n a l p : ℕ) → flatNo n a l p ≡ 0 → Ready n a l × (n * n ≤ p)
+pub ready : (n a l p : ℕ) → flatNo n a l p ≡ 0 → FlatReady n a l × (n * n ≤ p)
 unfolding flatNo
 ready n a l p e =
     let s = passed (sizeOk n) _ 2 (omega arith) e in
@@ -42,9 +42,9 @@ pub wide : (n p : ℕ) → 0 < n → n * n ≤ p → n ≤ p
 wide n p h l = omega (arith, row-room 0 n h)
 
 -- what holds at n, at the number that n was found to be
-pub as-found : (n m a l p : ℕ) → n ≡ m → Ready n a l × (n * n ≤ p) → Ready m a l × (m * m ≤ p)
-as-found n m a l p e h = subst (λ (k : ℕ). Ready k a l × (k * k ≤ p)) e h
+pub as-found : (n m a l p : ℕ) → n ≡ m → FlatReady n a l × (n * n ≤ p) → FlatReady m a l × (m * m ≤ p)
+as-found n m a l p e h = subst (λ (k : ℕ). FlatReady k a l × (k * k ≤ p)) e h
 
 -- planar at row y and column x: l stands left of the row, tr right of the row above, t above the column, bl below the left column
-unfoldable pub planarMix : ℕ → ℕ → ℕ → ℕ → ℕ → ℕ → ℕ → ℕ
-planarMix n y x l tr t bl = ((n - 1 - x) * l + (x + 1) * tr + ((n - 1 - y) * t + (y + 1) * bl) + n) / (2 * n)
+unfoldable pub planarSample : ℕ → ℕ → ℕ → ℕ → ℕ → ℕ → ℕ → ℕ
+planarSample n y x l tr t bl = ((n - 1 - x) * l + (x + 1) * tr + ((n - 1 - y) * t + (y + 1) * bl) + n) / (2 * n)

@@ -6,17 +6,17 @@ use native.Mathlib.Omega.{arith}
 use Rattle.domain.specs.Facts.{Size, at-size}
 use Rattle.h265.specs.Notation.{Neighbours, log2, halvings}
 use Rattle.h265.specs.Planar.{planar}
-use Rattle.h265.specs.Dc.{sum, dcVal}
+use Rattle.h265.specs.Dc.{sumTo, dcVal}
 use Rattle.samples.specs.taps.Taps.{meanOf}
 use Rattle.samples.specs.taps.Laws.{mean-is}
-use Rattle.predict.specs.planar_dc.Flat.{planarMix}
+use Rattle.predict.specs.planar_dc.Flat.{planarSample}
 
 halves : (n : ℕ) → Size n → 2 ^ (log2 n + 1) ≡ 2 * n
 unfolding halvings
 halves n s = at-size (λ (m : ℕ). 2 ^ (log2 m + 1) ≡ 2 * m) refl refl refl refl n s
 
-pub planar-mix : (n : ℕ) → Size n → (nb : Neighbours) (y x : ℕ) → planarMix n y x (nb .left y) (nb .above n) (nb .above x) (nb .left n) ≡ planar n nb x y
-unfolding planarMix planar
+pub planar-mix : (n : ℕ) → Size n → (nb : Neighbours) (y x : ℕ) → planarSample n y x (nb .left y) (nb .above n) (nb .above x) (nb .left n) ≡ planar n nb x y
+unfolding planarSample planar
 planar-mix n s nb y x =
     rw (halves n s)
     (ap (λ (k : ℕ). k / (2 * n))
@@ -25,23 +25,23 @@ planar-mix n s nb y x =
 
 -- s is the sum of n samples of both rows
 pub record Total (nb : Neighbours) (n s : ℕ) : Type 0 where
-  pub is : s ≡ sum (nb .above) n + sum (nb .left) n
+  pub is : s ≡ sumTo (nb .above) n + sumTo (nb .left) n
   pub most : s ≤ 131070 * n
 
 -- the sum, as a loop makes it
 pub total-none : (nb : Neighbours) → Total nb 0 0
-unfolding sum
+unfolding sumTo
 total-none nb = record { is = refl; most = omega arith }
 
 pub total-more : (nb : Neighbours) (i s : ℕ) → Total nb i s → nb .above i < 65536 → nb .left i < 65536 → Total nb (i + 1) (s + (nb .above i + nb .left i))
-unfolding sum
+unfolding sumTo
 total-more nb i s t a l = record { is = let e = t .is in rw add-one (omega arith); most = let h = t .most in omega arith }
 
 pub total-done : (nb : Neighbours) {i k s : ℕ} → i ≤ k → k ≤ i → Total nb i s → Total nb k s
 total-done nb {i} {k} {s} p q t = subst (λ (m : ℕ). Total nb m s) (let e : i ≡ k = omega arith in e) t
 
 -- the DC value as a quotient, and as the code's mean
-pub dc-quotient : (n : ℕ) → Size n → (nb : Neighbours) (s : ℕ) → s ≡ sum (nb .above) n + sum (nb .left) n → (s + n) / (2 * n) ≡ dcVal n nb
+pub dc-quotient : (n : ℕ) → Size n → (nb : Neighbours) (s : ℕ) → s ≡ sumTo (nb .above) n + sumTo (nb .left) n → (s + n) / (2 * n) ≡ dcVal n nb
 unfolding dcVal
 dc-quotient n s nb all e = rw (e, halves n s)
 

@@ -14,7 +14,7 @@ flatNo n a l p =
     firstFail ((2 unless sizeOk n) ∷ (5 unless (leb (predictorRow n) a && leb (predictorRow n) l && leb (n * n) p)) ∷ [])
 
 -- the lengths of what a call lends
-pub record Lent : Type 0 where
+pub record Lengths : Type 0 where
   pub above : ℕ
   pub left : ℕ
   pub pred : ℕ
@@ -22,25 +22,25 @@ pub record Lent : Type 0 where
   pub indices : ℕ
   pub fractions : ℕ
 
-abbrev pub lengths : ℕ → ℕ → ℕ → ℕ → ℕ → ℕ → Lent
+abbrev pub lengths : ℕ → ℕ → ℕ → ℕ → ℕ → ℕ → Lengths
 lengths above left pred refs indices fractions =
     record { above = above; left = left; pred = pred; refs = refs; indices = indices; fractions = fractions }
 
 -- whether they are enough
-abbrev pub enough : ℕ → Lent → Bool
-enough n l =
+abbrev pub isEnough : ℕ → Lengths → Bool
+isEnough n l =
     leb (predictorRow n) (l .above) && leb (predictorRow n) (l .left) && leb (n * n) (l .pred)
     && leb 193 (l .refs) && leb 32 (l .indices) && leb 32 (l .fractions)
 
 -- angular prediction
-abbrev pub angularNo : ℕ → ℕ → ℕ → Lent → ℕ
+abbrev pub angularNo : ℕ → ℕ → ℕ → Lengths → ℕ
 angularNo bits n mode l =
-    firstFail ((1 unless depthOk bits) ∷ (2 unless sizeOk n) ∷ (3 unless (leb 2 mode && modeOk mode)) ∷ (5 unless enough n l) ∷ [])
+    firstFail ((1 unless depthOk bits) ∷ (2 unless sizeOk n) ∷ (3 unless (leb 2 mode && modeOk mode)) ∷ (5 unless isEnough n l) ∷ [])
 
 -- a block in any mode: the depth, the side, the mode, then what is lent: each is asked for in every mode
-abbrev pub predictNo : ℕ → ℕ → ℕ → Lent → ℕ
+abbrev pub predictNo : ℕ → ℕ → ℕ → Lengths → ℕ
 predictNo bits n mode l =
-    firstFail ((1 unless depthOk bits) ∷ (2 unless sizeOk n) ∷ (3 unless modeOk mode) ∷ (5 unless enough n l) ∷ [])
+    firstFail ((1 unless depthOk bits) ∷ (2 unless sizeOk n) ∷ (3 unless modeOk mode) ∷ (5 unless isEnough n l) ∷ [])
 
 -- the square of a side is small
 pub square : (n : ℕ) → Size n → n * n ≤ 1024

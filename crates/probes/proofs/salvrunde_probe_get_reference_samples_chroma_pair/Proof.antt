@@ -1,7 +1,7 @@
 -- `probes::salvrunde_probe_get_reference_samples_chroma_pair` meets its contract: it hands over the door's answer.
 use mathlib.Core.Path.{ap}
 use borrow.Author.Needs.{needs}
-use Rattle.probes.specs.Probes.{pairOf}
+use Rattle.probes.specs.Probes.{pairReferencesOf}
 use Rattle.probes.proofs.salvrunde_probe_get_reference_samples_chroma_pair.Statement.{statement}
 use Rattle.probes.proofs.salvrunde_probe_get_reference_samples_chroma_pair.Tie as tie
 
@@ -15,7 +15,7 @@ element-copy-out-cr : tie.Need-element-copy-out-cr
 element-copy-out-cr c = search needs
 
 returns : tie.Need-returns
-returns c = ap pairOf (c .before .before .before .before .before .before .get-reference-samples-chroma-pair .ensures)
+returns c = ap pairReferencesOf (c .before .before .before .before .before .before .get-reference-samples-chroma-pair .ensures)
 
 pub salvrunde-probe-get-reference-samples-chroma-pair-spec : {M : Type 1} → statement M
 salvrunde-probe-get-reference-samples-chroma-pair-spec = tie.close (tie.spec get-reference-samples-chroma-pair-requires element-copy-out-cb element-copy-out-cr returns)

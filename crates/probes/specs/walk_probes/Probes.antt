@@ -21,28 +21,28 @@ use Rattle.probes.specs.declared.walk_probes.PlanAnswer.{PlanAnswer}
 use Rattle.probes.specs.declared.walk_probes.StepAnswer.{StepAnswer}
 
 -- a plan's verdict
-abbrev pub verdictOf : Verdict → PlanAnswer
-verdictOf v = record { no = v .no; block = v .block }
+abbrev pub planAnswerOf : Verdict → PlanAnswer
+planAnswerOf v = record { no = v .no; block = v .block }
 
 abbrev pub planAnswer : ℕ → ℕ → ℕ → Plan → PlanAnswer
-planAnswer width height ctu plan = verdictOf (planVerdict (record { width = width; height = height; ctu = ctu }) plan)
+planAnswer width height ctu plan = planAnswerOf (planVerdict (record { width = width; height = height; ctu = ctu }) plan)
 
 -- a still as bare numbers, and what a call of walk or replay gives
 abbrev pub stillOf : ℕ → ℕ → ℕ → ℕ → Still
 stillOf bits width height ctu = record { bits = bits; frame = record { width = width; height = height; ctu = ctu } }
 
-abbrev pub stepOf : Stepped → StepAnswer
-stepOf a = record { no = a .no; block = a .block; did = a .did; done = a .next .done }
+abbrev pub stepAnswer : Stepped → StepAnswer
+stepAnswer a = record { no = a .no; block = a .block; did = a .did; done = a .next .done }
 
 -- the doors' contracts of replay and walk, with the answer handed over
 abbrev pub ProbeReplay : Still → Plan → Tables → Progress → ℕ → List ℤ → List ℕ → List ℕ → StepAnswer → Type 0 → Type 0
 ProbeReplay s plan t p grant residuals before after r kept =
-    (r ≡ stepOf (steppedBy (replayVerdict s plan t (p .done) (length before) residuals) plan p grant))
+    (r ≡ stepAnswer (steppedBy (replayVerdict s plan t (p .done) (length before) residuals) plan p grant))
     × ((after ≡ replayAfter s plan t (p .done) grant residuals before) × ((r .no ≡ 0 → ⊥) → kept))
 
 abbrev pub ProbeWalk : Still → Plan → Tables → Progress → ℕ → List ℕ → World → World → StepAnswer → Type 0 → Type 0
 ProbeWalk s plan t p grant source before after r kept =
-    (r ≡ stepOf (steppedBy (walkVerdict s plan t (p .done) source before) plan p grant))
+    (r ≡ stepAnswer (steppedBy (walkVerdict s plan t (p .done) source before) plan p grant))
     × ((after ≡ walkAfter s plan t (p .done) grant source before) × ((r .no ≡ 0 → ⊥) → kept))
 
 -- the same over tables that are lent

@@ -68,44 +68,44 @@ abbrev pub none : Unit {0}
 none = tt
 
 -- a lent slice; the scratch, as three lent tables and as a struct: the last parameters of a call
-abbrev pub Slice : Type 0
-Slice = RefT (List ℕ)
+abbrev pub LentSlice : Type 0
+LentSlice = RefT (List ℕ)
 
-abbrev pub Tables : Type 0
-Tables = Slice × (Slice × (Slice × Unit {0}))
+abbrev pub LentTables : Type 0
+LentTables = LentSlice × (LentSlice × (LentSlice × Unit {0}))
 
 abbrev pub Scratch : Type 0
 Scratch = RefT AngularScratch × Unit {0}
 
 -- the neighbours in a corner and two lent rows, of samples and of bytes, two a sample
-abbrev pub inRows : ℕ → Slice → Slice → Neighbours
+abbrev pub inRows : ℕ → LentSlice → LentSlice → Neighbours
 inRows corner above left = fromRows corner (now above) (now left)
 
-abbrev pub inBytes : ℕ → Slice → Slice → Neighbours
+abbrev pub inBytes : ℕ → LentSlice → LentSlice → Neighbours
 inBytes corner above left = fromRows corner (samplesOf (now above)) (samplesOf (now left))
 
 -- and those in one line of samples: the corner, 65 above, 65 left
-abbrev pub fromLine : List ℕ → Neighbours
-fromLine l = record { corner = getD l 0 0; above = λ i. getD l (1 + i) 0; left = λ i. getD l (66 + i) 0 }
+abbrev pub fromOneLine : List ℕ → Neighbours
+fromOneLine l = record { corner = getD l 0 0; above = λ i. getD l (1 + i) 0; left = λ i. getD l (66 + i) 0 }
 
 -- 8.4.4.2.1 of the first edition: a block's samples in a mode, from neighbours that are not yet filtered
-abbrev pub lumaBlock : ℕ → ℕ → ℕ → Neighbours → ℕ → ℕ → ℕ
-lumaBlock bits n mode = predSamples (lumaAt bits) firstEditionStrong n mode
+abbrev pub lumaSamples : ℕ → ℕ → ℕ → Neighbours → ℕ → ℕ → ℕ
+lumaSamples bits n mode = predSamples (lumaAt bits) firstEditionStrong n mode
 
-abbrev pub chromaBlock : ℕ → ℕ → ℕ → Neighbours → ℕ → ℕ → ℕ
-chromaBlock bits n mode = predSamples (chromaAt bits) firstEditionStrong n mode
+abbrev pub chromaSamples : ℕ → ℕ → ℕ → Neighbours → ℕ → ℕ → ℕ
+chromaSamples bits n mode = predSamples (chromaAt bits) firstEditionStrong n mode
 
 -- the sample in column x and row y of a plane; the neighbours that 6.4.1 and 8.4.4.2.2 give a luma block of it; the block, 8.4.4.2 whole
-abbrev pub inPlane : List ℕ → LumaRefGeometry → ℕ → ℕ → ℕ
-inPlane plane g x y = sampleOf plane (g .picture .width) y x
+abbrev pub planeSample : List ℕ → LumaRefGeometry → ℕ → ℕ → ℕ
+planeSample plane g x y = sampleOf plane (g .picture .width) y x
 
 abbrev pub standardNeighbours : List ℕ → LumaRefGeometry → Neighbours
 standardNeighbours plane g =
-    neighbours (gridOf (g .picture)) (lumaAt (g .bits)) (g .n) (g .«block_col» .0) (g .«block_row» .0) (inPlane plane g)
+    neighbours (gridOf (g .picture)) (lumaAt (g .bits)) (g .n) (g .«block_col» .0) (g .«block_row» .0) (planeSample plane g)
 
 abbrev pub standardBlock : List ℕ → LumaRefGeometry → ℕ → ℕ → ℕ → ℕ
 standardBlock plane g mode =
-    predicted (gridOf (g .picture)) (lumaAt (g .bits)) firstEditionStrong (g .n) mode (g .«block_col» .0) (g .«block_row» .0) (inPlane plane g)
+    predicted (gridOf (g .picture)) (lumaAt (g .bits)) firstEditionStrong (g .n) mode (g .«block_col» .0) (g .«block_row» .0) (planeSample plane g)
 
 -- `clause x y` is in row y and column x of a block of side n
 abbrev pub Holds : ℕ → (ℕ → ℕ → ℕ) → List ℕ → Type 0
@@ -113,108 +113,108 @@ Holds n clause block = (x y : ℕ) → x < n → y < n → getD block (y * n + x
 
 -- A door that writes a block into `pred`: `post` is its contract, over the parameters at entry, the number, and the parameters at exit.
 -- `last` is its scratch, of which nothing is said. What meets the contract with the number 0 has the clause's samples in `pred` at exit.
-abbrev pub Writes : {A Last : Type 0} → (A → ℕ → A → Type 0) → (Slice → Last → A) → ℕ → (ℕ → ℕ → ℕ) → Type 0
+abbrev pub Writes : {A Last : Type 0} → (A → ℕ → A → Type 0) → (LentSlice → Last → A) → ℕ → (ℕ → ℕ → ℕ) → Type 0
 Writes {A} {Last} post call n clause =
-    (pred pred′ : Slice) (last last′ : Last) (number : ℕ) → post (call pred last) number (call pred′ last′) → number ≡ 0
+    (pred pred′ : LentSlice) (last last′ : Last) (number : ℕ) → post (call pred last) number (call pred′ last′) → number ≡ 0
     → Holds n clause (now pred′)
 
 -- Of a door that is proved by hand the prover has no such reading: its contract is an assertion of any model, from which the fact follows.
-abbrev pub WritesHeld : {M : Type 1} (𝓤 : URA M) {A : Type 0} → (A → ℕ → A → SProp 𝓤) → (Slice → Scratch → A) → ℕ → (ℕ → ℕ → ℕ) → Type 1
+abbrev pub WritesHeld : {M : Type 1} (𝓤 : URA M) {A : Type 0} → (A → ℕ → A → SProp 𝓤) → (LentSlice → Scratch → A) → ℕ → (ℕ → ℕ → ℕ) → Type 1
 WritesHeld 𝓤 {A} ensures call n clause =
-    (pred pred′ : Slice) (last last′ : Scratch) (number : ℕ) → number ≡ 0
+    (pred pred′ : LentSlice) (last last′ : Scratch) (number : ℕ) → number ≡ 0
     → ent 𝓤 (ensures (call pred last) number (call pred′ last′)) (fact 𝓤 (Holds n clause (now pred′)))
 
 -- An entry for C, and what is said of the samples that `out` spells at exit.
-abbrev pub Spells : {A : Type 0} → (A → ℕ → A → Type 0) → (Slice → A) → (List ℕ → Type 0) → Type 0
+abbrev pub Spells : {A : Type 0} → (A → ℕ → A → Type 0) → (LentSlice → A) → (List ℕ → Type 0) → Type 0
 Spells {A} post call says =
-    (out out′ : Slice) (number : ℕ) → post (call out) number (call out′) → number ≡ 0 → says (samplesOf (now out′))
+    (out out′ : LentSlice) (number : ℕ) → post (call out) number (call out′) → number ≡ 0 → says (samplesOf (now out′))
 
 -- what meets the contract of the luma gather with the number 0
-abbrev pub Gathers : Lfts 1 → Slice → LumaRefGeometry → Gathered → Type 0
+abbrev pub Gathers : Lfts 1 → LentSlice → LumaRefGeometry → Gathered → Type 0
 Gathers κ plane geo g = gather.Post κ (plane and geo and none) g (plane and geo and none) × (g .no ≡ 0)
 
 -- predict's doors with the scratch as a struct, which are proved by hand
 module _ {M : Type 1} (𝓤 : URA M) (H : Heap 𝓤) (A : Atoms 𝓤) (mem : Memory → SProp 𝓤) (run : Routine → Fun 𝓤) where
   pub record WithScratch : Type 1 where
-    pub predict-angular-into : (κs : Lfts 4) (corner : ℕ) (above left : Slice) (n mode : ℕ) (edge : Bool) (bits : ℕ)
+    pub predict-angular-into : (κs : Lfts 4) (corner : ℕ) (above left : LentSlice) (n mode : ℕ) (edge : Bool) (bits : ℕ)
         → WritesHeld 𝓤 (λ a r z. angular-into.clauses 𝓤 H A mem run κs a .ensures none r z)
         (λ pred last. corner and above and left and n and mode and edge and bits and pred and last)
         n (angular bits edge n mode (inRows corner above left))
-    pub predict-chroma-tb-into : (κs : Lfts 4) (mode corner : ℕ) (above left : Slice) (n bits : ℕ)
+    pub predict-chroma-tb-into : (κs : Lfts 4) (mode corner : ℕ) (above left : LentSlice) (n bits : ℕ)
         → WritesHeld 𝓤 (λ a r z. chroma-into.clauses 𝓤 H A mem run κs a .ensures none r z)
         (λ pred last. mode and corner and above and left and n and bits and pred and last)
-        n (chromaBlock bits n mode (inRows corner above left))
+        n (chromaSamples bits n mode (inRows corner above left))
     pub predict-luma-tb-into : (κs : Lfts 2) (mode : ℕ) (rows : Rows) (n bits : ℕ)
         → WritesHeld 𝓤 (λ a r z. luma-into.clauses 𝓤 H A mem run κs a .ensures none r z)
-        (λ pred last. mode and rows and n and bits and pred and last) n (lumaBlock bits n mode (neighboursOf rows))
-    pub gathered-luma-into : (κ : Lfts 1) (plane : Slice) (geo : LumaRefGeometry) (g : Gathered) → Gathers κ plane geo g
+        (λ pred last. mode and rows and n and bits and pred and last) n (lumaSamples bits n mode (neighboursOf rows))
+    pub gathered-luma-into : (κ : Lfts 1) (plane : LentSlice) (geo : LumaRefGeometry) (g : Gathered) → Gathers κ plane geo g
         → (κs : Lfts 2) (mode : ℕ) → WritesHeld 𝓤 (λ a r z. luma-into.clauses 𝓤 H A mem run κs a .ensures none r z)
         (λ pred last. mode and g .rows and geo .n and geo .bits and pred and last) (geo .n) (standardBlock (now plane) geo mode)
 
 pub record Demand2 : Type 2 where
   -- refs, 6.4.1 and 8.4.4.2.2: the corner, and entries 0 .. 2n - 1 above and left
-  pub get-reference-samples : (κ : Lfts 1) (plane : Slice) (geo : LumaRefGeometry) (g : Gathered) → Gathers κ plane geo g
+  pub get-reference-samples : (κ : Lfts 1) (plane : LentSlice) (geo : LumaRefGeometry) (g : Gathered) → Gathers κ plane geo g
       → Agree (geo .n) (neighboursOf (g .rows)) (standardNeighbours (now plane) geo)
   -- smooth, 8.4.4.2.3: the rule; both rows in the [1 2 1] form, which no depth plays a part in; corner and rows in either form
   pub should-filter-refs : (mode n : ℕ) (r : Rule) → rule.Post none (mode and n and none) r (mode and n and none) → r .no ≡ 0
       → r .yes ≡ filterFlag n mode
-  pub filter-references : (κs : Lfts 2) (corner : ℕ) (above left : Slice) (n : ℕ) (r : FilteredRows)
+  pub filter-references : (κs : Lfts 2) (corner : ℕ) (above left : LentSlice) (n : ℕ) (r : FilteredRows)
       → weak-filter.Post κs (corner and above and left and n and none) r (corner and above and left and n and none) → r .no ≡ 0
       → (bits i : ℕ) → i < 2 * n → let pF = filtered false bits n (inRows corner above left) in
       (getD (r .above) i 0 ≡ pF .above i) × (getD (r .left) i 0 ≡ pF .left i)
-  pub filter-luma-refs : (κs : Lfts 2) (corner : ℕ) (above left : Slice) (n bits : ℕ) (r : Smoothed)
+  pub filter-luma-refs : (κs : Lfts 2) (corner : ℕ) (above left : LentSlice) (n bits : ℕ) (r : Smoothed)
       → luma-filter.Post κs (corner and above and left and n and bits and none) r (corner and above and left and n and bits and none)
       → r .no ≡ 0 → Agree n (neighboursOf (r .rows)) (filtered true bits n (inRows corner above left))
   -- predict: planar, DC and angular, 8.4.4.2.4 to 8.4.4.2.6
-  pub predict-planar-into : (κs : Lfts 3) (above left : Slice) (n : ℕ)
+  pub predict-planar-into : (κs : Lfts 3) (above left : LentSlice) (n : ℕ)
       → Writes (planar-into.Post κs) (λ pred last. above and left and n and pred and last) n (planar n (inRows 0 above left))
-  pub predict-dc-into : (κs : Lfts 3) (above left : Slice) (n : ℕ) (edge : Bool)
+  pub predict-dc-into : (κs : Lfts 3) (above left : LentSlice) (n : ℕ) (edge : Bool)
       → Writes (dc-into.Post κs) (λ pred last. above and left and n and edge and pred and last) n (dc edge n (inRows 0 above left))
-  pub predict-angular-slices : (κs : Lfts 6) (corner : ℕ) (above left : Slice) (n mode : ℕ) (edge : Bool) (bits : ℕ)
-      → Writes {Last = Tables} (angular-slices.Post κs)
+  pub predict-angular-slices : (κs : Lfts 6) (corner : ℕ) (above left : LentSlice) (n mode : ℕ) (edge : Bool) (bits : ℕ)
+      → Writes {Last = LentTables} (angular-slices.Post κs)
       (λ pred last. corner and above and left and n and mode and edge and bits and pred and last)
       n (angular bits edge n mode (inRows corner above left))
-  pub predict-angular-fresh : (κs : Lfts 3) (corner : ℕ) (above left : Slice) (n mode : ℕ) (edge : Bool) (bits : ℕ)
+  pub predict-angular-fresh : (κs : Lfts 3) (corner : ℕ) (above left : LentSlice) (n mode : ℕ) (edge : Bool) (bits : ℕ)
       → Writes (angular-fresh.Post κs) (λ pred last. corner and above and left and n and mode and edge and bits and pred and last)
       n (angular bits edge n mode (inRows corner above left))
   -- predict: the block of a mode, 8.4.4.2.1; luma takes gathered rows, and smooths them where the rule says so
-  pub predict-chroma-tb-slices : (κs : Lfts 6) (mode corner : ℕ) (above left : Slice) (n bits : ℕ)
-      → Writes {Last = Tables} (chroma-slices.Post κs) (λ pred last. mode and corner and above and left and n and bits and pred and last)
-      n (chromaBlock bits n mode (inRows corner above left))
-  pub predict-chroma-tb-fresh : (κs : Lfts 3) (mode corner : ℕ) (above left : Slice) (n bits : ℕ)
+  pub predict-chroma-tb-slices : (κs : Lfts 6) (mode corner : ℕ) (above left : LentSlice) (n bits : ℕ)
+      → Writes {Last = LentTables} (chroma-slices.Post κs) (λ pred last. mode and corner and above and left and n and bits and pred and last)
+      n (chromaSamples bits n mode (inRows corner above left))
+  pub predict-chroma-tb-fresh : (κs : Lfts 3) (mode corner : ℕ) (above left : LentSlice) (n bits : ℕ)
       → Writes (chroma-fresh.Post κs) (λ pred last. mode and corner and above and left and n and bits and pred and last)
-      n (chromaBlock bits n mode (inRows corner above left))
+      n (chromaSamples bits n mode (inRows corner above left))
   pub predict-luma-tb-slices : (κs : Lfts 4) (mode : ℕ) (rows : Rows) (n bits : ℕ)
-      → Writes {Last = Tables} (luma-slices.Post κs) (λ pred last. mode and rows and n and bits and pred and last)
-      n (lumaBlock bits n mode (neighboursOf rows))
+      → Writes {Last = LentTables} (luma-slices.Post κs) (λ pred last. mode and rows and n and bits and pred and last)
+      n (lumaSamples bits n mode (neighboursOf rows))
   pub predict-luma-tb-fresh : (κs : Lfts 1) (mode : ℕ) (rows : Rows) (n bits : ℕ)
       → Writes (luma-fresh.Post κs) (λ pred last. mode and rows and n and bits and pred and last)
-      n (lumaBlock bits n mode (neighboursOf rows))
+      n (lumaSamples bits n mode (neighboursOf rows))
   -- the luma gather, then a luma block over the rows that it gave: 8.4.4.2 whole
-  pub gathered-luma-slices : (κ : Lfts 1) (plane : Slice) (geo : LumaRefGeometry) (g : Gathered) → Gathers κ plane geo g
-      → (κs : Lfts 4) (mode : ℕ) → Writes {Last = Tables} (luma-slices.Post κs)
+  pub gathered-luma-slices : (κ : Lfts 1) (plane : LentSlice) (geo : LumaRefGeometry) (g : Gathered) → Gathers κ plane geo g
+      → (κs : Lfts 4) (mode : ℕ) → Writes {Last = LentTables} (luma-slices.Post κs)
       (λ pred last. mode and g .rows and geo .n and geo .bits and pred and last) (geo .n) (standardBlock (now plane) geo mode)
-  pub gathered-luma-fresh : (κ : Lfts 1) (plane : Slice) (geo : LumaRefGeometry) (g : Gathered) → Gathers κ plane geo g
+  pub gathered-luma-fresh : (κ : Lfts 1) (plane : LentSlice) (geo : LumaRefGeometry) (g : Gathered) → Gathers κ plane geo g
       → (κs : Lfts 1) (mode : ℕ) → Writes (luma-fresh.Post κs)
       (λ pred last. mode and g .rows and geo .n and geo .bits and pred and last) (geo .n) (standardBlock (now plane) geo mode)
   -- predict_angular_into, predict_chroma_tb_into, predict_luma_tb_into
   pub with-scratch : {M : Type 1} (𝓤 : URA M) (H : Heap 𝓤) (A : Atoms 𝓤) (mem : Memory → SProp 𝓤) (run : Routine → Fun 𝓤)
       → WithScratch 𝓤 H A mem run
   -- camera: what the bytes of `out` spell, from what those of the plane or of the rows spell; these have to be bytes, and a corner a sample
-  pub salvrunde-luma-refs : (κs : Lfts 2) (bits width height ctu unit row col n : ℕ) (plane : Slice) → AreBytes (now plane)
+  pub salvrunde-luma-refs : (κs : Lfts 2) (bits width height ctu unit row col n : ℕ) (plane : LentSlice) → AreBytes (now plane)
       → Spells (c-luma-refs.Post κs)
       (λ out. bits and width and height and ctu and unit and row and col and n and plane and out and none)
-      (λ l. Agree n (fromLine l) (standardNeighbours (samplesOf (now plane)) (lumaGeometry bits width height ctu unit row col n)))
-  pub salvrunde-planar : (κs : Lfts 3) (n : ℕ) (above left : Slice) → AreBytes (now above) → AreBytes (now left)
+      (λ l. Agree n (fromOneLine l) (standardNeighbours (samplesOf (now plane)) (lumaGeometry bits width height ctu unit row col n)))
+  pub salvrunde-planar : (κs : Lfts 3) (n : ℕ) (above left : LentSlice) → AreBytes (now above) → AreBytes (now left)
       → Spells (c-planar.Post κs) (λ out. n and above and left and out and none) (Holds n (planar n (inBytes 0 above left)))
-  pub salvrunde-dc : (κs : Lfts 3) (n edge : ℕ) (above left : Slice) → AreBytes (now above) → AreBytes (now left)
+  pub salvrunde-dc : (κs : Lfts 3) (n edge : ℕ) (above left : LentSlice) → AreBytes (now above) → AreBytes (now left)
       → Spells (c-dc.Post κs) (λ out. n and edge and above and left and out and none)
       (Holds n (dc (not (eqb edge 0)) n (inBytes 0 above left)))
-  pub salvrunde-angular : (κs : Lfts 3) (bits n mode edge corner : ℕ) (above left : Slice)
+  pub salvrunde-angular : (κs : Lfts 3) (bits n mode edge corner : ℕ) (above left : LentSlice)
       → corner < 65536 → AreBytes (now above) → AreBytes (now left)
       → Spells (c-angular.Post κs) (λ out. bits and n and mode and edge and corner and above and left and out and none)
       (Holds n (angular bits (not (eqb edge 0)) n mode (inBytes corner above left)))
-  pub salvrunde-chroma-block : (κs : Lfts 3) (bits n mode corner : ℕ) (above left : Slice)
+  pub salvrunde-chroma-block : (κs : Lfts 3) (bits n mode corner : ℕ) (above left : LentSlice)
       → corner < 65536 → AreBytes (now above) → AreBytes (now left)
       → Spells (c-chroma-block.Post κs) (λ out. bits and n and mode and corner and above and left and out and none)
-      (Holds n (chromaBlock bits n mode (inBytes corner above left)))
+      (Holds n (chromaSamples bits n mode (inBytes corner above left)))

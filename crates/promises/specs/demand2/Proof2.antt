@@ -35,28 +35,28 @@ use Rattle.smooth.specs.declared.Smoothed.{Smoothed}
 use Rattle.smooth.specs.Smoothing.{filterNo, shouldFilterRefs, filterReferences, filterLumaRefs}
 use Rattle.smooth.specs.Forms.{weak-is, never-strong}
 use Rattle.smooth.specs.Standard.{is-standard, door-is-standard}
-use Rattle.predict.specs.refusals.Refusals.{flatNo, Lent, lengths, angularNo, predictNo}
+use Rattle.predict.specs.refusals.Refusals.{flatNo, Lengths, lengths, angularNo, predictNo}
 use Rattle.predict.specs.Lent.{withScratch}
 use Rattle.predict.specs.planar_dc.Flat.{ready}
 use Rattle.predict.specs.angular.Door.{fit}
 use Rattle.predict.specs.by_mode.Door.{given, highest}
 use Rattle.predict.specs.modes.Modes.{pred-alone}
-use Rattle.promises.specs.demand2.Demand2.{Slice, Tables, Holds, lumaBlock, standardNeighbours, standardBlock, WithScratch, Demand2}
+use Rattle.promises.specs.demand2.Demand2.{LentSlice, LentTables, Holds, lumaSamples, standardNeighbours, standardBlock, WithScratch, Demand2}
 use Rattle.promises.specs.demand2.Spelt2.{luma-size, luma-refs-spelt, planar-spelt, dc-spelt, angular-spelt, chroma-spelt}
 
-abbrev len : Slice → ℕ
+abbrev len : LentSlice → ℕ
 len s = length (now s)
 
 -- what a call lends: rows of so many entries, a block of so many, and three tables
-abbrev withTables : ℕ → ℕ → ℕ → Tables → Lent
+abbrev withTables : ℕ → ℕ → ℕ → LentTables → Lengths
 withTables above left pred t = lengths above left pred (len (t .0)) (len (t .1 .0)) (len (t .1 .1 .0))
 
 -- what a door with this number left of the block that it was lent
-abbrev Left : (ℕ → ℕ → ℕ) → ℕ → ℕ → Slice → Slice → Type 0
+abbrev Left : (ℕ → ℕ → ℕ) → ℕ → ℕ → LentSlice → LentSlice → Type 0
 Left clause n number pred pred′ = now pred′ ≡ served number (block (λ (y x : ℕ). clause x y) n (now pred)) (now pred)
 
 -- one with the number 0
-module _ (clause : ℕ → ℕ → ℕ) (n number : ℕ) (pred pred′ : Slice) (zero : number ≡ 0) (holds : Left clause n number pred pred′) where
+module _ (clause : ℕ → ℕ → ℕ) (n number : ℕ) (pred pred′ : LentSlice) (zero : number ≡ 0) (holds : Left clause n number pred pred′) where
   in-its-place : n * n ≤ len pred → Holds n clause (now pred′)
   in-its-place room x y hx hy =
       ap (λ (l : List ℕ). getD l (y * n + x) 0) (holds ∙ sym (worked number (block (λ (y x : ℕ). clause x y) n (now pred)) (now pred) zero))
@@ -66,7 +66,7 @@ module _ (clause : ℕ → ℕ → ℕ) (n number : ℕ) (pred pred′ : Slice) 
   flat : (above left : ℕ) → number ≡ flatNo n above left (len pred) → Holds n clause (now pred′)
   flat above left e = in-its-place (ready n above left (len pred) (sym e ∙ zero) .1)
 
-  module _ (bits mode : ℕ) (lent : Lent) (same : lent .pred ≡ len pred) where
+  module _ (bits mode : ℕ) (lent : Lengths) (same : lent .pred ≡ len pred) where
     angled : number ≡ angularNo bits n mode lent → Holds n clause (now pred′)
     angled e = in-its-place (let h = fit bits n mode lent (sym e ∙ zero) .room in omega arith)
 
@@ -84,9 +84,9 @@ module _ (plane : List ℕ) (geo : LumaRefGeometry) (g : Gathered) (met : g ≡ 
   gathered = rw met (rw no-is (luma-standard plane geo no-is))
 
   -- and a luma block over the rows that it gave
-  whole : (mode number : ℕ) (pred pred′ : Slice) → number ≡ 0
-      → Left (lumaBlock (geo .bits) (geo .n) mode (neighboursOf (g .rows))) (geo .n) number pred pred′
-      → (lent : Lent) → lent .pred ≡ len pred → number ≡ predictNo (geo .bits) (geo .n) mode lent
+  whole : (mode number : ℕ) (pred pred′ : LentSlice) → number ≡ 0
+      → Left (lumaSamples (geo .bits) (geo .n) mode (neighboursOf (g .rows))) (geo .n) number pred pred′
+      → (lent : Lengths) → lent .pred ≡ len pred → number ≡ predictNo (geo .bits) (geo .n) mode lent
       → Holds (geo .n) (standardBlock plane geo mode) (now pred′)
   unfolding predicted
   whole mode number pred pred′ zero holds lent same e x y hx hy =

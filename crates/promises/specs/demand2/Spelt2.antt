@@ -45,10 +45,10 @@ use Rattle.camera.specs.gather.Line.{inLine, rowsAt}
 use Rattle.camera.specs.gather.Entry.{lumaEntryNo, lumaEntry}
 use Rattle.camera.specs.gather.Room.{luma-entry-no, luma-entry-fine}
 use Rattle.camera.specs.gather.Spelt.{luma-spelt-fine}
-use Rattle.camera.specs.prediction.Entries.{rowOf, neighboursIn, blockIn, planarEntry, dcEntry, angularMode, angularEntry, chromaBlockEntry}
+use Rattle.camera.specs.prediction.Entries.{rowIn, neighboursIn, blockIn, planarEntry, dcEntry, angularMode, angularEntry, chromaBlockEntry}
 use Rattle.camera.specs.prediction.Checks.{flat-fit, mode-fit}
 use Rattle.promises.specs.demand3.Range.{Most, neighbours-most, under, over, angular-most}
-use Rattle.promises.specs.demand2.Demand2.{Holds, fromLine, inPlane, standardNeighbours, chromaBlock}
+use Rattle.promises.specs.demand2.Demand2.{Holds, fromOneLine, planeSample, standardNeighbours, chromaSamples}
 
 -- an entry that gives 0 has done its work
 done : (k : ℕ) (work kept : List ℕ) {number : ℕ} {out : List ℕ} → wrote number out ≡ entry k work kept → number ≡ 0 → (k ≡ 0) × (out ≡ work)
@@ -75,7 +75,7 @@ abbrev spelt : ℕ → List ℕ → List ℕ → Neighbours
 spelt corner above left = fromRows corner (samplesOf above) (samplesOf left)
 
 -- a row as an entry reads it, as far as prediction reads
-alike : (b : List ℕ) (i : ℕ) → i < 65 → getD (rowOf b) i 0 ≡ getD (samplesOf b) i 0
+alike : (b : List ℕ) (i : ℕ) → i < 65 → getD (rowIn b) i 0 ≡ getD (samplesOf b) i 0
 alike b i h = fill-at (λ j. getD (samplesOf b) j 0) 65 (replicate 65 0) i 0 h (omega (arith, length-replicate {A = ℕ} 65 0))
 
 -- a clause that reads the corner and entries 0 .. 2n - 1 alone, and that gives samples of samples
@@ -132,7 +132,7 @@ module _ (n : ℕ) (size : Size n) where
         (at-depth (λ (k : ℕ). 2 ^ k - 1 ≤ 65535) (omega arith) (omega arith) (omega arith) bits depth) m;
   }
 
-  chroma-block-plain : (bits mode : ℕ) → mode ≤ 34 → Plain n (chromaBlock bits n mode)
+  chroma-block-plain : (bits mode : ℕ) → mode ≤ 34 → Plain n (chromaSamples bits n mode)
   chroma-block-plain bits mode known = record {
     alone = λ x y hx hy a b e. pred-alone (chromaAt bits) firstEditionStrong n mode x y a b size known hx hy e;
     most = λ x y hx hy nb m.
@@ -173,13 +173,13 @@ module _ (n : ℕ) (above left d : List ℕ) (a : AreBytes above) (l : AreBytes 
         (angular-plain n s bits e mode (depth-of bits (f .0 .depth)) (highest (f .0))) d (f .1 .0 .block-long) (w .1)
 
     pub chroma-spelt : wrote number out ≡ chromaBlockEntry bits n mode corner above left d → number ≡ 0
-        → Holds n (chromaBlock bits n mode (spelt corner above left)) (samplesOf out)
+        → Holds n (chromaSamples bits n mode (spelt corner above left)) (samplesOf out)
     unfolding chromaBlockEntry
     chroma-spelt met zero =
         let w = done _ _ d met zero in
         let f = mode-fit bits n mode _ _ _ (modeOk mode) (λ t. t) (w .0) in
         let s = side (f .0) in
-        block-spelt n corner above left s c a l (chromaBlock bits n mode) (chroma-block-plain n s bits mode (highest (f .0))) d
+        block-spelt n corner above left s c a l (chromaSamples bits n mode) (chroma-block-plain n s bits mode (highest (f .0))) d
         (f .1 .0 .block-long) (w .1)
 
 -- the rows that a gather writes
@@ -197,7 +197,7 @@ module _ (r : Rows) (d : List ℕ) (long : length (r .above) ≡ 65) (room : 262
   at-place j v h e small = ap (λ (b : List ℕ). getD (samplesOf b) j 0) as-fill ∙ stored-at at 131 d room j h (rw e small) ∙ e
 
   rows-spelt : (n : ℕ) (nb : Neighbours) → n ≤ 32 → Agree n (neighboursOf r) nb → Most 65535 nb
-      → Agree n (fromLine (samplesOf (rowsAt 0 r d))) nb
+      → Agree n (fromOneLine (samplesOf (rowsAt 0 r d))) nb
   rows-spelt n nb h a m = record {
     corner = at-place 0 (nb .corner) (omega arith) (a .corner) (m .corner);
     above = λ i q.
@@ -243,12 +243,12 @@ module _ (plane : List ℕ) (g : LumaRefGeometry) (d : List ℕ) (bytes : AreByt
   -- the standard's neighbours are samples
   most : Depth (g .bits) → Most 65535 (standardNeighbours (samplesOf plane) g)
   most depth =
-      neighbours-most 65535 (gridOf (g .picture)) (g .bits) (g .n) (g .«block_col» .0) (g .«block_row» .0) (inPlane (samplesOf plane) g)
+      neighbours-most 65535 (gridOf (g .picture)) (g .bits) (g .n) (g .«block_col» .0) (g .«block_row» .0) (planeSample (samplesOf plane) g)
       (λ x y. let h = samples-below plane bytes (y * g .picture .width + x) in omega arith)
       (at-depth (λ (k : ℕ). 2 ^ (k - 1) ≤ 65535) (omega arith) (omega arith) (omega arith) (g .bits) depth)
 
   pub luma-refs-spelt : {number : ℕ} {out : List ℕ} → wrote number out ≡ lumaEntry plane g d → number ≡ 0
-      → Agree (g .n) (fromLine (samplesOf out)) (standardNeighbours (samplesOf plane) g)
+      → Agree (g .n) (fromOneLine (samplesOf out)) (standardNeighbours (samplesOf plane) g)
   unfolding lumaEntry
   luma-refs-spelt met zero =
       let rows = lumaRows (samplesOf plane) g in

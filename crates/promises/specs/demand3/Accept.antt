@@ -21,7 +21,7 @@ use Rattle.plan.specs.tiling.Verdict.{Accepted, good-verdict}
 use Rattle.walk.specs.declared.checks.Still.{Still}
 use Rattle.walk.specs.declared.Stepped.{Stepped}
 use Rattle.samples.specs.deltas.Deltas.{residualOk}
-use Rattle.walk.specs.checks.Checks.{Tables, largestIn, every, whole, roomy, settle}
+use Rattle.walk.specs.checks.Checks.{Tables, largestIn, every, isWhole, isRoomy, settle}
 use Rattle.walk.specs.block.Rebuilt.{replayUnit}
 use Rattle.walk.specs.block.Walked.{World, walked, walkUnit}
 use Rattle.walk.specs.calls.Door.{verdictOf, replayVerdict, replayAfter, walkVerdict, walkAfter}
@@ -79,12 +79,12 @@ module _ (j : Task) where
       let v = verdict-zero s (j .plan) (x .progress .done) _ e in
       let depth = passed (depthOk (s .bits)) _ 1 (omega arith) (v .0) in
       let picture = passed (pictureOk (pictureOf (s .frame))) _ 4 (omega arith) (depth .1) in
-      let long = passed (j .plan .whole && whole s (length source) && whole s (length (x .world .work)) && whole s (length (x .world .residuals)) && roomy t) _ 5 (omega arith) (picture .1) in
+      let long = passed (j .plan .whole && isWhole s (length source) && isWhole s (length (x .world .work)) && isWhole s (length (x .world .residuals)) && isRoomy t) _ 5 (omega arith) (picture .1) in
       let most = passed (every (λ v. leb v (largestIn s)) source) 0 7 (omega arith) (long .1) in
-      let c = both-true (j .plan .whole && whole s (length source) && whole s (length (x .world .work)) && whole s (length (x .world .residuals))) (roomy t) (long .0) in
-      let b = both-true (j .plan .whole && whole s (length source) && whole s (length (x .world .work))) (whole s (length (x .world .residuals))) (c .0) in
-      let a = both-true (j .plan .whole && whole s (length source)) (whole s (length (x .world .work))) (b .0) in
-      let p = both-true (j .plan .whole) (whole s (length source)) (a .0) in
+      let c = both-true (j .plan .whole && isWhole s (length source) && isWhole s (length (x .world .work)) && isWhole s (length (x .world .residuals))) (isRoomy t) (long .0) in
+      let b = both-true (j .plan .whole && isWhole s (length source) && isWhole s (length (x .world .work))) (isWhole s (length (x .world .residuals))) (c .0) in
+      let a = both-true (j .plan .whole && isWhole s (length source)) (isWhole s (length (x .world .work))) (b .0) in
+      let p = both-true (j .plan .whole) (isWhole s (length source)) (a .0) in
       record {
         asked = record { depth = depth-of (s .bits) (depth .0); records = p .0; plan-ok = blocks-accepted s (j .plan) (picture .0) (p .0) (v .1 .0); few = v .1 .1 };
         source-whole = eqb-true (length source) size (p .1);
@@ -93,7 +93,7 @@ module _ (j : Task) where
         samples = most .0;
       }
 
-  pub walk-fine : (source : List ℕ) (x : Held World) (t : Tables) → Walking j source x → roomy t ≡ true → walkVerdictAt j source x t .no ≡ 0
+  pub walk-fine : (source : List ℕ) (x : Held World) (t : Tables) → Walking j source x → isRoomy t ≡ true → walkVerdictAt j source x t .no ≡ 0
   unfolding walkVerdict
   walk-fine source x t w room =
       verdict-fine s (j .plan) (x .progress .done) _
@@ -115,11 +115,11 @@ module _ (j : Task) where
       let v = verdict-zero s (j .plan) (x .progress .done) _ e in
       let depth = passed (depthOk (s .bits)) _ 1 (omega arith) (v .0) in
       let picture = passed (pictureOk (pictureOf (s .frame))) _ 4 (omega arith) (depth .1) in
-      let long = passed (j .plan .whole && whole s (length (x .world)) && whole s (length residuals) && roomy t) _ 5 (omega arith) (picture .1) in
+      let long = passed (j .plan .whole && isWhole s (length (x .world)) && isWhole s (length residuals) && isRoomy t) _ 5 (omega arith) (picture .1) in
       let most = passed (every residualOk residuals) 0 8 (omega arith) (long .1) in
-      let b = both-true (j .plan .whole && whole s (length (x .world)) && whole s (length residuals)) (roomy t) (long .0) in
-      let a = both-true (j .plan .whole && whole s (length (x .world))) (whole s (length residuals)) (b .0) in
-      let p = both-true (j .plan .whole) (whole s (length (x .world))) (a .0) in
+      let b = both-true (j .plan .whole && isWhole s (length (x .world)) && isWhole s (length residuals)) (isRoomy t) (long .0) in
+      let a = both-true (j .plan .whole && isWhole s (length (x .world))) (isWhole s (length residuals)) (b .0) in
+      let p = both-true (j .plan .whole) (isWhole s (length (x .world))) (a .0) in
       record {
         asked = record { depth = depth-of (s .bits) (depth .0); records = p .0; plan-ok = blocks-accepted s (j .plan) (picture .0) (p .0) (v .1 .0); few = v .1 .1 };
         plane-whole = eqb-true (length (x .world)) size (p .1);
@@ -127,7 +127,7 @@ module _ (j : Task) where
         in-range = most .0;
       }
 
-  pub replay-fine : (residuals : List ℤ) (x : Held (List ℕ)) (t : Tables) → Replaying j residuals x → roomy t ≡ true → replayVerdictAt j residuals x t .no ≡ 0
+  pub replay-fine : (residuals : List ℤ) (x : Held (List ℕ)) (t : Tables) → Replaying j residuals x → isRoomy t ≡ true → replayVerdictAt j residuals x t .no ≡ 0
   unfolding replayVerdict
   replay-fine residuals x t w room =
       verdict-fine s (j .plan) (x .progress .done) _

@@ -14,7 +14,7 @@ use Rattle.plan.specs.tiling.Plan.{Plan}
 use Rattle.walk.specs.declared.checks.Still.{Still}
 use Rattle.walk.specs.declared.Progress.{Progress}
 use Rattle.walk.specs.block.Walked.{World}
-use Rattle.walk.specs.checks.Checks.{Tables, roomy}
+use Rattle.walk.specs.checks.Checks.{Tables, isRoomy}
 use Rattle.walk.specs.calls.Door.{walkVerdict, walkAfter, replayVerdict, replayAfter}
 use Rattle.walk.specs.Door.{steppedBy}
 
@@ -36,7 +36,7 @@ ask g t = record { grant = g; tables = t }
 
 -- scratch that is long enough
 abbrev pub Roomy : Ask → Type 0
-Roomy a = roomy (a .tables) ≡ true
+Roomy a = isRoomy (a .tables) ≡ true
 
 -- all that is granted
 abbrev pub granted : List Ask → ℕ

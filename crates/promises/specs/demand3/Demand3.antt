@@ -25,7 +25,7 @@ use Rattle.plan.specs.tiling.Tiling.{In, Of, Covered}
 use Rattle.walk.specs.declared.checks.Still.{Still}
 use Rattle.walk.specs.declared.Progress.{Progress}
 use Rattle.walk.specs.declared.Stepped.{Stepped}
-use Rattle.walk.specs.checks.Checks.{Tables, roomy, largestIn}
+use Rattle.walk.specs.checks.Checks.{Tables, isRoomy, largestIn}
 use Rattle.walk.specs.block.Predicted.{sampleAt, predictedAt}
 use Rattle.walk.specs.block.Walked.{World}
 use Rattle.walk.specs.lossless.Picture.{Whole}
@@ -136,9 +136,9 @@ pub record Demand3 : Type 2 where
       → sampleAt (j .still) (calls (replayCall j residuals) (fresh a) asks .world) r c
       ≡ sampleAt (j .still) (calls (replayCall j residuals) (fresh b) others .world) r c
   -- Any split into calls is one call with the sum of the grants, from any record, refused or not.
-  pub walk-split : (j : Task) (source : List ℕ) (x : Held World) (asks : List Ask) (t : Tables) → Each Roomy asks → roomy t ≡ true
+  pub walk-split : (j : Task) (source : List ℕ) (x : Held World) (asks : List Ask) (t : Tables) → Each Roomy asks → isRoomy t ≡ true
       → calls (walkCall j source) x asks ≡ walkCall j source x (ask (granted asks) t)
-  pub replay-split : (j : Task) (residuals : List ℤ) (x : Held (List ℕ)) (asks : List Ask) (t : Tables) → Each Roomy asks → roomy t ≡ true
+  pub replay-split : (j : Task) (residuals : List ℤ) (x : Held (List ℕ)) (asks : List Ask) (t : Tables) → Each Roomy asks → isRoomy t ≡ true
       → calls (replayCall j residuals) x asks ≡ replayCall j residuals x (ask (granted asks) t)
   -- Calls that are served, from any record, do the lesser of what is granted and what remains.
   pub walk-does : (j : Task) (source : List ℕ) (x : Held World) (asks : List Ask) (t : Tables) → Served (walkVerdictAt j source x t)

@@ -31,10 +31,10 @@ two =
 abbrev pub source : List ℕ
 source = replicate 128 130
 
-abbrev pub blank : World
-blank = record { work = replicate 128 0; residuals = replicate 128 (pos 0) }
+abbrev pub blankWorld : World
+blankWorld = record { work = replicate 128 0; residuals = replicate 128 (pos 0) }
 
-served : Served (walkVerdictAt two source (fresh blank) scratchTables)
+served : Served (walkVerdictAt two source (fresh blankWorld) scratchTables)
 unfolding walkVerdict verdictOf settle every verdictFrom blockNo ahead aheadBy halvings
 served = refl
 
@@ -58,10 +58,10 @@ room a b = (wide a, (wide b, tt))
 enough : (a b : ℕ) → count two ≤ granted (one a ∷ one b ∷ [])
 enough a b = omega (arith, sum-more 1 (1 ∷ []), sum-more 1 [], sum-none)
 
-pub walked : WalksAll two source blank there
+pub walked : WalksAll two source blankWorld there
 walked = record { tables = scratchTables; served = served; room = room 0 1; enough = enough 0 1 }
 
 -- over zeros
-pub same : calls (replayCall two (calls (walkCall two source) (fresh blank) there .world .residuals)) (fresh (replicate 128 0)) back .world
+pub same : calls (replayCall two (calls (walkCall two source) (fresh blankWorld) there .world .residuals)) (fresh (replicate 128 0)) back .world
     ≡ source
-same = demand-3 .same two source blank there walked (replicate 128 0) refl back (room 7 0) (enough 7 0)
+same = demand-3 .same two source blankWorld there walked (replicate 128 0) refl back (room 7 0) (enough 7 0)

@@ -12,14 +12,14 @@ use Rattle.plan.specs.records.Records.{recordOf}
 use Rattle.plan.specs.tiling.Plan.{listed}
 use Rattle.promises.specs.demand3.Calls.{task, Each, count, fresh, calls, walkCall}
 use Rattle.promises.specs.demand3.Chains.{sum-none, sum-more}
-use Rattle.promises.specs.demand3.Example.{two, source, blank, there, walked}
+use Rattle.promises.specs.demand3.Example.{two, source, blankWorld, there, walked}
 use Rattle.promises.specs.demand3.Proof3.{demand-3}
 use Rattle.promises.specs.demand3.Words.{wordsOf, length-words, residuals-back}
 use Rattle.promises.specs.demand3.ProofBytes.{on-bytes}
 use Rattle.promises.specs.OnBytes.{ByteJob, ByteAsk, bytesGranted, speltTask, byteCall, EachServed, Fits, Long}
 
 abbrev residuals : List ℤ
-residuals = calls (walkCall two source) (fresh blank) there .world .residuals
+residuals = calls (walkCall two source) (fresh blankWorld) there .world .residuals
 
 abbrev job : ByteJob
 job = record { still = two .still; plan = 0 ∷ 0 ∷ 0 ∷ 0 ∷ 8 ∷ 1 ∷ 0 ∷ 0 ∷ 8 ∷ 0 ∷ 8 ∷ 1 ∷ []; residuals = wordsOf residuals }
@@ -46,7 +46,7 @@ one-task =
 
 -- its residuals
 spell : residualsOf (wordsOf residuals) ≡ residuals
-spell = residuals-back residuals (on-bytes .walk-spelt two source blank there walked)
+spell = residuals-back residuals (on-bytes .walk-spelt two source blankWorld there walked)
 
 zeros-are : (n i : ℕ) → getD (replicate n 0) i 0 < 256
 zeros-are zero i = omega arith
@@ -56,7 +56,7 @@ zeros-are (suc n) (suc i) = zeros-are n i
 fits : Fits job (fresh (replicate 256 0))
 fits = record {
   plane = refl;
-  residuals = length-words residuals ∙ ap (λ (k : ℕ). 4 * k) (demand-3 .walk two source blank there walked .1 .long);
+  residuals = length-words residuals ∙ ap (λ (k : ℕ). 4 * k) (demand-3 .walk two source blankWorld there walked .1 .long);
   records = refl;
   lent = (zeros-are 256, omega arith);
 }
@@ -73,7 +73,7 @@ enough : count two ≤ bytesGranted again
 enough = omega (arith, sum-more 1 (1 ∷ []), sum-more 1 [], sum-none)
 
 pub served : EachServed job (fresh (replicate 256 0)) again
-served = on-bytes .replay two source blank there walked job one-task spell (replicate 256 0) fits again long .0
+served = on-bytes .replay two source blankWorld there walked job one-task spell (replicate 256 0) fits again long .0
 
 pub same : samplesOf (calls (byteCall job) (fresh (replicate 256 0)) again .world) ≡ source
-same = on-bytes .same two source blank there walked job one-task spell (replicate 256 0) fits again long enough
+same = on-bytes .same two source blankWorld there walked job one-task spell (replicate 256 0) fits again long enough

@@ -21,7 +21,7 @@ use Rattle.walk.specs.declared.Stepped.{Stepped}
 use Rattle.walk.specs.block.Predicted.{sampleAt}
 use Rattle.walk.specs.block.Walked.{World}
 use Rattle.walk.specs.calls.Laws.{accepted-small}
-use Rattle.walk.specs.calls.Steps.{doing}
+use Rattle.walk.specs.calls.Steps.{doingOf}
 use Rattle.walk.specs.Door.{steppedBy}
 use Rattle.walk.specs.Lent.{scratchTables}
 use Rattle.camera.specs.replay.Verdict.{wholeBy, bytesFit, byteVerdict}
@@ -38,7 +38,7 @@ use Rattle.promises.specs.demand3.Gives.{replay-done}
 use Rattle.promises.specs.demand3.Forms.{bytes-listed}
 use Rattle.promises.specs.demand3.Words.{wordsOf, length-words, words-are, residuals-back, in-words, read-back}
 use Rattle.promises.specs.demand3.Proof3.{demand-3}
-use Rattle.promises.specs.OnBytes.{ByteJob, ByteAsk, speltTask, speltAsk, bytesGranted, spelt, recordIn, byteAfter, byteCall, EachServed, Lent, Fits, Long, ByteGave, OnBytes}
+use Rattle.promises.specs.OnBytes.{ByteJob, ByteAsk, speltTask, speltAsk, bytesGranted, spelt, recordIn, byteAfter, byteCall, EachServed, InType, Fits, Long, ByteGave, OnBytes}
 
 -- the scratch that a call makes for itself is long enough
 own-room : (asks : List ByteAsk) → Each Roomy (map speltAsk asks)
@@ -127,7 +127,7 @@ module _ (b : ByteJob) where
       served-is = number-is ∙ ap (λ (u : Verdict). u .no) verdict-is
 
     -- a call that is served fits
-    fits-of : byteAfter b x a .number ≡ 0 → Lent x → Fits b x × Long a
+    fits-of : byteAfter b x a .number ≡ 0 → InType x → Fits b x × Long a
     fits-of z lent =
         let e = served-fits (b .still) (x .progress .done) given (sym number-is ∙ z) in
         let f = fitting (b .still) given e in
@@ -139,11 +139,11 @@ module _ (b : ByteJob) where
         )
 
     -- one that is refused changes nothing
-    refused-keeps : (byteAfter b x a .number ≡ 0 → ⊥) → Lent x → (byteAfter b x a .plane ≡ x .world)
+    refused-keeps : (byteAfter b x a .number ≡ 0 → ⊥) → InType x → (byteAfter b x a .plane ≡ x .world)
         × (Long a → recordIn (byteAfter b x a .result) ≡ x .progress)
     unfolding replayed planeAfter resultAfter
     refused-keeps n lent =
-        let next = unserved (verdict .no) (x .progress .done + doing (recordsOf (b .plan) .count) (x .progress .done) (a .grant))
+        let next = unserved (verdict .no) (x .progress .done + doingOf (recordsOf (b .plan) .count) (x .progress .done) (a .grant))
         (x .progress .done) n in (
           sym (unserved (verdict .no) _ (x .world) n),
           λ long. read-back _ _ (a .result) long (subst (λ (k : ℕ). k < 4294967296) next (lent .1))
@@ -184,7 +184,7 @@ module _ (b : ByteJob) where
   -- what one call gives, from its contract
   gave : (x : Held (List ℕ)) (a : ByteAsk) (r : ℕ) (plane result : List ℕ)
       → record { number = r; plane = plane; result = result } ≡ byteAfter b x a
-      → Lent x → ByteGave b x a r (held (recordIn result) plane)
+      → InType x → ByteGave b x a r (held (recordIn result) plane)
   gave x a r plane result e lent =
       let no = ap (λ (y : After). y .number) e in
       let left : held (recordIn result) plane ≡ byteCall b x a = ap (λ (y : After). held (recordIn (y .result)) (y .plane)) e in

@@ -24,7 +24,7 @@ use Rattle.walk.specs.declared.Progress.{Progress}
 use Rattle.camera.specs.replay.Verdict.{Lent, byteVerdict}
 use Rattle.camera.specs.replay.Door.{blockWritten}
 use Rattle.camera.specs.Written.{entry}
-use Rattle.camera.specs.prediction.Entries.{room, flatEntryNo, modeEntryNo, planarEntry, dcEntry, angularEntry, chromaBlockEntry}
+use Rattle.camera.specs.prediction.Entries.{hasRoom, flatEntryNo, modeEntryNo, planarEntry, dcEntry, angularEntry, chromaBlockEntry}
 use Rattle.camera.specs.gather.Entry.{lumaEntry, chromaEntry}
 use Rattle.promises.specs.tables.Exact.{_when_, _or_, Exact, ExactFirst, Tells, exact-none, exact-row, first-row, all-of, at-most, same}
 use Rattle.promises.specs.tables.Table.{BadPicture, depth, size, picture, lumaTable, luma-number, chromaTable, chroma-number, angularTable, predictTable}
@@ -47,7 +47,7 @@ chroma-refs cb cr g out =
 abbrev pub FewBytes : ℕ → List ℕ → List ℕ → List ℕ → Type 0
 FewBytes n above left out = length above < 130 or length left < 130 or length out < 2 * (n * n)
 
-few-bytes : (n : ℕ) (above left out : List ℕ) → Tells (room n (length above) (length left) (length out)) (FewBytes n above left out)
+few-bytes : (n : ℕ) (above left out : List ℕ) → Tells (hasRoom n (length above) (length left) (length out)) (FewBytes n above left out)
 few-bytes n above left out = all-of (all-of (at-most 130 (length above)) (at-most 130 (length left))) (at-most (2 * (n * n)) (length out))
 
 module _ (n : ℕ) (above left out : List ℕ) where

@@ -22,11 +22,11 @@ use Rattle.plan.specs.tiling.Tiling.{pictureOf}
 use Rattle.walk.specs.declared.Stepped.{Stepped}
 use Rattle.walk.specs.checks.Checks.{largestIn}
 use Rattle.walk.specs.Door.{steppedBy}
-use Rattle.report.specs.file.File.{trailerOf, area, fileOk, tabulated, sourceOf, planIn}
+use Rattle.report.specs.file.File.{trailerOf, areaOf, fileOk, tabulated, sourceOf, planIn}
 use Rattle.report.specs.sums.Sums.{agree}
 use Rattle.report.specs.text.Text.{spell, number, refusal, ending}
 use Rattle.walk.specs.Lent.{scratchTables}
-use Rattle.report.specs.Told.{Job, stillOf, jobOf, fresh, blank, verdict, residuals, replayed, lines, told, printed}
+use Rattle.report.specs.Told.{Job, stillIn, jobOf, noneDone, blank, verdict, residuals, replayedPlane, lines, told, printed}
 use Rattle.promises.specs.tables.Exact.{Row, _when_, _or_, First, ExactFirst, Tells, first-exact, first-test, all-of, at-most}
 use Rattle.promises.specs.tables.Table.{BadPicture}
 use Rattle.promises.specs.run_tables.TableWalk.{about, done, blockRows, Uncovered, planRows, Some, lastRows, Ragged, BadPlane, BadTables, verdictIn, walk}
@@ -41,13 +41,13 @@ BadFile input =
 
 -- number 7: one of the file's samples above the depth's largest
 abbrev pub BadSample : List ℕ → Type 0
-BadSample input = let t = trailerOf input in (i : ℕ) × ((i < t .height * t .width) × (largestIn (stillOf t) < leAt 2 input (t .samples + 2 * i)))
+BadSample input = let t = trailerOf input in (i : ℕ) × ((i < t .height * t .width) × (largestIn (stillIn t) < leAt 2 input (t .samples + 2 * i)))
 
 -- the rows of a file that number 12 is not given for, and the program's
 abbrev pub fileRows : List ℕ → List (Row Verdict)
 fileRows input =
     let t = trailerOf input in
-    let s = stillOf t in
+    let s = stillIn t in
     (about 1 0 when ¬ Depth (s .bits))
     ∷ (about 4 0 when BadPicture (pictureOf (s .frame)))
     ∷ (about 7 0 when BadSample input)
@@ -57,12 +57,12 @@ abbrev pub programRows : List ℕ → List (Row Verdict)
 programRows input = (about 12 0 when BadFile input) ∷ fileRows input
 
 -- what is printed where nothing is refused
-abbrev pub served : Job → List ℕ
-served j = lines (j .plan .block) (residuals j) (j .plan .count) ++ ending (j .plan .count) (agree (replayed j) (j .source) (length (j .source)))
+abbrev pub servedText : Job → List ℕ
+servedText j = lines (j .plan .block) (residuals j) (j .plan .count) ++ ending (j .plan .count) (agree (replayedPlane j) (j .source) (length (j .source)))
 
 pub record ProgramTable (input : List ℕ) : Type 0 where
   pub refused : (n block : ℕ) → (printed input ≡ refusal n block) ↔ ((¬ (n ≡ 0)) × First done (about n block) (programRows input))
-  pub ended : (printed input ≡ served (jobOf input)) ↔ First done done (programRows input)
+  pub ended : (printed input ≡ servedText (jobOf input)) ↔ First done done (programRows input)
 
 -- The rows. One of the walk's that is the same, one that never holds, and all blocks'
 record Has (a : Verdict) (rows : List (Row Verdict)) : Type 0 where
@@ -92,11 +92,11 @@ blocks-kept f plan (suc m) k rest h = row-kept (row-kept (row-kept (row-kept (bl
 
 -- the walk's answer on a file's job
 abbrev stepped : Job → Verdict
-stepped j = verdictIn (steppedBy (verdict j) (j .plan) fresh (j .plan .count))
+stepped j = verdictIn (steppedBy (verdict j) (j .plan) noneDone (j .plan .count))
 
 module _ (input : List ℕ) where
   abbrev n : ℕ
-  n = area (trailerOf input)
+  n = areaOf (trailerOf input)
 
   file : Tells (fileOk input) (BadFile input)
   unfolding fileOk
@@ -118,7 +118,7 @@ module _ (input : List ℕ) where
       let long : (h : ℕ → ℕ) → length (tabulated h m 0) ≡ m = λ h. length-fill h m (replicate m 0) ∙ length-replicate m 0 in
       eq-eqb (length (tabulated f m 0)) (length (tabulated g m 0)) (long f ∙ sym (long g))
 
-  no-five : ¬ (Ragged (planIn input (trailerOf input)) or BadPlane (stillOf (trailerOf input)) (length (sourceOf input (trailerOf input))) or BadPlane (stillOf (trailerOf input)) (length (blank (stillOf (trailerOf input)) .work)) or BadPlane (stillOf (trailerOf input)) (length (blank (stillOf (trailerOf input)) .residuals)) or BadTables scratchTables)
+  no-five : ¬ (Ragged (planIn input (trailerOf input)) or BadPlane (stillIn (trailerOf input)) (length (sourceOf input (trailerOf input))) or BadPlane (stillIn (trailerOf input)) (length (blank (stillIn (trailerOf input)) .work)) or BadPlane (stillIn (trailerOf input)) (length (blank (stillIn (trailerOf input)) .residuals)) or BadTables scratchTables)
   no-five (inl (inl (inl (inl p)))) = p (both-same (both-same (same-long _ _ _) (same-long _ _ _)) (same-long _ _ _))
   no-five (inl (inl (inl (inr p)))) = p source-long
   no-five (inl (inl (inr p))) = p (length-replicate n 0)
@@ -135,14 +135,14 @@ module _ (input : List ℕ) where
       (row-kept
       (λ h. row-same to from
       (blocks-kept (j .still .frame) (j .plan .block) (j .plan .count) 0 {ys = bare ∷ []} (row-kept (row-dropped {k = about 11 0} {P = j .plan .count < 0} (λ p. omega (arith, p)))))
-      (row-dropped {xs = (about 7 0 when Some 0 (λ v. largestIn (j .still) < v) (j .source)) ∷ lastRows (j .still) (j .plan) fresh} no-five h)))
-      (record { first = walk (j .still) (j .plan) fresh scratchTables (j .plan .count) (j .source) (blank (j .still)) .given (stepped j) .0 refl })
+      (row-dropped {xs = (about 7 0 when Some 0 (λ v. largestIn (j .still) < v) (j .source)) ∷ lastRows (j .still) (j .plan) noneDone} no-five h)))
+      (record { first = walk (j .still) (j .plan) noneDone scratchTables (j .plan .count) (j .source) (blank (j .still)) .given (stepped j) .0 refl })
     where
-      to : Some 0 (λ v. largestIn (stillOf (trailerOf input)) < v) (sourceOf input (trailerOf input)) → BadSample input
-      to p = (p .0, let h : p .0 < n = omega (arith, p .1 .0, source-long) in (h, subst (λ (v : ℕ). largestIn (stillOf (trailerOf input)) < v) (sample-at (p .0) h) (p .1 .1)))
+      to : Some 0 (λ v. largestIn (stillIn (trailerOf input)) < v) (sourceOf input (trailerOf input)) → BadSample input
+      to p = (p .0, let h : p .0 < n = omega (arith, p .1 .0, source-long) in (h, subst (λ (v : ℕ). largestIn (stillIn (trailerOf input)) < v) (sample-at (p .0) h) (p .1 .1)))
 
-      from : BadSample input → Some 0 (λ v. largestIn (stillOf (trailerOf input)) < v) (sourceOf input (trailerOf input))
-      from p = (p .0, (omega (arith, p .1 .0, source-long), subst (λ (v : ℕ). largestIn (stillOf (trailerOf input)) < v) (sym (sample-at (p .0) (p .1 .0))) (p .1 .1)))
+      from : BadSample input → Some 0 (λ v. largestIn (stillIn (trailerOf input)) < v) (sourceOf input (trailerOf input))
+      from p = (p .0, (omega (arith, p .1 .0, source-long), subst (λ (v : ℕ). largestIn (stillIn (trailerOf input)) < v) (sym (sample-at (p .0) (p .1 .0))) (p .1 .1)))
 
   -- the verdict on an input
   abbrev given : Verdict
@@ -269,29 +269,29 @@ letter-high : (same : Bool) → 57 < cond same 101 115
 letter-high true = omega arith
 letter-high false = omega arith
 
-not-served : (j : Job) (n k : ℕ) → ¬ (served j ≡ refusal n k)
+not-served : (j : Job) (n k : ℕ) → ¬ (servedText j ≡ refusal n k)
 not-served j n k e =
-    let same : Bool = agree (replayed j) (j .source) (length (j .source)) in
+    let same : Bool = agree (replayedPlane j) (j .source) (length (j .source)) in
     let all : List ℕ = lines (j .plan .block) (residuals j) (j .plan .count) in
     let p = ending-end (j .plan .count) same in
     let q = refusal-end n k in
-    let l : served j ≡ (all ++ p .0) ++ (cond same 101 115 ∷ []) ++ 10 ∷ [] =
+    let l : servedText j ≡ (all ++ p .0) ++ (cond same 101 115 ∷ []) ++ 10 ∷ [] =
     ap (λ (r : List ℕ). all ++ r) (p .1) ∙ sym (append-assoc all (p .0 ++ cond same 101 115 ∷ []) (10 ∷ [])) ∙ ap (λ (r : List ℕ). r ++ 10 ∷ []) (sym (append-assoc all (p .0) (cond same 101 115 ∷ []))) in
     omega (arith, letter-high same, q .1 .1 .0, last-two (all ++ p .0) (q .0) (cond same 101 115) (q .1 .0) (sym l ∙ e ∙ q .1 .1 .1))
 
 -- The text goes by the verdict
 abbrev textOf : Job → Verdict → List ℕ
-textOf j v = cond (eqb (v .no) 0) (served j) (refusal (v .no) (v .block))
+textOf j v = cond (eqb (v .no) 0) (servedText j) (refusal (v .no) (v .block))
 
 text-stepped : (j : Job) → told j ≡ textOf j (stepped j)
 unfolding told
 text-stepped j = go (eqb (verdict j .no) 0) refl _ refl
   where
     go : (b : Bool) → eqb (verdict j .no) 0 ≡ b → (a : Stepped) → verdictIn a ≡ done
-        → cond b (served j) (refusal (verdict j .no) (verdict j .block))
-        ≡ textOf j (verdictIn (cond b a (record { no = verdict j .no; block = verdict j .block; did = 0; next = fresh })))
+        → cond b (servedText j) (refusal (verdict j .no) (verdict j .block))
+        ≡ textOf j (verdictIn (cond b a (record { no = verdict j .no; block = verdict j .block; did = 0; next = noneDone })))
     go true e a z = sym (ap (textOf j) z)
-    go false e a z = sym (ap (λ (b : Bool). cond b (served j) (refusal (verdict j .no) (verdict j .block))) e)
+    go false e a z = sym (ap (λ (b : Bool). cond b (servedText j) (refusal (verdict j .no) (verdict j .block))) e)
 
 by-verdict : (input : List ℕ) → printed input ≡ textOf (jobOf input) (given input)
 unfolding printed
@@ -308,7 +308,7 @@ names-none input = go (fileOk input) (eqb (verdict (jobOf input) .no) 0) refl _ 
   where
     go : (a b : Bool) → eqb (verdict (jobOf input) .no) 0 ≡ b → (s : Stepped) → verdictIn s ≡ done
         → let w = verdict (jobOf input) in
-        let v : Verdict = cond a (verdictIn (cond b s (record { no = w .no; block = w .block; did = 0; next = fresh }))) (about 12 0) in
+        let v : Verdict = cond a (verdictIn (cond b s (record { no = w .no; block = w .block; did = 0; next = noneDone }))) (about 12 0) in
         v .no ≡ 0 → v ≡ done
     go true true e s q z = q
     go true false e s q z = absurd (eqb-false (verdict (jobOf input) .no) 0 e z)
@@ -324,7 +324,7 @@ program input =
     tells : (n k : ℕ) → printed input ≡ refusal n k → (¬ (n ≡ 0)) × (given input ≡ about n k)
     tells n k e = go (eqb (given input .no) 0) refl (sym (by-verdict input) ∙ e)
       where
-        go : (b : Bool) → eqb (given input .no) 0 ≡ b → cond b (served (jobOf input)) (refusal (given input .no) (given input .block)) ≡ refusal n k → (¬ (n ≡ 0)) × (given input ≡ about n k)
+        go : (b : Bool) → eqb (given input .no) 0 ≡ b → cond b (servedText (jobOf input)) (refusal (given input .no) (given input .block)) ≡ refusal n k → (¬ (n ≡ 0)) × (given input ≡ about n k)
         go true z q = absurd (not-served (jobOf input) n k q)
         go false z q =
             let p = refusal-tells (given input .no) n (given input .block) k q in
@@ -333,11 +333,11 @@ program input =
     shown : (n k : ℕ) → ¬ (n ≡ 0) → given input ≡ about n k → printed input ≡ refusal n k
     shown n k h e =
         by-verdict input ∙ ap (textOf (jobOf input)) e
-        ∙ ap (λ (b : Bool). cond b (served (jobOf input)) (refusal n k)) (ne-eqb n 0 h)
+        ∙ ap (λ (b : Bool). cond b (servedText (jobOf input)) (refusal n k)) (ne-eqb n 0 h)
 
-    ends : printed input ≡ served (jobOf input) → given input ≡ done
+    ends : printed input ≡ servedText (jobOf input) → given input ≡ done
     ends e = go (eqb (given input .no) 0) refl (sym (by-verdict input) ∙ e)
       where
-        go : (b : Bool) → eqb (given input .no) 0 ≡ b → cond b (served (jobOf input)) (refusal (given input .no) (given input .block)) ≡ served (jobOf input) → given input ≡ done
+        go : (b : Bool) → eqb (given input .no) 0 ≡ b → cond b (servedText (jobOf input)) (refusal (given input .no) (given input .block)) ≡ servedText (jobOf input) → given input ≡ done
         go true z q = names-none input (eqb-true (given input .no) 0 z)
         go false z q = absurd (not-served (jobOf input) (given input .no) (given input .block) (sym q))

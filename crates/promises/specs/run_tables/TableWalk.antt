@@ -35,8 +35,8 @@ use Rattle.plan.specs.tiling.Verdict.{Fine, Broken, bad-size, bad-mode, bad-pla
 use Rattle.walk.specs.declared.checks.Still.{Still}
 use Rattle.walk.specs.declared.Progress.{Progress}
 use Rattle.walk.specs.declared.Stepped.{Stepped}
-use Rattle.walk.specs.checks.Checks.{largestIn, every, whole, Tables, roomy, openingNo, settle}
-use Rattle.walk.specs.calls.Steps.{doing}
+use Rattle.walk.specs.checks.Checks.{largestIn, every, isWhole, Tables, isRoomy, openingNo, settle}
+use Rattle.walk.specs.calls.Steps.{doingOf}
 use Rattle.walk.specs.block.Walked.{World}
 use Rattle.walk.specs.calls.Door.{verdictOf, replayVerdict, walkVerdict}
 use Rattle.walk.specs.Door.{steppedBy}
@@ -297,7 +297,7 @@ module _ (s : Still) (plan : Plan) (p : Progress) where
   holds-verdict : (w : Verdict) → (w .no ≡ 0 → done ≡ w) → (grant : ℕ) → verdictIn (steppedBy w plan p grant) ≡ w
   holds-verdict w h grant = go (eqb (w .no) 0) refl
     where
-      go : (b : Bool) → eqb (w .no) 0 ≡ b → verdictIn (cond b (record { no = 0; block = 0; did = doing (plan .count) (p .done) grant; next = record { done = p .done + doing (plan .count) (p .done) grant } }) (record { no = w .no; block = w .block; did = 0; next = p })) ≡ w
+      go : (b : Bool) → eqb (w .no) 0 ≡ b → verdictIn (cond b (record { no = 0; block = 0; did = doingOf (plan .count) (p .done) grant; next = record { done = p .done + doingOf (plan .count) (p .done) grant } }) (record { no = w .no; block = w .block; did = 0; next = p })) ≡ w
       go true e = h (eqb-true (w .no) 0 e)
       go false e = refl
 
@@ -321,10 +321,10 @@ module _ (s : Still) (plan : Plan) (p : Progress) where
       go true e = let z = eqb-true (w .no) 0 e in ap (λ (k : ℕ). about k 0) z ∙ names-none early z
       go false e = refl
 
-  whole-plane : (len : ℕ) → Tells (whole s len) (BadPlane s len)
+  whole-plane : (len : ℕ) → Tells (isWhole s len) (BadPlane s len)
   whole-plane len = same len (s .frame .height * s .frame .width)
 
-  tables : (t : Tables) → Tells (roomy t) (BadTables t)
+  tables : (t : Tables) → Tells (isRoomy t) (BadTables t)
   tables t = all-of (all-of (at-most 193 (t .refs)) (at-most 32 (t .indices))) (at-most 32 (t .fractions))
 
   pub walk : (t : Tables) (grant : ℕ) (source : List ℕ) (w : World)

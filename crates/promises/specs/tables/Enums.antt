@@ -17,7 +17,7 @@ use Rattle.fmt.specs.declared.FormatFrom.the-variants.{Format, Unknown}
 use Rattle.fmt.specs.declared.ChromaFormat.the-variants.{Monochrome, Yuv420, Yuv422, Yuv444}
 use Rattle.fmt.specs.depth.Depth.{bitsOf, maxVal, neutral, depthFrom, depthNumber, figureIn}
 use Rattle.fmt.specs.Fmt.{subWidth, subHeight}
-use Rattle.order.specs.Reach.{colour}
+use Rattle.order.specs.Reach.{hasChroma}
 use Rattle.refs.specs.Door.{formatIn}
 use Rattle.fmt.proofs.depth.BitDepth.from_bits.Reads as from-bits
 use Rattle.fmt.proofs.depth.BitDepth.bits.Reads as bits
@@ -53,7 +53,7 @@ abbrev pub format : ℕ → ℕ → ℕ → FormatSays
 format number across down = record { number = number; across = across; down = down }
 
 abbrev pub formatSays : FormatFrom → FormatSays
-formatSays f = format (cond (colour (formatIn f)) 0 4) (subWidth (formatIn f)) (subHeight (formatIn f))
+formatSays f = format (cond (hasChroma (formatIn f)) 0 4) (subWidth (formatIn f)) (subHeight (formatIn f))
 
 -- what every answer that meets a contract says, by rows over what the call was given; and a figure that another function gives
 abbrev Says : {A X S B : Type 0} → (A → X → S → Type 0) → (X → B) → B → (A → List (Row B)) → Type 0

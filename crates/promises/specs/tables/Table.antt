@@ -45,7 +45,7 @@ use Rattle.order.specs.declared.LumaBlock.{LumaBlock}
 use Rattle.order.specs.declared.ChromaBlock.{ChromaBlock}
 use Rattle.order.specs.declared.Reach.{Reach}
 use Rattle.order.specs.Order.{pictureOk, placeOk, orderNo, decodeOrder, isAvailable}
-use Rattle.order.specs.Reach.{inPlane, lumaPlaceOk, lumaReachNo, lumaReach, chromaHeight, chromaWidth, colour, chromaPlaceOk, chromaReachNo, chromaReach}
+use Rattle.order.specs.Reach.{inPlane, lumaPlaceOk, lumaReachNo, lumaReach, chromaHeight, chromaWidth, hasChroma, chromaPlaceOk, chromaReachNo, chromaReach}
 use Rattle.domain.specs.declared.rows.Rows.{Rows}
 use Rattle.refs.specs.declared.substitution.Flags.{Flags}
 use Rattle.refs.specs.declared.LumaRefGeometry.{LumaRefGeometry}
@@ -56,7 +56,7 @@ use Rattle.refs.specs.Served.{gatherNo}
 use Rattle.camera.specs.gather.Door.{lumaBytesNo, lumaBytesDoor}
 use Rattle.smooth.specs.Smoothing as smoothing
 use Rattle.smooth.specs.Smoothing.{shouldFilterRefs, filterNo, filterReferences}
-use Rattle.predict.specs.refusals.Refusals.{flatNo, Lent, lengths, enough, angularNo, predictNo}
+use Rattle.predict.specs.refusals.Refusals.{flatNo, Lengths, lengths, isEnough, angularNo, predictNo}
 use Rattle.predict.specs.Lent.{withScratch}
 use Rattle.samples.specs.deltas.Deltas.{residualOk}
 use Rattle.residual.specs.Residual.{allInRange, residualNo, reconstructNo}
@@ -86,7 +86,7 @@ BadChroma b Above =
     BadPlace (chromaHeight b) (chromaWidth b) (b .row .0) (b .col .0) (b .n) or Above or Outside (b .picture) (b .«cur_luma_row» .0) (b .«cur_luma_col» .0)
 
 -- number 5 of a predictor: the rows, the block buffer, and the scratch
-abbrev pub Short : ℕ → Lent → Type 0
+abbrev pub Short : ℕ → Lengths → Type 0
 Short n l = l .above < 65 or l .left < 65 or l .pred < n * n or l .refs < 193 or l .indices < 32 or l .fractions < 32
 
 -- number 8: one of the first k residuals outside its range
@@ -180,11 +180,11 @@ luma-reach b =
     exact-answer (λ (r : Reach). r .no) _ _ refl refl
     (exact-row (size (b .n)) refl (λ e. exact-row (picture (b .picture)) refl (λ e. exact-row (luma-place b) refl (λ e. exact-none))))
 
-coloured : (f : ChromaFormat) → Tells (colour f) (f ≡ Monochrome)
+coloured : (f : ChromaFormat) → Tells (hasChroma f) (f ≡ Monochrome)
 coloured Monochrome = record { passed = λ e. absurd (false≢true e); failed = λ e. refl }
-coloured Yuv420 = record { passed = λ e h. true≢false (ap colour h); failed = λ e. absurd (true≢false e) }
-coloured Yuv422 = record { passed = λ e h. true≢false (ap colour h); failed = λ e. absurd (true≢false e) }
-coloured Yuv444 = record { passed = λ e h. true≢false (ap colour h); failed = λ e. absurd (true≢false e) }
+coloured Yuv420 = record { passed = λ e h. true≢false (ap hasChroma h); failed = λ e. absurd (true≢false e) }
+coloured Yuv422 = record { passed = λ e h. true≢false (ap hasChroma h); failed = λ e. absurd (true≢false e) }
+coloured Yuv444 = record { passed = λ e h. true≢false (ap hasChroma h); failed = λ e. absurd (true≢false e) }
 
 pub chroma-reach : (b : ChromaBlock)
     → Exact (chromaReach b .no)
@@ -300,25 +300,25 @@ module _ (bits n mode : ℕ) where
   abbrev pub predictTable : Type 0 → List (Row ℕ)
   predictTable P = (1 when ¬ Depth bits) ∷ (2 when ¬ Size n) ∷ (3 when 34 < mode) ∷ (5 when P) ∷ []
 
-  angular-number : {P : Type 0} (l : Lent) → Tells (enough n l) P → Exact (angularNo bits n mode l) (angularTable P)
+  angular-number : {P : Type 0} (l : Lengths) → Tells (isEnough n l) P → Exact (angularNo bits n mode l) (angularTable P)
   angular-number l t =
       exact-row (depth bits) refl
       (λ e. exact-row (size n) refl (λ e. exact-row (all-of (at-most 2 mode) (at-most mode 34)) refl (λ e. exact-row t refl (λ e. exact-none))))
 
-  predict-number : {P : Type 0} (l : Lent) → Tells (enough n l) P → Exact (predictNo bits n mode l) (predictTable P)
+  predict-number : {P : Type 0} (l : Lengths) → Tells (isEnough n l) P → Exact (predictNo bits n mode l) (predictTable P)
   predict-number l t = exact-row (depth bits) refl (λ e. exact-row (size n) refl (λ e. exact-row (at-most mode 34) refl (λ e. exact-row t refl (λ e. exact-none))))
 
   rows-short : (above left pred : ℕ) → Tells (leb 65 above && leb 65 left && leb (n * n) pred) (above < 65 or left < 65 or pred < n * n)
   rows-short above left pred = all-of (all-of (at-most 65 above) (at-most 65 left)) (at-most (n * n) pred)
 
-  short : (l : Lent) → Tells (enough n l) (Short n l)
+  short : (l : Lengths) → Tells (isEnough n l) (Short n l)
   short l = scratch (rows-short (l .above) (l .left) (l .pred)) (l .refs) (l .indices) (l .fractions)
 
   -- the tables as lent slices; the rows of a luma block come by value, 65 entries each
-  pub predict-angular : (l : Lent) → Exact (angularNo bits n mode l) (angularTable (Short n l))
+  pub predict-angular : (l : Lengths) → Exact (angularNo bits n mode l) (angularTable (Short n l))
   predict-angular l = angular-number l (short l)
 
-  pub predict-chroma : (l : Lent) → Exact (predictNo bits n mode l) (predictTable (Short n l))
+  pub predict-chroma : (l : Lengths) → Exact (predictNo bits n mode l) (predictTable (Short n l))
   predict-chroma l = predict-number l (short l)
 
   pub predict-luma : (pred refs indices fractions : ℕ)

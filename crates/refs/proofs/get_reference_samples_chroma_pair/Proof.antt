@@ -33,9 +33,9 @@ returns c =
     let t = chroma-number (eqb (length cb) (chromaLength (a .geo)) && eqb (length cr) (chromaLength (a .geo))) (a .geo) e (ap (λ (q : Layout). eqb (length cb) (q .length) && eqb (length cr) (q .length)) e) (c .before .before .gather-no .ensures) in
     refused gatheredPair (chromaNo (length cb) (length cr) (a .geo)) (chromaPair cb cr (a .geo)) (levelRows 0 ∷ levelRows 0 ∷ []) t (c .before .if1 .taken) (ap (λ (v : Rows). v ∷ v ∷ []) (c .level-rows .ensures))
 
-chroma-rows-requires : tie.Need-chroma-rows-requires
+chroma-pair-requires : tie.Need-chroma-pair-requires
 unfolding chromaNo
-chroma-rows-requires c κs =
+chroma-pair-requires c κs =
     let a = c .before .before .before .before .before .before .before .args in
     let e = c .before .before .before .before .chroma-layout .ensures in
     let cb = a .plane-cb .now in
@@ -51,7 +51,7 @@ returns-2 c =
     let cb = a .plane-cb .now in
     let cr = a .plane-cr .now in
     let t = chroma-number (eqb (length cb) (chromaLength (a .geo)) && eqb (length cr) (chromaLength (a .geo))) (a .geo) e (ap (λ (q : Layout). eqb (length cb) (q .length) && eqb (length cr) (q .length)) e) (c .before .before .gather-no .ensures) in
-    done gatheredPair (chromaNo (length cb) (length cr) (a .geo)) (chromaPair cb cr (a .geo)) (levelRows 0 ∷ levelRows 0 ∷ []) (sym t ∙ c .before .if1 .left) (c .chroma-rows .ensures)
+    done gatheredPair (chromaNo (length cb) (length cr) (a .geo)) (chromaPair cb cr (a .geo)) (levelRows 0 ∷ levelRows 0 ∷ []) (sym t ∙ c .before .if1 .left) (c .chroma-pair .ensures)
 
 pub get-reference-samples-chroma-pair-spec : {M : Type 1} → statement M
 get-reference-samples-chroma-pair-spec =
@@ -61,5 +61,5 @@ get-reference-samples-chroma-pair-spec =
     gather-no-requires
     level-rows-requires
     returns
-    chroma-rows-requires
+    chroma-pair-requires
     returns-2)

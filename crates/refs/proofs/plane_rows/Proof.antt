@@ -27,8 +27,8 @@ edge-requires-2 c κs = search needs
 corner-seen-requires : tie.Need-corner-seen-requires
 corner-seen-requires c κs = search needs
 
-finish-requires : tie.Need-finish-requires
-finish-requires c κs = search needs
+pad-rows-requires : tie.Need-pad-rows-requires
+pad-rows-requires c κs = search needs
 
 with-corner-requires : tie.Need-with-corner-requires
 with-corner-requires c κs = search needs
@@ -38,7 +38,7 @@ returns-2 c =
     let s = c .before .before .before .before .before .before .before .before .before .before .before .before .before in
     let a = s .args in
     finish-some (a .plane .now) (a .s) (a .r) (a .n) (a .neutral) (not-false _ (c .before .before .before .before .before .before .before .before .if1 .left)) (s .pre .few)
-    (λ i. record { corner = c .before .before .before .corner-seen .ensures i; above = c .before .before .before .before .before .before .edge .ensures i; left = c .before .before .before .before .edge2 .ensures i }) (c .before .finish .ensures) (c .with-corner .ensures)
+    (λ i. record { corner = c .before .before .before .corner-seen .ensures i; above = c .before .before .before .before .before .before .edge .ensures i; left = c .before .before .before .before .edge2 .ensures i }) (c .before .pad-rows .ensures) (c .with-corner .ensures)
 
 pub plane-rows-spec : {M : Type 1} → statement M
 plane-rows-spec =
@@ -51,6 +51,6 @@ plane-rows-spec =
     index-1-edge-2
     edge-requires-2
     corner-seen-requires
-    finish-requires
+    pad-rows-requires
     with-corner-requires
     returns-2)

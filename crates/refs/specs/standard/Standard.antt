@@ -191,14 +191,14 @@ module _ {p : Picture} (good : Good p) (limit : ℕ) where
   has-back (negsuc r) col col′ h e = e
 
 -- a luma block that no gather refuses: it is in its picture, at a multiple of the unit, so that no neighbour shares its cell
-pub record Placed (p : Picture) (row : LumaRow) (col : LumaCol) (n : ℕ) : Type 0 where
+pub record GatherPlaced (p : Picture) (row : LumaRow) (col : LumaCol) (n : ℕ) : Type 0 where
   pub good : Good p
   pub size : (4 ≤ n) × (n ≤ 32)
   pub row-at : row .0 % p .unit ≡ 0
   pub col-at : col .0 % p .unit ≡ 0
   pub inside : col .0 < p .width
 
-module _ {p : Picture} {row : LumaRow} {col : LumaCol} {n : ℕ} (placed : Placed p row col n) where
+module _ {p : Picture} {row : LumaRow} {col : LumaCol} {n : ℕ} (placed : GatherPlaced p row col n) where
   -- 6.4.1 is 01's availability above the block and left of it
   available-is : (r c : ℤ) → ((nr nc : ℕ) → r ≡ pos nr → c ≡ pos nc → (nr < row .0) ⊎ (nc < col .0)) → available (gridOf p) (col .0) (row .0) c r ≡ availableTo p row col r c
   unfolding available before
@@ -303,7 +303,7 @@ aligned unit n v u s l e = ⊎-elim (at 4 four) (at 8 eight) u
     at k f q = subst (λ (m : ℕ). v % m ≡ 0) (sym q) (f (omega arith) e)
 
 -- what the gather's number 0 says
-placed-of : (len : ℕ) (g : LumaRefGeometry) → lumaNo len g ≡ 0 → Placed (g .picture) (g .«block_row») (g .«block_col») (g .n)
+placed-of : (len : ℕ) (g : LumaRefGeometry) → lumaNo len g ≡ 0 → GatherPlaced (g .picture) (g .«block_row») (g .«block_col») (g .n)
 unfolding lumaNo
 placed-of len g e =
     let p = g .picture in

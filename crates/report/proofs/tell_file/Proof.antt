@@ -51,8 +51,8 @@ blank-residuals-requires c κs = search needs
 blank-plane-requires-2 : tie.Need-blank-plane-requires-2
 blank-plane-requires-2 c κs = search needs
 
-still-of-requires : tie.Need-still-of-requires
-still-of-requires c κs = search needs
+still-in-requires : tie.Need-still-in-requires
+still-in-requires c κs = search needs
 
 array-share-prefix-rows : tie.Need-array-share-prefix-rows
 array-share-prefix-rows c = omega (arith, c .before .before .before .before .before .before .before .before .before .before .before .before .before .before .before .pre .0 .blocks-few)
@@ -104,14 +104,14 @@ slice-aggregate-tell-8 c = zeros-long _ 8192 0 (c .before .before .before .befor
 
 tell-requires : tie.Need-tell-requires
 tell-requires c κs =
-    blank-part _ _ _ _ _ _ _ _ (c .before .before .before .before .before .before .before .before .before .before .before .before .before .before .before .before .before .before .before .before .before .before .before .pre .0) (c .before .before .before .before .before .before .before .before .still-of .ensures) (c .before .before .before .before .before .before .before .before .before .before .before .before .before .before .before .before .before .before .before .before .area-of .ensures .0) (sym (fill-long _ _ 512 0 (c .before .before .before .before .before .before .before .before .before .before .before .before .before .before .before .before .read-twos .ensures) (c .before .before .before .before .before .before .before .before .before .before .before .before .before .before .before .before .before .before .before .before .before .before .before .pre .0 .blocks-few))) (c .before .before .before .before .before .before .before .before .before .before .before .before .before .before .before .before .before .before .before .before .before .before .before .pre .1) (c .before .before .before .before .before .before .before .before .before .before .before .before .blank-plane .ensures) (c .before .before .before .before .before .before .before .before .before .before .before .blank-residuals .ensures) (c .before .before .before .before .before .before .before .before .before .before .blank-plane2 .ensures)
+    blank-part _ _ _ _ _ _ _ _ (c .before .before .before .before .before .before .before .before .before .before .before .before .before .before .before .before .before .before .before .before .before .before .before .pre .0) (c .before .before .before .before .before .before .before .before .still-in .ensures) (c .before .before .before .before .before .before .before .before .before .before .before .before .before .before .before .before .before .before .before .before .area-of .ensures .0) (sym (fill-long _ _ 512 0 (c .before .before .before .before .before .before .before .before .before .before .before .before .before .before .before .before .read-twos .ensures) (c .before .before .before .before .before .before .before .before .before .before .before .before .before .before .before .before .before .before .before .before .before .before .before .pre .0 .blocks-few))) (c .before .before .before .before .before .before .before .before .before .before .before .before .before .before .before .before .before .before .before .before .before .before .before .pre .1) (c .before .before .before .before .before .before .before .before .before .before .before .before .blank-plane .ensures) (c .before .before .before .before .before .before .before .before .before .before .before .blank-residuals .ensures) (c .before .before .before .before .before .before .before .before .before .before .blank-plane2 .ensures)
 
 same-length : tie.Need-same-length
 same-length c = search needs
 
 returns : tie.Need-returns
 returns c =
-    said _ 65536 (c .before .before .before .before .before .tell .ensures) (ap told (job-is _ (c .before .before .before .before .before .before .before .before .before .before .before .before .before .before .before .before .before .before .before .before .before .before .before .before .before .before .before .before .before .args .t) _ _ _ _ _ _ _ (c .before .before .before .before .before .before .before .before .before .before .before .before .before .before .before .before .before .before .before .before .before .before .before .before .before .before .before .before .before .pre .0) (c .before .before .before .before .before .before .before .before .before .before .before .before .before .before .still-of .ensures) (c .before .before .before .before .before .before .before .before .before .before .before .before .before .before .before .before .before .before .before .before .before .before .before .before .before .before .area-of .ensures .0) (c .before .before .before .before .before .before .before .before .before .before .before .before .before .before .before .before .before .before .before .before .before .before .read-twos .ensures) (c .before .before .before .before .before .before .before .before .before .before .before .before .before .before .before .before .before .before .before .before .before .read-twos2 .ensures) (c .before .before .before .before .before .before .before .before .before .before .before .before .before .before .before .before .before .before .before .before .read-ones .ensures) (c .before .before .before .before .before .before .before .before .before .before .before .before .before .before .before .before .before .before .before .read-ones2 .ensures) (c .before .before .before .before .before .before .before .before .before .before .before .before .before .before .before .before .before .before .before .before .before .before .before .before .read-samples .ensures))) (omega arith)
+    said _ 65536 (c .before .before .before .before .before .tell .ensures) (ap told (job-is _ (c .before .before .before .before .before .before .before .before .before .before .before .before .before .before .before .before .before .before .before .before .before .before .before .before .before .before .before .before .before .args .t) _ _ _ _ _ _ _ (c .before .before .before .before .before .before .before .before .before .before .before .before .before .before .before .before .before .before .before .before .before .before .before .before .before .before .before .before .before .pre .0) (c .before .before .before .before .before .before .before .before .before .before .before .before .before .before .still-in .ensures) (c .before .before .before .before .before .before .before .before .before .before .before .before .before .before .before .before .before .before .before .before .before .before .before .before .before .before .area-of .ensures .0) (c .before .before .before .before .before .before .before .before .before .before .before .before .before .before .before .before .before .before .before .before .before .before .read-twos .ensures) (c .before .before .before .before .before .before .before .before .before .before .before .before .before .before .before .before .before .before .before .before .before .read-twos2 .ensures) (c .before .before .before .before .before .before .before .before .before .before .before .before .before .before .before .before .before .before .before .before .read-ones .ensures) (c .before .before .before .before .before .before .before .before .before .before .before .before .before .before .before .before .before .before .before .read-ones2 .ensures) (c .before .before .before .before .before .before .before .before .before .before .before .before .before .before .before .before .before .before .before .before .before .before .before .before .read-samples .ensures))) (omega arith)
 
 pub tell-file-spec : {M : Type 1} → statement M
 tell-file-spec =
@@ -131,7 +131,7 @@ tell-file-spec =
     blank-plane-requires
     blank-residuals-requires
     blank-plane-requires-2
-    still-of-requires
+    still-in-requires
     array-share-prefix-rows
     slice-aggregate-tell
     array-share-prefix-cols

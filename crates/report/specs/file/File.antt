@@ -24,12 +24,12 @@ trailerOf b =
     }
 
 -- how many samples the picture has
-abbrev pub area : Trailer → ℕ
-area t = t .height * t .width
+abbrev pub areaOf : Trailer → ℕ
+areaOf t = t .height * t .width
 
 -- counts within their limits, and two regions that do not pass the trailer's start
 abbrev pub regionsOk : Trailer → ℕ → Bool
-regionsOk t start = leb (area t) 8192 && leb (t .blocks) 512 && leb (t .samples + 2 * area t) start && leb (t .plan + 6 * t .blocks) start
+regionsOk t start = leb (areaOf t) 8192 && leb (t .blocks) 512 && leb (t .samples + 2 * areaOf t) start && leb (t .plan + 6 * t .blocks) start
 
 -- number 12 is given for every other input
 unfoldable pub fileOk : List ℕ → Bool
@@ -41,7 +41,7 @@ tabulated f k z = fill f k (replicate k z)
 
 -- samples of two bytes
 abbrev pub sourceOf : List ℕ → Trailer → List ℕ
-sourceOf b t = tabulated (λ i. leAt 2 b (t .samples + 2 * i)) (area t) 0
+sourceOf b t = tabulated (λ i. leAt 2 b (t .samples + 2 * i)) (areaOf t) 0
 
 -- a field of each of n block records of six bytes: of two bytes, or of one
 abbrev pub twosAt : List ℕ → ℕ → ℕ → List ℕ

@@ -13,7 +13,7 @@ use borrow.Author.Tests.{lt-ltb, ltb-true, ltb-false, le-leb}
 use Rattle.io.specs.Digits.{digits, glyph, Fewest}
 use Rattle.laws.specs.Choose.{if-yes, if-no}
 use Rattle.plan.specs.declared.tiling.Block.{Block}
-use Rattle.report.specs.text.Text.{spell, number, line, refusal, ending, laid, laidIn, endIn}
+use Rattle.report.specs.text.Text.{spell, number, blockLine, refusal, ending, laid, laidIn, endIn}
 
 -- a text s lies over d from `at` on, which makes e of it; it ends at `upto` and has at most `room` bytes
 pub record Laid (at : ℕ) (s d e : List ℕ) (upto room : ℕ) : Type 0 where
@@ -130,7 +130,7 @@ number-room n after = omega (arith, length-append (spell 19 n) (after ∷ []), s
 joined : (m n : ℕ) (s t : List ℕ) → length s ≤ m → length t ≤ n → length (s ++ t) ≤ m + n
 joined m n s t h k = omega (arith, length-append s t)
 
-pub line-room : (b : Block) (sum : ℕ) → length (line b sum) ≤ 105
+pub line-room : (b : Block) (sum : ℕ) → length (blockLine b sum) ≤ 105
 line-room b sum =
     let row = number (b .row) 32 in
     let col = number (b .col) 32 in

@@ -16,8 +16,8 @@ abbrev pub number : ℕ → ℕ → List ℕ
 number n after = spell 19 n ++ after ∷ []
 
 -- a line for a block: row, column, side, mode, sum
-abbrev pub line : Block → ℕ → List ℕ
-line b sum = number (b .row) 32 ++ number (b .col) 32 ++ number (b .side) 32 ++ number (b .mode) 32 ++ number sum 10
+abbrev pub blockLine : Block → ℕ → List ℕ
+blockLine b sum = number (b .row) 32 ++ number (b .col) 32 ++ number (b .side) 32 ++ number (b .mode) 32 ++ number sum 10
 
 -- `refused N B`
 abbrev pub refusal : ℕ → ℕ → List ℕ

@@ -7,12 +7,12 @@ use lib.IntN.{pos}
 use Rattle.laws.specs.Signed.{held}
 use Rattle.laws.specs.Fill.{fill}
 use Rattle.laws.specs.FillLaws.{fill-none, fill-more, fill-done}
-use Rattle.residual.specs.Residual.{residualAt}
+use Rattle.residual.specs.Residual.{differenceAt}
 use Rattle.residual.proofs.residual_run.Statement.{statement}
 use Rattle.residual.proofs.residual_run.Tie as tie
 
 abbrev Inv-loop : tie.InvT-loop
-Inv-loop orig pred at to₀ j₀ to j = (j ≤ 16) × ((length to ≡ 16) × (to ≡ fill (λ (i : ℕ). residualAt orig pred (at + i)) j (replicate 16 (pos 0))))
+Inv-loop orig pred at to₀ j₀ to j = (j ≤ 16) × ((length to ≡ 16) × (to ≡ fill (λ (i : ℕ). differenceAt orig pred (at + i)) j (replicate 16 (pos 0))))
 
 abbrev μ-loop : tie.MeasureT-loop
 μ-loop orig pred at to₀ j₀ to j = 16 - j

@@ -7,13 +7,13 @@ use lib.ListN.{length}
 use lib.IntN.{pos}
 use Rattle.laws.specs.Fill.{fill}
 use Rattle.laws.specs.FillLaws.{fill-none, fill-done}
-use Rattle.residual.specs.Residual.{residualAt}
+use Rattle.residual.specs.Residual.{differenceAt}
 use Rattle.residual.specs.Laws.{by-run}
 use Rattle.residual.proofs.residuals.Statement.{statement}
 use Rattle.residual.proofs.residuals.Tie as tie
 
 abbrev Inv-loop : tie.InvT-loop
-Inv-loop orig pred runs residual₀ r₀ residual r = (r ≤ runs) × ((length residual ≡ length residual₀) × (residual ≡ fill (residualAt orig pred) (r * 16) residual₀))
+Inv-loop orig pred runs residual₀ r₀ residual r = (r ≤ runs) × ((length residual ≡ length residual₀) × (residual ≡ fill (differenceAt orig pred) (r * 16) residual₀))
 
 abbrev μ-loop : tie.MeasureT-loop
 μ-loop orig pred runs residual₀ r₀ residual r = runs - r
@@ -42,7 +42,7 @@ loop-less c = search needs
 loop-again : tie.Need-loop-again Inv-loop μ-loop
 loop-again c =
     let s = c .before .before .before .before .before .before .before .before .args in
-    (search needs, (search needs, by-run (residualAt (s .orig .now) (s .pred .now)) (pos 0) _ (c .before .before .before .before .before .loop .r) (c .before .before .before .residual-run .ensures) (c .before .before .before .before .before .loop .inv .1 .1) (c .before .store-residuals .ensures)))
+    (search needs, (search needs, by-run (differenceAt (s .orig .now) (s .pred .now)) (pos 0) _ (c .before .before .before .before .before .loop .r) (c .before .before .before .residual-run .ensures) (c .before .before .before .before .before .loop .inv .1 .1) (c .before .store-residuals .ensures)))
 
 same-length : tie.Need-same-length Inv-loop μ-loop
 same-length c = search needs

@@ -8,23 +8,23 @@ use Rattle.smooth.specs.Steps.{luma-ready}
 use Rattle.smooth.proofs.filter_luma_refs.Statement.{statement}
 use Rattle.smooth.proofs.filter_luma_refs.Tie as tie
 
-luma-no-requires : tie.Need-luma-no-requires
-luma-no-requires c κs = search needs
+filter-luma-no-requires : tie.Need-filter-luma-no-requires
+filter-luma-no-requires c κs = search needs
 
 smooth-rows-requires : tie.Need-smooth-rows-requires
-smooth-rows-requires c κs = let a = c .before .before .before .before .args in luma-ready (a .bits) (a .n) (length (a .above .now)) (length (a .left .now)) (sym (c .before .luma-no .ensures) ∙ c .if1 .taken)
+smooth-rows-requires c κs = let a = c .before .before .before .before .args in luma-ready (a .bits) (a .n) (length (a .above .now)) (length (a .left .now)) (sym (c .before .filter-luma-no .ensures) ∙ c .if1 .taken)
 
 returns : tie.Need-returns
 unfolding filterLumaRefs
-returns c = rw (sym (c .before .before .luma-no .ensures) ∙ c .before .if1 .taken, c .smooth-rows .ensures)
+returns c = rw (sym (c .before .before .filter-luma-no .ensures) ∙ c .before .if1 .taken, c .smooth-rows .ensures)
 
 level-rows-requires : tie.Need-level-rows-requires
 level-rows-requires c κs = search needs
 
 returns-2 : tie.Need-returns-2
 unfolding filterLumaRefs
-returns-2 c = rw (← c .before .before .luma-no .ensures, ne-eqb (c .before .before .luma-no .result) 0 (c .before .if1 .left), c .level-rows .ensures)
+returns-2 c = rw (← c .before .before .filter-luma-no .ensures, ne-eqb (c .before .before .filter-luma-no .result) 0 (c .before .if1 .left), c .level-rows .ensures)
 
 pub filter-luma-refs-spec : {M : Type 1} → statement M
 filter-luma-refs-spec =
-    tie.close (tie.spec luma-no-requires smooth-rows-requires returns level-rows-requires returns-2)
+    tie.close (tie.spec filter-luma-no-requires smooth-rows-requires returns level-rows-requires returns-2)

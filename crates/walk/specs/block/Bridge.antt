@@ -23,8 +23,8 @@ use Rattle.walk.specs.declared.checks.Still.{Still}
 use Rattle.walk.specs.block.Predicted.{predictedAt}
 
 -- a block as the gather sees it
-abbrev pub geoOf : Still → Block → LumaRefGeometry
-geoOf s b =
+abbrev pub geometryOf : Still → Block → LumaRefGeometry
+geometryOf s b =
     record {
       bits = s .bits;
       picture = pictureOf (s .frame);
@@ -35,7 +35,7 @@ geoOf s b =
 
 module _ (s : Still) (b : Block) (good : Good (pictureOf (s .frame))) (placed : Placed (s .frame) b) (depth : Depth (s .bits)) where
   -- the gather refuses no placed block
-  pub geo-fine : (plane : List ℕ) → length plane ≡ s .frame .height * s .frame .width → lumaNo (length plane) (geoOf s b) ≡ 0
+  pub geo-fine : (plane : List ℕ) → length plane ≡ s .frame .height * s .frame .width → lumaNo (length plane) (geometryOf s b) ≡ 0
   unfolding lumaNo
   geo-fine plane long =
       simp (
@@ -53,7 +53,7 @@ module _ (s : Still) (b : Block) (good : Good (pictureOf (s .frame))) (placed : 
 
   -- the prediction from the gathered rows
   pub bridge : (plane : List ℕ) → length plane ≡ s .frame .height * s .frame .width → b .mode ≤ 34 → (r c : ℕ) → r < b .side → c < b .side
-      → predictedAt s b plane r c ≡ predSamples (lumaAt (s .bits)) firstEditionStrong (b .side) (b .mode) (neighboursOf (lumaRows plane (geoOf s b))) c r
+      → predictedAt s b plane r c ≡ predSamples (lumaAt (s .bits)) firstEditionStrong (b .side) (b .mode) (neighboursOf (lumaRows plane (geometryOf s b))) c r
   unfolding predictedAt predicted
   bridge plane long mode r c hr hc =
-      sym (pred-alone (lumaAt (s .bits)) firstEditionStrong (b .side) (b .mode) c r _ _ (placed .size) mode hc hr (luma-standard plane (geoOf s b) (geo-fine plane long)))
+      sym (pred-alone (lumaAt (s .bits)) firstEditionStrong (b .side) (b .mode) c r _ _ (placed .size) mode hc hr (luma-standard plane (geometryOf s b) (geo-fine plane long)))

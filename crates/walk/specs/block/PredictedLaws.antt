@@ -24,7 +24,7 @@ use Rattle.plan.specs.declared.tiling.Block.{Block}
 use Rattle.walk.specs.declared.checks.Still.{Still}
 use Rattle.walk.specs.checks.Checks.{Tables}
 use Rattle.walk.specs.block.Predicted.{predictedAt}
-use Rattle.walk.specs.block.Bridge.{geoOf, geo-fine, bridge}
+use Rattle.walk.specs.block.Bridge.{geometryOf, geo-fine, bridge}
 use Rattle.walk.specs.block.Ready.{Ready}
 
 -- a block's side
@@ -37,7 +37,7 @@ module _ (b : Block) (h : Size (b .side)) where
 
 -- a block that is ready is gathered for and predicted: both numbers are 0
 module _ (s : Still) (b : Block) (plane : List ℕ) (t : Tables) (h : Ready s b (length plane) t) where
-  gathered : {g : Gathered} → g ≡ getReferenceSamples plane (geoOf s b) → g .rows ≡ lumaRows plane (geoOf s b)
+  gathered : {g : Gathered} → g ≡ getReferenceSamples plane (geometryOf s b) → g .rows ≡ lumaRows plane (geometryOf s b)
   unfolding getReferenceSamples
   gathered e = ap (λ (x : Gathered). x .rows) e ∙ sym (worked _ _ _ (geo-fine s b (h .picture) (h .placed) (h .depth) plane (h .plane-len)))
 
@@ -57,7 +57,7 @@ module _ (s : Still) (b : Block) (plane : List ℕ) (t : Tables) (h : Ready s b 
       )
 
   -- what the prediction from the gathered rows leaves is H.265's
-  pub predicted-is : (g : Gathered) (d out : List ℕ) (k : ℕ) → b .side * b .side ≤ length d → g ≡ getReferenceSamples plane (geoOf s b)
+  pub predicted-is : (g : Gathered) (d out : List ℕ) (k : ℕ) → b .side * b .side ≤ length d → g ≡ getReferenceSamples plane (geometryOf s b)
       → k ≡ predictNo (s .bits) (b .side) (b .mode) (record { above = 65; left = 65; pred = length d; refs = t .refs; indices = t .indices; fractions = t .fractions })
       → out ≡ served k (block (λ (y x : ℕ). predSamples (lumaAt (s .bits)) firstEditionStrong (b .side) (b .mode) (neighboursOf (g .rows)) x y) (b .side) d) d
       → out ≡ block (predictedAt s b plane) (b .side) d

@@ -9,7 +9,7 @@ use Rattle.order.specs.Good.{Good}
 use Rattle.plan.specs.declared.tiling.Block.{Block}
 use Rattle.plan.specs.tiling.Tiling.{pictureOf, Placed}
 use Rattle.walk.specs.declared.checks.Still.{Still}
-use Rattle.walk.specs.checks.Checks.{Tables, roomy}
+use Rattle.walk.specs.checks.Checks.{Tables, isRoomy}
 use Rattle.walk.specs.block.Predicted.{predictedAt}
 
 -- a block that can be predicted
@@ -19,7 +19,7 @@ pub record Ready (s : Still) (b : Block) (plane : ℕ) (t : Tables) : Type 0 whe
   pub placed : Placed (s .frame) b
   pub mode : b .mode ≤ 34
   pub plane-len : plane ≡ s .frame .height * s .frame .width
-  pub tables : roomy t ≡ true
+  pub tables : isRoomy t ≡ true
 
 -- a block whose residuals lie among so many
 pub record Lies (b : Block) (residuals at : ℕ) : Type 0 where

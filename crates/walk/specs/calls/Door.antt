@@ -11,7 +11,7 @@ use Rattle.plan.specs.tiling.Plan.{Plan}
 use Rattle.plan.specs.tiling.PlanCheck.{blocksVerdict}
 use Rattle.walk.specs.declared.checks.Still.{Still}
 use Rattle.walk.specs.checks.Checks.{Tables, replayNo, walkNo, settle}
-use Rattle.walk.specs.calls.Steps.{doing}
+use Rattle.walk.specs.calls.Steps.{doingOf}
 use Rattle.walk.specs.block.Rebuilt.{replayUnit}
 use Rattle.walk.specs.block.Walked.{World, walkUnit}
 
@@ -26,7 +26,7 @@ replayVerdict s plan t done plane residuals = verdictOf s plan done (replayNo s 
 -- the plane after a call of replay
 unfoldable pub replayAfter : Still → Plan → Tables → ℕ → ℕ → List ℤ → List ℕ → List ℕ
 replayAfter s plan t done grant residuals plane =
-    served (replayVerdict s plan t done (length plane) residuals .no) (units (replayUnit s (plan .block) residuals) done (doing (plan .count) done grant) plane) plane
+    served (replayVerdict s plan t done (length plane) residuals .no) (units (replayUnit s (plan .block) residuals) done (doingOf (plan .count) done grant) plane) plane
 
 -- Walk: 1, 4, 5, then 7 over every source sample.
 unfoldable pub walkVerdict : Still → Plan → Tables → ℕ → List ℕ → World → Verdict
@@ -35,4 +35,4 @@ walkVerdict s plan t done source w = verdictOf s plan done (walkNo s (plan .whol
 -- the work plane and the residuals after a call of walk
 unfoldable pub walkAfter : Still → Plan → Tables → ℕ → ℕ → List ℕ → World → World
 walkAfter s plan t done grant source w =
-    served (walkVerdict s plan t done source w .no) (units (walkUnit s (plan .block) source) done (doing (plan .count) done grant) w) w
+    served (walkVerdict s plan t done source w .no) (units (walkUnit s (plan .block) source) done (doingOf (plan .count) done grant) w) w

@@ -26,10 +26,10 @@ use Rattle.plan.specs.tiling.PlanCheck.{blocksVerdict, planVerdict, blocks-alon
 use Rattle.plan.specs.tiling.Verdict.{Accepted, verdict-good}
 use Rattle.samples.specs.deltas.Deltas.{residualOk}
 use Rattle.walk.specs.declared.checks.Still.{Still}
-use Rattle.walk.specs.checks.Checks.{largestIn, every, whole, Tables, roomy, replayFits, replayNo, walkFits, walkNo, settle}
+use Rattle.walk.specs.checks.Checks.{largestIn, every, isWhole, Tables, isRoomy, replayFits, replayNo, walkFits, walkNo, settle}
 use Rattle.walk.specs.checks.Laws.{good-call, settle-zero}
 use Rattle.walk.specs.declared.calls.Step.{Step}
-use Rattle.walk.specs.calls.Steps.{doing, stepBy, refused-step, granted-step}
+use Rattle.walk.specs.calls.Steps.{doingOf, stepOf, refused-step, granted-step}
 use Rattle.walk.specs.block.Ready.{Ready, Lies}
 use Rattle.walk.specs.block.Rebuilt.{replayUnit}
 use Rattle.walk.specs.calls.Places.{place-in, count-up}
@@ -108,9 +108,9 @@ module _ (s : Still) (plan : Plan) (t : Tables) (done : ℕ) where
       let a = passed (depthOk (s .bits)) _ 1 (omega arith) (z .0) in
       let b = passed (pictureOk (pictureOf (s .frame))) _ 4 (omega arith) (a .1) in
       let c = passed (replayFits s (plan .whole) t plane (length v)) _ 5 (omega arith) (b .1) in
-      let x = both-true (plan .whole && whole s plane && whole s (length v)) (roomy t) (c .0) in
-      let y = both-true (plan .whole && whole s plane) (whole s (length v)) (x .0) in
-      let u = both-true (plan .whole) (whole s plane) (y .0) in (
+      let x = both-true (plan .whole && isWhole s plane && isWhole s (length v)) (isRoomy t) (c .0) in
+      let y = both-true (plan .whole && isWhole s plane) (isWhole s (length v)) (x .0) in
+      let u = both-true (plan .whole) (isWhole s plane) (y .0) in (
         record {
           depth = depth-of (s .bits) (a .0);
           accepted = blocks-accepted s plan (b .0) (u .0) (z .1 .0);
@@ -129,10 +129,10 @@ module _ (s : Still) (plan : Plan) (t : Tables) (done : ℕ) where
       let a = passed (depthOk (s .bits)) _ 1 (omega arith) (z .0) in
       let b = passed (pictureOk (pictureOf (s .frame))) _ 4 (omega arith) (a .1) in
       let c = passed (walkFits s (plan .whole) t (length source) (length (w .work)) (length (w .residuals))) _ 5 (omega arith) (b .1) in
-      let x = both-true (plan .whole && whole s (length source) && whole s (length (w .work)) && whole s (length (w .residuals))) (roomy t) (c .0) in
-      let y = both-true (plan .whole && whole s (length source) && whole s (length (w .work))) (whole s (length (w .residuals))) (x .0) in
-      let u = both-true (plan .whole && whole s (length source)) (whole s (length (w .work))) (y .0) in
-      let p = both-true (plan .whole) (whole s (length source)) (u .0) in (
+      let x = both-true (plan .whole && isWhole s (length source) && isWhole s (length (w .work)) && isWhole s (length (w .residuals))) (isRoomy t) (c .0) in
+      let y = both-true (plan .whole && isWhole s (length source) && isWhole s (length (w .work))) (isWhole s (length (w .residuals))) (x .0) in
+      let u = both-true (plan .whole && isWhole s (length source)) (isWhole s (length (w .work))) (y .0) in
+      let p = both-true (plan .whole) (isWhole s (length source)) (u .0) in (
         record {
           depth = depth-of (s .bits) (a .0);
           accepted = blocks-accepted s plan (b .0) (p .0) (z .1 .0);
@@ -154,26 +154,26 @@ module _ (s : Still) (plan : Plan) (t : Tables) (done grant : ℕ) where
   walk-refused source w h = sym (unserved _ _ w h)
 
 -- how far a call goes: one that has a block to do is served
-module _ (v : Verdict) (count done grant upto : ℕ) (is : upto ≡ stepBy v count done grant .upto) where
-  served-upto : v .no ≡ 0 → upto ≡ done + doing count done grant
-  served-upto z = is ∙ sym (ap (λ (x : Step). x .upto) (granted-step v count done grant z {did = doing count done grant} refl))
+module _ (v : Verdict) (count done grant upto : ℕ) (is : upto ≡ stepOf v count done grant .upto) where
+  served-upto : v .no ≡ 0 → upto ≡ done + doingOf count done grant
+  served-upto z = is ∙ sym (ap (λ (x : Step). x .upto) (granted-step v count done grant z {did = doingOf count done grant} refl))
 
   pub refused-upto : (v .no ≡ 0 → ⊥) → upto ≡ 0
   refused-upto d = is ∙ sym (ap (λ (x : Step). x .upto) (refused-step v count done grant d))
 
-  upto-asks : 0 < upto → (v .no ≡ 0) × (upto ≡ done + doing count done grant)
+  upto-asks : 0 < upto → (v .no ≡ 0) × (upto ≡ done + doingOf count done grant)
   upto-asks l = go (ℕ-discrete (v .no) 0)
     where
-      go : Dec (v .no ≡ 0) → (v .no ≡ 0) × (upto ≡ done + doing count done grant)
+      go : Dec (v .no ≡ 0) → (v .no ≡ 0) × (upto ≡ done + doingOf count done grant)
       go (yes z) = (z, served-upto z)
       go (no d) = absurd (omega (arith, l, refused-upto d))
 
-  upto-leaves : {W : Type 0} (unit : ℕ → W → W) (w e : W) → e ≡ units unit done (upto - done) w → e ≡ served (v .no) (units unit done (doing count done grant) w) w
+  upto-leaves : {W : Type 0} (unit : ℕ → W → W) (w e : W) → e ≡ units unit done (upto - done) w → e ≡ served (v .no) (units unit done (doingOf count done grant) w) w
   unfolding units
   upto-leaves {W} unit w e u = go (ℕ-discrete (v .no) 0)
     where
-      go : Dec (v .no ≡ 0) → e ≡ served (v .no) (units unit done (doing count done grant) w) w
-      go (yes z) = let m : upto - done ≡ doing count done grant = omega (arith, served-upto z) in u ∙ ap (λ (n : ℕ). units unit done n w) m ∙ worked (v .no) _ w z
+      go : Dec (v .no ≡ 0) → e ≡ served (v .no) (units unit done (doingOf count done grant) w) w
+      go (yes z) = let m : upto - done ≡ doingOf count done grant = omega (arith, served-upto z) in u ∙ ap (λ (n : ℕ). units unit done n w) m ∙ worked (v .no) _ w z
       go (no d) = let m : upto - done ≡ 0 = omega (arith, refused-upto d) in u ∙ ap (λ (n : ℕ). units unit done n w) m ∙ unserved (v .no) _ w d
 
 -- replay: its verdict, what its loop may ask, and what it leaves
@@ -185,7 +185,7 @@ module _ (s : Still) (plan : Plan) (t : Tables) (done : ℕ) (v : List ℤ) (d :
       let g = good-call s (replayFits s (plan .whole) t (length d) (length v)) 8 (every residualOk v) z in
       (g .0, both-true _ _ (both-true _ _ (both-true _ _ (g .1) .0) .0) .0))
 
-  module _ (grant upto : ℕ) (is : upto ≡ stepBy (replayVerdict s plan t done (length d) v) (plan .count) done grant .upto) where
+  module _ (grant upto : ℕ) (is : upto ≡ stepOf (replayVerdict s plan t done (length d) v) (plan .count) done grant .upto) where
     pub replay-asks : ReplayReady s plan t (length d) (length v) upto
     replay-asks l =
         let a = upto-asks (replayVerdict s plan t done (length d) v) (plan .count) done grant upto is l in
@@ -207,7 +207,7 @@ module _ (s : Still) (plan : Plan) (t : Tables) (done : ℕ) (source : List ℕ)
       let g = good-call s (walkFits s (plan .whole) t (length source) (length (w .work)) (length (w .residuals))) 7 (every (λ x. leb x (largestIn s)) source) z in
       (g .0, both-true _ _ (both-true _ _ (both-true _ _ (both-true _ _ (g .1) .0) .0) .0) .0))
 
-  module _ (grant upto : ℕ) (is : upto ≡ stepBy (walkVerdict s plan t done source w) (plan .count) done grant .upto) where
+  module _ (grant upto : ℕ) (is : upto ≡ stepOf (walkVerdict s plan t done source w) (plan .count) done grant .upto) where
     pub walk-asks : WalkReady s plan t (length source) (length (w .work)) (length (w .residuals)) upto
     walk-asks l =
         let a = upto-asks (walkVerdict s plan t done source w) (plan .count) done grant upto is l in

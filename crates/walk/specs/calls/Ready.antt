@@ -9,7 +9,7 @@ use Rattle.domain.specs.Facts.{Depth}
 use Rattle.plan.specs.tiling.Plan.{Plan}
 use Rattle.plan.specs.tiling.Verdict.{Accepted}
 use Rattle.walk.specs.declared.checks.Still.{Still}
-use Rattle.walk.specs.checks.Checks.{Tables, roomy}
+use Rattle.walk.specs.checks.Checks.{Tables, isRoomy}
 use Rattle.walk.specs.block.Rebuilt.{replayUnit}
 use Rattle.walk.specs.block.Walked.{World, walkUnit}
 
@@ -18,7 +18,7 @@ pub record Sound (s : Still) (plan : Plan) (plane residuals : ℕ) (t : Tables) 
   pub accepted : Accepted (s .frame) (plan .block) (plan .count)
   pub plane-len : plane ≡ s .frame .height * s .frame .width
   pub resid-len : residuals ≡ s .frame .height * s .frame .width
-  pub tables : roomy t ≡ true
+  pub tables : isRoomy t ≡ true
 
 -- what the loops ask, if there is a block to do
 abbrev pub ReplayReady : Still → Plan → Tables → ℕ → ℕ → ℕ → Type 0

@@ -23,8 +23,8 @@ every p [] = true
 every p (x ∷ l) = p x && every p l
 
 -- number 5: planes and residuals of exactly the picture's samples
-abbrev pub whole : Still → ℕ → Bool
-whole s len = eqb len (s .frame .height * s .frame .width)
+abbrev pub isWhole : Still → ℕ → Bool
+isWhole s len = eqb len (s .frame .height * s .frame .width)
 
 -- number 5: the lent scratch tables
 pub record Tables : Type 0 where
@@ -32,8 +32,8 @@ pub record Tables : Type 0 where
   pub indices : ℕ
   pub fractions : ℕ
 
-abbrev pub roomy : Tables → Bool
-roomy t = leb 193 (t .refs) && leb 32 (t .indices) && leb 32 (t .fractions)
+abbrev pub isRoomy : Tables → Bool
+isRoomy t = leb 193 (t .refs) && leb 32 (t .indices) && leb 32 (t .fractions)
 
 -- the numbers 1, 4, 5
 abbrev pub openingNo : Still → Bool → ℕ
@@ -45,14 +45,14 @@ callNo s fit k ok = firstFail ((1 unless depthOk (s .bits)) ∷ (4 unless pictur
 
 -- Replay: 1, 4, 5, then 8 over every residual. `records` says whether the plan is of whole records.
 abbrev pub replayFits : Still → Bool → Tables → ℕ → ℕ → Bool
-replayFits s records t plane residuals = records && whole s plane && whole s residuals && roomy t
+replayFits s records t plane residuals = records && isWhole s plane && isWhole s residuals && isRoomy t
 
 abbrev pub replayNo : Still → Bool → Tables → ℕ → List ℤ → ℕ
 replayNo s records t plane residuals = callNo s (replayFits s records t plane (length residuals)) 8 (every residualOk residuals)
 
 -- Walk: 1, 4, 5, then 7 over every source sample.
 abbrev pub walkFits : Still → Bool → Tables → ℕ → ℕ → ℕ → Bool
-walkFits s records t source work residuals = records && whole s source && whole s work && whole s residuals && roomy t
+walkFits s records t source work residuals = records && isWhole s source && isWhole s work && isWhole s residuals && isRoomy t
 
 abbrev pub walkNo : Still → Bool → Tables → List ℕ → ℕ → ℕ → ℕ
 walkNo s records t source work residuals = callNo s (walkFits s records t (length source) work residuals) 7 (every (λ v. leb v (largestIn s)) source)

@@ -34,7 +34,7 @@ use Rattle.walk.specs.checks.Checks.{largestIn}
 use Rattle.walk.specs.block.Predicted.{sampleAt, predictedAt}
 use Rattle.walk.specs.block.Rebuilt.{rebuilt, replayUnit}
 use Rattle.walk.specs.block.Walked.{stored, World, walked, walkUnit}
-use Rattle.walk.specs.block.Bridge.{geoOf, bridge}
+use Rattle.walk.specs.block.Bridge.{geometryOf, bridge}
 use Rattle.walk.specs.calls.Places.{place-up}
 use Rattle.walk.specs.block.RebuiltLaws.{rebuilt-length}
 use Rattle.walk.specs.block.Stored.{stored-length, stored-at}
@@ -92,15 +92,15 @@ module _ (s : Still) (plan : ℕ → Block) (count : ℕ) (ok : Accepted (s .fra
   -- the prediction of block k looks at samples of earlier blocks alone
   pub local : (k : ℕ) (a b : List ℕ) → k < count → Whole s a → Whole s b → ((i : ℕ) (t : Sample s) → i < k → OfS s plan i t → look s a t ≡ look s b t) → (t : Sample s) → OfS s plan k t → predict s plan k a t ≡ predict s plan k b t
   unfolding before
-  local k a b l oa ob same t o = at a oa ∙ ap from (luma-unread (geoOf s (plan k)) a b there) ∙ sym (at b ob)
+  local k a b l oa ob same t o = at a oa ∙ ap from (luma-unread (geometryOf s (plan k)) a b there) ∙ sym (at b ob)
     where
       from : Rows → ℕ
       from u = predSamples (lumaAt (s .bits)) firstEditionStrong (plan k .side) (plan k .mode) (neighboursOf u) (t .col - plan k .col) (t .row - plan k .row)
 
-      at : (p : List ℕ) → Whole s p → predict s plan k p t ≡ from (lumaRows p (geoOf s (plan k)))
+      at : (p : List ℕ) → Whole s p → predict s plan k p t ≡ from (lumaRows p (geometryOf s (plan k)))
       at p h = bridge s (plan k) (ok .picture) (ok .plan-good .placed k l) depth p h (ok .modes k l) (t .row - plan k .row) (t .col - plan k .col) (omega arith) (omega arith)
 
-      there : (r c : ℕ) → lumaHas (lumaBlock (geoOf s (plan k))) (pos r) (pos c) ≡ true → sampleOf a (s .frame .width) r c ≡ sampleOf b (s .frame .width) r c
+      there : (r c : ℕ) → lumaHas (lumaBlock (geometryOf s (plan k))) (pos r) (pos c) ≡ true → sampleOf a (s .frame .width) r c ≡ sampleOf b (s .frame .width) r c
       there r c e =
           let p = both-true (ltb r (s .frame .height) && ltb c (s .frame .width)) (ltb (cellAt (s .frame) r c) (cellAt (s .frame) (plan k .row) (plan k .col))) e in
           let q = both-true (ltb r (s .frame .height)) (ltb c (s .frame .width)) (p .0) in

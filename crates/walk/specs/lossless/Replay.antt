@@ -21,8 +21,8 @@ units-kept unit see i zero w h = refl
 units-kept unit see i (suc k) w h = units-kept unit see (suc i) k (unit i w) (λ j u a b. h j u (omega arith) (omega arith)) ∙ h i w (omega arith) (omega arith)
 
 -- the first k blocks, from the residuals v over the plane w
-abbrev pub replay : {Plane Data : Type 0} → (ℕ → Data → Plane → Plane) → Data → ℕ → Plane → Plane
-replay rebuild v k w = units (λ i. rebuild i v) 0 k w
+abbrev pub replayTo : {Plane Data : Type 0} → (ℕ → Data → Plane → Plane) → Data → ℕ → Plane → Plane
+replayTo rebuild v k w = units (λ i. rebuild i v) 0 k w
 
 -- planes that are long enough, the sample of a plane at a place, the residual of block k at a place, the blocks and their places, the
 -- prediction of block k from a plane, prediction plus residual, and the reconstruction of block k
@@ -57,22 +57,22 @@ module _ {Plane Data Place R : Type 0} {Ok : Plane → Type 0} {look : Plane →
     {predict : ℕ → Plane → Place → ℕ} {add : ℕ → R → ℕ} {rebuild : ℕ → Data → Plane → Plane}
     (f : Replays Ok look read count Of predict add rebuild)
   where
-    replay-ok : (v : Data) (k : ℕ) (w : Plane) → Ok w → Ok (replay rebuild v k w)
+    replay-ok : (v : Data) (k : ℕ) (w : Plane) → Ok w → Ok (replayTo rebuild v k w)
     unfolding units
     replay-ok v zero w h = h
-    replay-ok v (suc k) w h = subst Ok (sym (last (λ i. rebuild i v) k w)) (f .rebuild-ok k v (replay rebuild v k w) (replay-ok v k w h))
+    replay-ok v (suc k) w h = subst Ok (sym (last (λ i. rebuild i v) k w)) (f .rebuild-ok k v (replayTo rebuild v k w) (replay-ok v k w h))
 
     -- a sample of an earlier block is kept, a sample of the new block is rebuilt
-    old-block : (v : Data) (k : ℕ) (w : Plane) → k < count → (i : ℕ) (s : Place) → i < k → Of i s → look (replay rebuild v (suc k) w) s ≡ look (replay rebuild v k w) s
+    old-block : (v : Data) (k : ℕ) (w : Plane) → k < count → (i : ℕ) (s : Place) → i < k → Of i s → look (replayTo rebuild v (suc k) w) s ≡ look (replayTo rebuild v k w) s
     old-block v k w l i s m o =
-        ap (λ (u : Plane). look u s) (last (λ i. rebuild i v) k w) ∙ f .rebuild-out k v (replay rebuild v k w) l s (λ q. f .apart i k s m l o q)
+        ap (λ (u : Plane). look u s) (last (λ i. rebuild i v) k w) ∙ f .rebuild-out k v (replayTo rebuild v k w) l s (λ q. f .apart i k s m l o q)
 
-    new-block : (v : Data) (k : ℕ) (w : Plane) → k < count → Ok w → (s : Place) → Of k s → look (replay rebuild v (suc k) w) s ≡ add (predict k (replay rebuild v k w) s) (read v k s)
+    new-block : (v : Data) (k : ℕ) (w : Plane) → k < count → Ok w → (s : Place) → Of k s → look (replayTo rebuild v (suc k) w) s ≡ add (predict k (replayTo rebuild v k w) s) (read v k s)
     new-block v k w l ok s o =
-        ap (λ (u : Plane). look u s) (last (λ i. rebuild i v) k w) ∙ f .rebuild-in k v (replay rebuild v k w) l (replay-ok v k w ok) s o
+        ap (λ (u : Plane). look u s) (last (λ i. rebuild i v) k w) ∙ f .rebuild-in k v (replayTo rebuild v k w) l (replay-ok v k w ok) s o
 
     -- two replays of the same residuals agree on the blocks done, however their planes began
-    pub replay-same : (v : Data) (k : ℕ) (a b : Plane) → k ≤ count → Ok a → Ok b → (i : ℕ) (s : Place) → i < k → Of i s → look (replay rebuild v k a) s ≡ look (replay rebuild v k b) s
+    pub replay-same : (v : Data) (k : ℕ) (a b : Plane) → k ≤ count → Ok a → Ok b → (i : ℕ) (s : Place) → i < k → Of i s → look (replayTo rebuild v k a) s ≡ look (replayTo rebuild v k b) s
     replay-same v zero a b l oa ob i s m o = absurd (omega arith)
     replay-same v (suc k) a b l oa ob i s m o =
         let ih = replay-same v k a b (omega arith) oa ob in
@@ -80,7 +80,7 @@ module _ {Plane Data Place R : Type 0} {Ok : Plane → Type 0} {look : Plane →
         (λ e.
         let q = subst (λ (j : ℕ). Of j s) e o in
         new-block v k a l oa s q
-        ∙ ap (λ (p : ℕ). add p (read v k s)) (f .local k (replay rebuild v k a) (replay rebuild v k b) l (replay-ok v k a oa) (replay-ok v k b ob) ih s q)
+        ∙ ap (λ (p : ℕ). add p (read v k s)) (f .local k (replayTo rebuild v k a) (replayTo rebuild v k b) l (replay-ok v k a oa) (replay-ok v k b ob) ih s q)
         ∙ sym (new-block v k b l ob s q))
         (λ n. old-block v k a l i s n o ∙ ih i s n o ∙ sym (old-block v k b l i s n o))
         (eq-or-lt-of-le (le-of-suc-le-suc m))
@@ -89,7 +89,7 @@ module _ {Plane Data Place R : Type 0} {Ok : Plane → Type 0} {look : Plane →
       -- residuals that are the source less the prediction from the source give the source back
       pub replay-source : (v : Data) (k : ℕ) (w : Plane) → k ≤ count → Ok w
           → ((i : ℕ) (s : Place) → i < k → Of i s → read v i s ≡ sub (look source s) (predict i source s))
-          → (i : ℕ) (s : Place) → i < k → Of i s → look (replay rebuild v k w) s ≡ look source s
+          → (i : ℕ) (s : Place) → i < k → Of i s → look (replayTo rebuild v k w) s ≡ look source s
       replay-source v zero w l ok h i s m o = absurd (omega arith)
       replay-source v (suc k) w l ok h i s m o =
           let ih = replay-source v k w (omega arith) ok (λ j t n. h j t (omega arith)) in
@@ -97,7 +97,7 @@ module _ {Plane Data Place R : Type 0} {Ok : Plane → Type 0} {look : Plane →
           (λ e.
           let q = subst (λ (j : ℕ). Of j s) e o in
           new-block v k w l ok s q
-          ∙ ap₂ add (f .local k (replay rebuild v k w) source l (replay-ok v k w ok) (g .source-ok) ih s q) (h k s (omega arith) q)
+          ∙ ap₂ add (f .local k (replayTo rebuild v k w) source l (replay-ok v k w ok) (g .source-ok) ih s q) (h k s (omega arith) q)
           ∙ g .back s (predict k source s))
           (λ n. old-block v k w l i s n o ∙ ih i s n o)
           (eq-or-lt-of-le (le-of-suc-le-suc m))

@@ -11,8 +11,8 @@ use Rattle.camera.proofs.gather.store_reference_samples.Tie as tie
 luma-layout-requires : tie.Need-luma-layout-requires
 luma-layout-requires c κs = search needs
 
-luma-no-requires : tie.Need-luma-no-requires
-luma-no-requires c κs = c .luma-layout .ensures
+luma-bytes-no-requires : tie.Need-luma-bytes-no-requires
+luma-bytes-no-requires c κs = c .luma-layout .ensures
 
 room-no-requires : tie.Need-room-no-requires
 room-no-requires c κs = search needs
@@ -20,7 +20,7 @@ room-no-requires c κs = search needs
 store-luma-rows-requires : tie.Need-store-luma-rows-requires
 store-luma-rows-requires c κs =
     let a = c .before .before .before .before .before .before .before .args in
-    let f = luma-entry-fine (length (a .plane .now)) (length (a .out .now)) (a .geo) (c .before .before .before .luma-no .ensures) (c .before .before .room-no .ensures) (c .before .if1 .taken) in
+    let f = luma-entry-fine (length (a .plane .now)) (length (a .out .now)) (a .geo) (c .before .before .before .luma-bytes-no .ensures) (c .before .before .room-no .ensures) (c .before .if1 .taken) in
     (c .before .before .before .before .luma-layout .ensures, luma-spelt-fine (a .plane .now) (a .geo) (f .1) .1, f .0)
 
 same-length : tie.Need-same-length
@@ -30,20 +30,20 @@ returns : tie.Need-returns
 unfolding lumaEntry
 returns c =
     let a = c .before .before .before .before .before .before .before .before .before .before .args in
-    done _ _ _ (luma-entry-no (length (a .plane .now)) (length (a .out .now)) (a .geo) (c .before .before .before .before .before .before .luma-no .ensures) (c .before .before .before .before .before .room-no .ensures)) (c .before .before .before .before .if1 .taken) (c .before .before .store-luma-rows .ensures)
+    done _ _ _ (luma-entry-no (length (a .plane .now)) (length (a .out .now)) (a .geo) (c .before .before .before .before .before .before .luma-bytes-no .ensures) (c .before .before .before .before .before .room-no .ensures)) (c .before .before .before .before .if1 .taken) (c .before .before .store-luma-rows .ensures)
 
 returns-2 : tie.Need-returns-2
 unfolding lumaEntry
 returns-2 c =
     let a = c .before .before .before .before .before .before .args in
-    refused _ _ _ (luma-entry-no (length (a .plane .now)) (length (a .out .now)) (a .geo) (c .before .before .luma-no .ensures) (c .before .room-no .ensures)) (c .if1 .left)
+    refused _ _ _ (luma-entry-no (length (a .plane .now)) (length (a .out .now)) (a .geo) (c .before .before .luma-bytes-no .ensures) (c .before .room-no .ensures)) (c .if1 .left)
 
 pub store-reference-samples-spec : {M : Type 1} → statement M
 store-reference-samples-spec =
     tie.close
     (tie.spec
     luma-layout-requires
-    luma-no-requires
+    luma-bytes-no-requires
     room-no-requires
     store-luma-rows-requires
     same-length

@@ -4,21 +4,21 @@ use mathlib.Core.Bool.{true}
 use native.Mathlib.Omega.{arith}
 use lib.ListN.{length}
 use Rattle.domain.specs.Domain.{modeOk}
-use Rattle.predict.specs.by_mode.Door.{Block, highest}
+use Rattle.predict.specs.by_mode.Door.{Predictable, highest}
 use Rattle.camera.specs.Written.{done, refused}
 use Rattle.camera.specs.prediction.Entries.{chromaBlockEntry}
-use Rattle.camera.specs.prediction.Checks.{Fit, mode-fit}
+use Rattle.camera.specs.prediction.Checks.{HasRoom, mode-fit}
 use Rattle.camera.specs.prediction.Blocks.{chroma-asked}
 use borrow.Author.Needs.{needs}
 use Rattle.camera.proofs.prediction.chroma.Statement.{statement}
 use Rattle.camera.proofs.prediction.chroma.Tie as tie
 
 -- a call that is not refused
-served : (c : tie.Then1) → let a = c .before .before .before .before .before .args in Block (a .bits) (a .n) (a .mode) × (Fit (a .n) (length (a .above .now)) (length (a .left .now)) (length (a .out .now)) × (modeOk (a .mode) ≡ true))
-served c = let m = c .before .before .before .before .before .args .mode in mode-fit _ _ m _ _ _ (modeOk m) (λ t. t) (sym (c .before .mode-no .ensures) ∙ c .if1 .taken)
+served : (c : tie.Then1) → let a = c .before .before .before .before .before .args in Predictable (a .bits) (a .n) (a .mode) × (HasRoom (a .n) (length (a .above .now)) (length (a .left .now)) (length (a .out .now)) × (modeOk (a .mode) ≡ true))
+served c = let m = c .before .before .before .before .before .args .mode in mode-fit _ _ m _ _ _ (modeOk m) (λ t. t) (sym (c .before .mode-entry-no .ensures) ∙ c .if1 .taken)
 
-mode-no-requires : tie.Need-mode-no-requires
-mode-no-requires c κs = search needs
+mode-entry-no-requires : tie.Need-mode-entry-no-requires
+mode-entry-no-requires c κs = search needs
 
 cast-predict-bytes : tie.Need-cast-predict-bytes
 cast-predict-bytes c = omega (arith, highest (served c .0))
@@ -33,17 +33,17 @@ returns : tie.Need-returns
 unfolding chromaBlockEntry
 returns c =
     let a = c .before .before .before .before .before .before .before .before .before .args in
-    done _ _ _ (c .before .before .before .before .before .mode-no .ensures) (c .before .before .before .before .if1 .taken) (c .before .before .predict-bytes .ensures ∙ chroma-asked (a .n) (a .above .now) (a .left .now) (a .out .now) (a .bits) (a .mode) (a .corner))
+    done _ _ _ (c .before .before .before .before .before .mode-entry-no .ensures) (c .before .before .before .before .if1 .taken) (c .before .before .predict-bytes .ensures ∙ chroma-asked (a .n) (a .above .now) (a .left .now) (a .out .now) (a .bits) (a .mode) (a .corner))
 
 returns-2 : tie.Need-returns-2
 unfolding chromaBlockEntry
-returns-2 c = refused _ _ _ (c .before .mode-no .ensures) (c .if1 .left)
+returns-2 c = refused _ _ _ (c .before .mode-entry-no .ensures) (c .if1 .left)
 
 pub chroma-spec : {M : Type 1} → statement M
 chroma-spec =
     tie.close
     (tie.spec
-    mode-no-requires
+    mode-entry-no-requires
     cast-predict-bytes
     predict-bytes-requires
     same-length

@@ -8,11 +8,11 @@ use borrow.Author.Needs.{needs}
 use Rattle.camera.proofs.prediction.dc.Statement.{statement}
 use Rattle.camera.proofs.prediction.dc.Tie as tie
 
-flat-no-requires : tie.Need-flat-no-requires
-flat-no-requires c κs = search needs
+flat-entry-no-requires : tie.Need-flat-entry-no-requires
+flat-entry-no-requires c κs = search needs
 
 predict-bytes-requires : tie.Need-predict-bytes-requires
-predict-bytes-requires c κs = flat-fit _ _ _ _ (sym (c .before .before .flat-no .ensures) ∙ c .before .if1 .taken) 8 1 refl refl
+predict-bytes-requires c κs = flat-fit _ _ _ _ (sym (c .before .before .flat-entry-no .ensures) ∙ c .before .if1 .taken) 8 1 refl refl
 
 same-length : tie.Need-same-length
 same-length c = search needs
@@ -21,12 +21,12 @@ returns : tie.Need-returns
 unfolding dcEntry
 returns c =
     let a = c .before .before .before .before .before .before .before .before .before .args in
-    done _ _ _ (c .before .before .before .before .before .flat-no .ensures) (c .before .before .before .before .if1 .taken) (c .before .before .predict-bytes .ensures ∙ dc-asked (a .n) (a .above .now) (a .left .now) (a .out .now) 8 0 _)
+    done _ _ _ (c .before .before .before .before .before .flat-entry-no .ensures) (c .before .before .before .before .if1 .taken) (c .before .before .predict-bytes .ensures ∙ dc-asked (a .n) (a .above .now) (a .left .now) (a .out .now) 8 0 _)
 
 returns-2 : tie.Need-returns-2
 unfolding dcEntry
-returns-2 c = refused _ _ _ (c .before .flat-no .ensures) (c .if1 .left)
+returns-2 c = refused _ _ _ (c .before .flat-entry-no .ensures) (c .if1 .left)
 
 pub dc-spec : {M : Type 1} → statement M
 dc-spec =
-    tie.close (tie.spec flat-no-requires predict-bytes-requires same-length returns returns-2)
+    tie.close (tie.spec flat-entry-no-requires predict-bytes-requires same-length returns returns-2)

@@ -2,7 +2,7 @@
 use Prim.Native.Nat.{ℕ}
 use mathlib.Core.Path.{ap, _∙_}
 use mathlib.Core.List.{List}
-use Rattle.camera.specs.replay.VerdictLaws.{wordAt, words-stored, short-kept}
+use Rattle.camera.specs.replay.VerdictLaws.{putWord, words-stored, short-kept}
 use borrow.Author.Needs.{needs}
 use Rattle.camera.proofs.replay.answer.Statement.{statement}
 use Rattle.camera.proofs.replay.answer.Tie as tie
@@ -19,7 +19,7 @@ same-length c = search needs
 returns : tie.Need-returns
 returns c =
     let a = c .before .before .before .before .before .before .before .before .before .before .args in
-    c .before .before .put-word2 .ensures ∙ ap (λ (d : List ℕ). wordAt d 4 (a .next)) (c .before .before .before .before .before .before .put-word .ensures) ∙ words-stored (a .result .now) (a .block) (a .next) (c .before .before .before .before .before .before .before .before .if1 .taken)
+    c .before .before .put-word2 .ensures ∙ ap (λ (d : List ℕ). putWord d 4 (a .next)) (c .before .before .before .before .before .before .put-word .ensures) ∙ words-stored (a .result .now) (a .block) (a .next) (c .before .before .before .before .before .before .before .before .if1 .taken)
 
 returns-2 : tie.Need-returns-2
 returns-2 c = short-kept _ _ _ (c .if1 .left)

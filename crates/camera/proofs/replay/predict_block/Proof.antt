@@ -7,7 +7,7 @@ use Rattle.bytes.specs.Bytes.{samplesOf}
 use Rattle.camera.specs.gather.Door.{lumaBytesDoor}
 use Rattle.camera.specs.gather.Spelt.{luma-spelt}
 use Rattle.walk.specs.Lent.{tables}
-use Rattle.walk.specs.block.Bridge.{geoOf}
+use Rattle.walk.specs.block.Bridge.{geometryOf}
 use Rattle.walk.specs.block.PredictedLaws.{predicted-is}
 use borrow.Author.Needs.{needs}
 use Rattle.camera.proofs.replay.predict_block.Statement.{statement}
@@ -45,7 +45,7 @@ returns c =
     let a = c .before .before .before .before .before .before .before .before .before .before .before .before .before .before .before .before .before .before .before .before .before .before .args in
     let h = c .before .before .before .before .before .before .before .before .before .before .before .before .before .before .before .before .before .before .before .before .before .before .pre in
     let p = c .before .before .before .before .before .before .before .before .predict-luma-tb-slices .ensures in
-    let f = c .before .before .before .before .before .before .before .before .before .before .before .before .before .before .before .get-reference-samples .ensures ∙ ap (lumaBytesDoor (a .plane .now)) (c .before .before .before .before .before .before .before .before .before .before .before .before .before .before .before .before .geometry .ensures) ∙ luma-spelt (a .plane .now) (geoOf (a .s) (a .b)) (length (a .plane .now) / 2) (omega (arith, h .1 .1)) in
+    let f = c .before .before .before .before .before .before .before .before .before .before .before .before .before .before .before .get-reference-samples .ensures ∙ ap (lumaBytesDoor (a .plane .now)) (c .before .before .before .before .before .before .before .before .before .before .before .before .before .before .before .before .geometry .ensures) ∙ luma-spelt (a .plane .now) (geometryOf (a .s) (a .b)) (length (a .plane .now) / 2) (omega (arith, h .1 .1)) in
     predicted-is (a .s) (a .b) (samplesOf (a .plane .now)) (tables (a .refs .now) (a .indices .now) (a .fractions .now)) (h .0) _ (a .pred .now) _ _ (h .1 .0) f (p .0) (p .1 .0)
 
 pub predict-block-spec : {M : Type 1} → statement M

@@ -5,8 +5,8 @@ use borrow.Author.Needs.{needs}
 use Rattle.camera.proofs.replay.verdict.Statement.{statement}
 use Rattle.camera.proofs.replay.verdict.Tie as tie
 
-early-no-requires : tie.Need-early-no-requires
-early-no-requires c κs = search needs
+byte-no-requires : tie.Need-byte-no-requires
+byte-no-requires c κs = search needs
 
 check-plan-bytes-requires : tie.Need-check-plan-bytes-requires
 check-plan-bytes-requires c κs = search needs
@@ -18,10 +18,10 @@ returns : tie.Need-returns
 returns c =
     let a = c .before .before .before .before .before .args in
     let l : Lent = record { plan = a .plan .now; residuals = a .residuals .now; plane = a .plane; result = a .result } in
-    let n = c .before .before .early-no in
+    let n = c .before .before .byte-no in
     let f = c .before .check-plan-bytes in
     settled-bytes (a .s) (a .done) l (f .result) _ (n .result) (n .ensures) (f .ensures) (c .settled .ensures)
 
 pub verdict-spec : {M : Type 1} → statement M
 verdict-spec =
-    tie.close (tie.spec early-no-requires check-plan-bytes-requires settled-requires returns)
+    tie.close (tie.spec byte-no-requires check-plan-bytes-requires settled-requires returns)

@@ -1,7 +1,7 @@
 -- `fmt::ChromaFormat::chroma_row` meets its contract. A subsampling is 1 or 2.
 use borrow.Author.Needs.{needs}
 use mathlib.Core.Path.{sym, subst}
-use Rattle.fmt.specs.Fmt.{Step, step-height}
+use Rattle.fmt.specs.Fmt.{Subsampling, step-height}
 use Rattle.fmt.proofs.ChromaFormat.chroma_row.Statement.{statement}
 use Rattle.fmt.proofs.ChromaFormat.chroma_row.Tie as tie
 
@@ -9,7 +9,7 @@ sub-h-requires : tie.Need-sub-h-requires
 sub-h-requires c κs = search needs
 
 over-requires : tie.Need-over-requires
-over-requires c κs = subst Step (sym (c .sub-h .ensures)) (step-height (c .before .args .self))
+over-requires c κs = subst Subsampling (sym (c .sub-h .ensures)) (step-height (c .before .args .self))
 
 returns : tie.Need-returns
 returns c = simp (c .over .ensures, c .before .sub-h .ensures)

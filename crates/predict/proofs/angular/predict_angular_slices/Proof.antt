@@ -2,7 +2,7 @@
 use lib.ListN.{length}
 use mathlib.Core.Path.{refl, sym, _∙_}
 use Rattle.laws.specs.Choose.{worked, unserved}
-use Rattle.predict.specs.refusals.Refusals.{Lent, lengths}
+use Rattle.predict.specs.refusals.Refusals.{Lengths, lengths}
 use Rattle.predict.specs.angular.Door.{fit}
 use borrow.Author.Needs.{needs}
 use Rattle.predict.proofs.angular.predict_angular_slices.Statement.{statement}
@@ -14,7 +14,7 @@ angular-no-requires c κs = search needs
 angular-block-requires : tie.Need-angular-block-requires
 angular-block-requires c κs =
     let a = c .before .before .before .before .before .before .before .before .before .before .args in
-    let l : Lent = lengths (length (a .above .now)) (length (a .left .now)) (length (a .pred .now)) (length (a .refs .now)) (length (a .indices .now)) (length (a .fractions .now)) in
+    let l : Lengths = lengths (length (a .above .now)) (length (a .left .now)) (length (a .pred .now)) (length (a .refs .now)) (length (a .indices .now)) (length (a .fractions .now)) in
     let f = fit _ _ _ l (sym (c .before .before .before .angular-no .ensures) ∙ c .before .before .if1 .taken) in
     (f .depth, (f .size, (f .low, (f .high, (f .above, (f .left, (f .room, f .refs)))))))
 

@@ -3,7 +3,7 @@ use Prim.Native.Nat.{ℕ}
 use mathlib.Core.Path.{_∙_}
 use lib.ListN.{getD, replicate}
 use borrow.Author.Needs.{needs}
-use Rattle.predict.specs.planar_dc.Flat.{planarMix}
+use Rattle.predict.specs.planar_dc.Flat.{planarSample}
 use Rattle.predict.specs.planar_dc.Stores.{by-way}
 use Rattle.predict.proofs.planar_dc.planar_line.Statement.{statement}
 use Rattle.predict.proofs.planar_dc.planar_line.Tie as tie
@@ -27,7 +27,7 @@ returns : tie.Need-returns
 returns c =
     let a = c .before .before .before .before .before .before .before .before .before .before .args in
     c .before .before .put-row .ensures
-    ∙ by-way (λ (x : ℕ). planarMix (a .n) (a .row) x (a .left) (a .top-right) (getD (a .above .now) x 0) (a .bottom-left)) _ (replicate 32 0) (a .pred .now) 0 (a .at) (a .n) (search needs) (c .before .before .before .before .before .before .planar-row .ensures)
+    ∙ by-way (λ (x : ℕ). planarSample (a .n) (a .row) x (a .left) (a .top-right) (getD (a .above .now) x 0) (a .bottom-left)) _ (replicate 32 0) (a .pred .now) 0 (a .at) (a .n) (search needs) (c .before .before .before .before .before .before .planar-row .ensures)
 
 pub planar-line-spec : {M : Type 1} → statement M
 planar-line-spec =

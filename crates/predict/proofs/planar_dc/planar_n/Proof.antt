@@ -8,14 +8,14 @@ use Rattle.laws.specs.Fill.{rows}
 use Rattle.laws.specs.FillLaws.{rows-none, rows-more, rows-done, rows-same}
 use Rattle.laws.specs.Weigh.{row-room}
 use Rattle.h265.specs.Notation.{fromRows}
-use Rattle.predict.specs.planar_dc.Flat.{planarMix}
+use Rattle.predict.specs.planar_dc.Flat.{planarSample}
 use Rattle.predict.specs.planar_dc.Text.{planar-mix}
 use Rattle.predict.proofs.planar_dc.planar_n.Statement.{statement}
 use Rattle.predict.proofs.planar_dc.planar_n.Tie as tie
 
 abbrev Inv-loop : tie.InvT-loop
 Inv-loop above left n pred₀ top-right bottom-left row₀ pred row =
-    (row ≤ n) × ((length pred ≡ length pred₀) × (pred ≡ rows (λ (y x : ℕ). planarMix n y x (getD left y 0) (getD above n 0) (getD above x 0) (getD left n 0)) n row pred₀))
+    (row ≤ n) × ((length pred ≡ length pred₀) × (pred ≡ rows (λ (y x : ℕ). planarSample n y x (getD left y 0) (getD above n 0) (getD above x 0) (getD left n 0)) n row pred₀))
 
 abbrev μ-loop : tie.MeasureT-loop
 μ-loop above left n pred₀ top-right bottom-left row₀ pred row = n - row

@@ -5,13 +5,13 @@ use lib.ListN.{length, getD}
 use borrow.Author.Needs.{needs}
 use Rattle.laws.specs.Fill.{fill}
 use Rattle.laws.specs.FillLaws.{fill-none, fill-more, fill-done}
-use Rattle.predict.specs.planar_dc.Flat.{planarMix}
+use Rattle.predict.specs.planar_dc.Flat.{planarSample}
 use Rattle.predict.proofs.planar_dc.planar_row.Statement.{statement}
 use Rattle.predict.proofs.planar_dc.planar_row.Tie as tie
 
 abbrev Inv-loop : tie.InvT-loop
 Inv-loop above left top-right bottom-left n row out₀ col₀ out col =
-    (col ≤ n) × ((length out ≡ length out₀) × (out ≡ fill (λ (x : ℕ). planarMix n row x left top-right (getD above x 0) bottom-left) col out₀))
+    (col ≤ n) × ((length out ≡ length out₀) × (out ≡ fill (λ (x : ℕ). planarSample n row x left top-right (getD above x 0) bottom-left) col out₀))
 
 abbrev μ-loop : tie.MeasureT-loop
 μ-loop above left top-right bottom-left n row out₀ col₀ out col = n - col

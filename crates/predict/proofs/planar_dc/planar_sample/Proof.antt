@@ -4,7 +4,7 @@ use mathlib.Core.Path.{_∙_}
 use native.Mathlib.Omega.{arith}
 use borrow.Author.Needs.{needs}
 use Rattle.samples.specs.taps.Laws.{mean-is}
-use Rattle.predict.specs.planar_dc.Flat.{planarMix}
+use Rattle.predict.specs.planar_dc.Flat.{planarSample}
 use Rattle.predict.proofs.planar_dc.planar_sample.Statement.{statement}
 use Rattle.predict.proofs.planar_dc.planar_sample.Tie as tie
 
@@ -39,7 +39,7 @@ mean-requires : tie.Need-mean-requires
 mean-requires c κs = search needs
 
 returns : tie.Need-returns
-unfolding planarMix
+unfolding planarSample
 returns c =
     let s = c .before .before .before in
     let h = c .before .before .mix in

@@ -1,4 +1,4 @@
--- `refusals::angular_no` meets its contract. Each return by the tests before it, in the table's order. Rests on the domain's tests and `lent`.
+-- `refusals::angular_no` meets its contract. Each return by the tests before it, in the table's order. Rests on the domain's tests and `is_enough`.
 use mathlib.Core.Path.{_≡_, sym, ap, _∙_}
 use mathlib.Core.Bool.{Bool, true, _&&_}
 use lib.Dec.{leb}
@@ -39,16 +39,16 @@ returns-3 c =
     let m = c .before .before .before .before .before .before .args .mode in
     rw (depth (c .before .before .before .before), size (c .before .before), ap (λ (b : Bool). leb 2 m && b) (sym (c .before .mode-ok .ensures)) ∙ not-true _ (c .if3 .taken))
 
-lent-requires : tie.Need-lent-requires
-lent-requires c κs = size-of _ (size (c .before .before))
+is-enough-requires : tie.Need-is-enough-requires
+is-enough-requires c κs = size-of _ (size (c .before .before))
 
 returns-4 : tie.Need-returns-4
 returns-4 c =
-    rw (depth (c .before .before .before .before .before .before), size (c .before .before .before .before), inside (c .before .before), sym (c .before .lent .ensures) ∙ not-true _ (c .if4 .taken))
+    rw (depth (c .before .before .before .before .before .before), size (c .before .before .before .before), inside (c .before .before), sym (c .before .is-enough .ensures) ∙ not-true _ (c .if4 .taken))
 
 returns-5 : tie.Need-returns-5
 returns-5 c =
-    rw (depth (c .before .before .before .before .before .before), size (c .before .before .before .before), inside (c .before .before), sym (c .before .lent .ensures) ∙ not-false _ (c .if4 .left))
+    rw (depth (c .before .before .before .before .before .before), size (c .before .before .before .before), inside (c .before .before), sym (c .before .is-enough .ensures) ∙ not-false _ (c .if4 .left))
 
 pub angular-no-spec : {M : Type 1} → statement M
 angular-no-spec =
@@ -60,6 +60,6 @@ angular-no-spec =
     returns-2
     mode-ok-requires
     returns-3
-    lent-requires
+    is-enough-requires
     returns-4
     returns-5)

@@ -1,4 +1,4 @@
--- `refusals::predict_no` meets its contract. Each return by the tests before it, in the table's order. Rests on the domain's tests and `lent`.
+-- `refusals::predict_no` meets its contract. Each return by the tests before it, in the table's order. Rests on the domain's tests and `is_enough`.
 use mathlib.Core.Path.{_≡_, sym, _∙_}
 use mathlib.Core.Bool.{true}
 use borrow.Author.Tests.{not-true, not-false}
@@ -37,16 +37,16 @@ returns-3 : tie.Need-returns-3
 returns-3 c =
     rw (depth (c .before .before .before .before), size (c .before .before), sym (c .before .mode-ok .ensures) ∙ not-true _ (c .if3 .taken))
 
-lent-requires : tie.Need-lent-requires
-lent-requires c κs = size-of _ (size (c .before .before))
+is-enough-requires : tie.Need-is-enough-requires
+is-enough-requires c κs = size-of _ (size (c .before .before))
 
 returns-4 : tie.Need-returns-4
 returns-4 c =
-    rw (depth (c .before .before .before .before .before .before), size (c .before .before .before .before), inside (c .before .before), sym (c .before .lent .ensures) ∙ not-true _ (c .if4 .taken))
+    rw (depth (c .before .before .before .before .before .before), size (c .before .before .before .before), inside (c .before .before), sym (c .before .is-enough .ensures) ∙ not-true _ (c .if4 .taken))
 
 returns-5 : tie.Need-returns-5
 returns-5 c =
-    rw (depth (c .before .before .before .before .before .before), size (c .before .before .before .before), inside (c .before .before), sym (c .before .lent .ensures) ∙ not-false _ (c .if4 .left))
+    rw (depth (c .before .before .before .before .before .before), size (c .before .before .before .before), inside (c .before .before), sym (c .before .is-enough .ensures) ∙ not-false _ (c .if4 .left))
 
 pub predict-no-spec : {M : Type 1} → statement M
 predict-no-spec =
@@ -58,6 +58,6 @@ predict-no-spec =
     returns-2
     mode-ok-requires
     returns-3
-    lent-requires
+    is-enough-requires
     returns-4
     returns-5)

@@ -42,7 +42,7 @@ use denote.Signature.{plain}
 use Rattle.laws.specs.Fill.{block}
 use Rattle.h265.specs.Notation.{fromRows}
 use Rattle.h265.specs.Angular.{angular}
-use Rattle.predict.specs.refusals.Refusals.{angularNo, Lent as Lengths}
+use Rattle.predict.specs.refusals.Refusals.{angularNo, Lengths}
 use Rattle.predict.specs.declared.scratch.AngularScratch.{AngularScratch}
 use Rattle.predict.proofs.scratch.AngularScratch as T
 use Rattle.predict.proofs.scratch.AngularScratch.Laws as T′

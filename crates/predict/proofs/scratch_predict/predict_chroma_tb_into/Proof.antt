@@ -43,7 +43,7 @@ use Rattle.laws.specs.Fill.{block}
 use Rattle.h265.specs.Notation.{fromRows}
 use Rattle.h265.specs.Setting.{firstEditionStrong}
 use Rattle.h265.specs.Prediction.{predSamples}
-use Rattle.predict.specs.refusals.Refusals.{predictNo, Lent as Lengths}
+use Rattle.predict.specs.refusals.Refusals.{predictNo, Lengths}
 use Rattle.predict.specs.Contents.{chromaAt}
 use Rattle.predict.specs.declared.scratch.AngularScratch.{AngularScratch}
 use Rattle.predict.proofs.scratch.AngularScratch as T

@@ -47,7 +47,7 @@ use Rattle.domain.specs.rows.Neighbours.{neighboursOf}
 use Rattle.domain.specs.declared.rows.Rows.{Rows}
 use Rattle.domain.proofs.rows.Rows as R
 use Rattle.domain.proofs.rows.Rows.Laws as R′
-use Rattle.predict.specs.refusals.Refusals.{predictNo, Lent as Lengths}
+use Rattle.predict.specs.refusals.Refusals.{predictNo, Lengths}
 use Rattle.predict.specs.declared.scratch.AngularScratch.{AngularScratch}
 use Rattle.predict.proofs.scratch.AngularScratch as T
 use Rattle.predict.proofs.scratch.Tables.{Long, made, Loan, tableAt, Tokens, Lent, Kept, Holds, lend, regain}

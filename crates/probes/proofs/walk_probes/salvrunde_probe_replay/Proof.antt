@@ -1,7 +1,7 @@
 -- `walk_probes::salvrunde_probe_replay` meets its contract: it hands over the door's answer.
 use mathlib.Core.Path.{ap}
 use borrow.Author.Needs.{needs}
-use Rattle.probes.specs.walk_probes.Probes.{stepOf}
+use Rattle.probes.specs.walk_probes.Probes.{stepAnswer}
 use Rattle.probes.proofs.walk_probes.salvrunde_probe_replay.Statement.{statement}
 use Rattle.probes.proofs.walk_probes.salvrunde_probe_replay.Tie as tie
 
@@ -21,7 +21,7 @@ same-length-4 : tie.Need-same-length-4
 same-length-4 c = search needs
 
 returns : tie.Need-returns
-returns c = let e = c .before .before .before .before .before .before .before .before .replay-numbers .ensures in (ap stepOf (e .0), e .1)
+returns c = let e = c .before .before .before .before .before .before .before .before .replay-numbers .ensures in (ap stepAnswer (e .0), e .1)
 
 pub salvrunde-probe-replay-spec : {M : Type 1} → statement M
 salvrunde-probe-replay-spec =

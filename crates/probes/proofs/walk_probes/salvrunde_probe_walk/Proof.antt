@@ -1,7 +1,7 @@
 -- `walk_probes::salvrunde_probe_walk` meets its contract: it hands over the door's answer.
 use mathlib.Core.Path.{ap}
 use borrow.Author.Needs.{needs}
-use Rattle.probes.specs.walk_probes.Probes.{stepOf}
+use Rattle.probes.specs.walk_probes.Probes.{stepAnswer}
 use Rattle.probes.proofs.walk_probes.salvrunde_probe_walk.Statement.{statement}
 use Rattle.probes.proofs.walk_probes.salvrunde_probe_walk.Tie as tie
 
@@ -24,7 +24,7 @@ same-length-5 : tie.Need-same-length-5
 same-length-5 c = search needs
 
 returns : tie.Need-returns
-returns c = let e = c .before .before .before .before .before .before .before .before .before .walk-numbers .ensures in (ap stepOf (e .0), e .1)
+returns c = let e = c .before .before .before .before .before .before .before .before .before .walk-numbers .ensures in (ap stepAnswer (e .0), e .1)
 
 pub salvrunde-probe-walk-spec : {M : Type 1} → statement M
 salvrunde-probe-walk-spec =

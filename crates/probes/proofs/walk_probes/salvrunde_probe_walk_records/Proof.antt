@@ -60,7 +60,7 @@ use Rattle.walk.proofs.Progress.walk.Symbol as dor-def
 use Rattle.walk.proofs.Progress.walk.Symbol.{name as #walk·Progress·walk}
 use Rattle.walk.proofs.Progress.walk.Met as dor-thm
 use Rattle.probes.specs.declared.walk_probes.StepAnswer.{StepAnswer}
-use Rattle.probes.specs.walk_probes.Probes.{stillOf, stepOf}
+use Rattle.probes.specs.walk_probes.Probes.{stillOf, stepAnswer}
 use Rattle.probes.proofs.walk_probes.StepAnswer as Y
 use Rattle.probes.proofs.walk_probes.StepAnswer.Laws as Y′
 use Rattle.probes.proofs.walk_probes.progress_of as mkp
@@ -158,16 +158,16 @@ module _ {M : Type 1} (𝓤 : URA M) (H : Heap 𝓤) (A : Atoms 𝓤) (W : Given
   abbrev Said : Progress → Still → Stepped → World → AngularScratch → Type 0
   Said pr st x z g = (x ≡ steppedBy (walkVerdict st (listed ys) scratchTables (pr .done) src (record { work = ws; residuals = rs })) (listed ys) pr grant) × ((z ≡ walkAfter st (listed ys) scratchTables (pr .done) grant src (record { work = ws; residuals = rs })) × ((x .no ≡ 0 → ⊥) → g ≡ h₀))
 
-  ends : (pr : Progress) (st : Still) (x : Stepped) (r : StepAnswer) (z : World) (g : AngularScratch) → pr ≡ (record { done = done }) → st ≡ (stillOf bits width height ctu) → Said pr st x z g → r ≡ stepOf x → (r ≡ stepOf (steppedBy (walkVerdict (stillOf bits width height ctu) (listed ys) scratchTables done src (record { work = ws; residuals = rs })) (listed ys) (record { done = done }) grant)) × ((z ≡ walkAfter (stillOf bits width height ctu) (listed ys) scratchTables done grant src (record { work = ws; residuals = rs })) × ((r .no ≡ 0 → ⊥) → g ≡ h₀))
+  ends : (pr : Progress) (st : Still) (x : Stepped) (r : StepAnswer) (z : World) (g : AngularScratch) → pr ≡ (record { done = done }) → st ≡ (stillOf bits width height ctu) → Said pr st x z g → r ≡ stepAnswer x → (r ≡ stepAnswer (steppedBy (walkVerdict (stillOf bits width height ctu) (listed ys) scratchTables done src (record { work = ws; residuals = rs })) (listed ys) (record { done = done }) grant)) × ((z ≡ walkAfter (stillOf bits width height ctu) (listed ys) scratchTables done grant src (record { work = ws; residuals = rs })) × ((r .no ≡ 0 → ⊥) → g ≡ h₀))
   ends pr st x r z g e₁ e₂ s q =
       let y = subst (λ (u : Progress). Said u (stillOf bits width height ctu) x z g) e₁ (subst (λ (v : Still). Said pr v x z g) e₂ s) in
-      (q ∙ ap stepOf (y .0), (y .1 .0, λ d. y .1 .1 (λ k. d (ap (λ (u : StepAnswer). u .no) q ∙ k))))
+      (q ∙ ap stepAnswer (y .0), (y .1 .0, λ d. y .1 .1 (λ k. d (ap (λ (u : StepAnswer). u .no) q ∙ k))))
 
   -- what is had at exit
   abbrev Left : StepAnswer → Val → World → AngularScratch → List (Item 𝓤)
   Left r w z g = Toks ∷ ‵ (finally u16 γ₂ (z .work)) ∷ ‵ (finally i32 γ₃ (z .residuals)) ∷ ‵ (fres γ (G.the-row .coded .code g)) ∷ ‵ (ShrSlice (named 1) κ₁ u16 .own c (vc ∷ [])) ∷ ‵ (ShrSlice (named 0) κ₀ T.the-row .own p (vp ∷ [])) ∷ ‵ (Y.the-row .own r (w ∷ [])) ∷ []
 
-  exits : (r : StepAnswer) (w : Val) (z : World) (g : AngularScratch) → (r ≡ stepOf (steppedBy (walkVerdict (stillOf bits width height ctu) (listed ys) scratchTables done src (record { work = ws; residuals = rs })) (listed ys) (record { done = done }) grant)) × ((z ≡ walkAfter (stillOf bits width height ctu) (listed ys) scratchTables done grant src (record { work = ws; residuals = rs })) × ((r .no ≡ 0 → ⊥) → g ≡ h₀)) → length (z .work) ≡ length ws → length (z .residuals) ≡ length rs → ent 𝓤 (⋆ 𝓤 H A (Left r w z g)) (Post w)
+  exits : (r : StepAnswer) (w : Val) (z : World) (g : AngularScratch) → (r ≡ stepAnswer (steppedBy (walkVerdict (stillOf bits width height ctu) (listed ys) scratchTables done src (record { work = ws; residuals = rs })) (listed ys) (record { done = done }) grant)) × ((z ≡ walkAfter (stillOf bits width height ctu) (listed ys) scratchTables done grant src (record { work = ws; residuals = rs })) × ((r .no ≡ 0 → ⊥) → g ≡ h₀)) → length (z .work) ≡ length ws → length (z .residuals) ≡ length rs → ent 𝓤 (⋆ 𝓤 H A (Left r w z g)) (Post w)
   exits r w z g e e₂ e₃ =
       qed W (Left r w z g) ∵ suffices ! _ (ends-at 𝓤 H A f.ended stayed (f.clauses 𝓤 H A mem run) W (((κ₀, (κ₁, (κ₂, (κ₃, (κₛ, tt))))), (q₀, (q₁, (q₂, (q₃, (qₛ, tt))))), tt, a, vals), tt) w r (tt, (tt, (tt, (tt, (tt, (tt, (tt, ((z .work), ((z .residuals), (g, (tt, tt))))))))))) (tt, (tt, (tt, (tt, (tt, (tt, (tt, (e₂, (e₃, (tt, (tt, tt)))))))))))) $ says ! e $
       frame ! $ nothing ! $ owned ! u32 (Is u32) (uint-makes 𝓤 H A W w32) grant _ (refl, grant-fits) $ fjoin ! $ move ! (3 ∷ 0 ∷ []) $ fjoin ! $ move ! (2 ∷ 0 ∷ []) $ fjoin ! $ move ! (1 ∷ 0 ∷ []) $ fjoin ! $ move ! (1 ∷ 0 ∷ []) $ fjoin ! $ move ! (1 ∷ 0 ∷ []) $ fjoin ! $ owned ! u32 (Is u32) (uint-makes 𝓤 H A W w32) ctu _ (refl, ctu-fits) $ fjoin ! $ owned ! u32 (Is u32) (uint-makes 𝓤 H A W w32) height _ (refl, height-fits) $ fjoin ! $ owned ! u32 (Is u32) (uint-makes 𝓤 H A W w32) width _ (refl, width-fits) $ fjoin ! $ owned ! u32 (Is u32) (uint-makes 𝓤 H A W w32) bits _ (refl, bits-fits) $ fjoin ! $ owned ! u32 (Is u32) (uint-makes 𝓤 H A W w32) done _ (refl, done-fits) $ fjoin ! $ frame ! $ shut !
@@ -210,8 +210,8 @@ module _ {M : Type 1} (𝓤 : URA M) (H : Heap 𝓤) (A : Atoms 𝓤) (W : Given
   goes-told : (x : Stepped) → Is E.the-row x (mE x ∷ []) → ent 𝓤 (emp 𝓤) (Told 𝓤 H A mem run .pre (to-told x))
   goes-told x is-x = qed W [] ∵ nothing ! $ owned ! E.the-row (Is E.the-row) ((LL.makes E.the-type E′.the-plain) 𝓤 H A) x _ is-x $ fjoin ! $ nothing ! $ join ! $ frame ! $ shut !
 
-  told-of : (x : Stepped) (r : StepAnswer) → ent 𝓤 (ensured 𝓤 H A ans.ended (ans.clauses 𝓤 H A mem run) tt (x, tt) tt r) (fact 𝓤 (r ≡ stepOf x))
-  told-of x r = exE 𝓤 _ (λ zs. snd∗ 𝓤 (sem 𝓤 H A (lasts ans.ended tt (x, tt) zs)) (fact 𝓤 (r ≡ stepOf x)))
+  told-of : (x : Stepped) (r : StepAnswer) → ent 𝓤 (ensured 𝓤 H A ans.ended (ans.clauses 𝓤 H A mem run) tt (x, tt) tt r) (fact 𝓤 (r ≡ stepAnswer x))
+  told-of x r = exE 𝓤 _ (λ zs. snd∗ 𝓤 (sem 𝓤 H A (lasts ans.ended tt (x, tt) zs)) (fact 𝓤 (r ≡ stepAnswer x)))
 
   module _ (C : Calls 𝓤 H) (Λ : Loops 𝓤 H) (fm : FmC 𝓤 H (W .laws) C) (known-record : Triple 𝓤 (C #probes·walk-probes·progress-of) (Record 𝓤 H A mem run)) (known-picture : Triple 𝓤 (C #probes·walk-probes·still-of) (Picture 𝓤 H A mem run)) (known-door : Triple 𝓤 (C #walk·Progress·walk) (Door 𝓤 H A mem run)) (known-told : Triple 𝓤 (C #probes·walk-probes·step-answer) (Told 𝓤 H A mem run)) where
     walk : ent 𝓤 (onEntry 𝓤 H A f.signature (κ₀, (κ₁, (κ₂, (κ₃, (κₛ, tt))))) (q₀, (q₁, (q₂, (q₃, (qₛ, tt))))) a vals) (WpFn 𝓤 H C Λ code.function (vint w32 done ∷ vint w32 bits ∷ vint w32 width ∷ vint w32 height ∷ vint w32 ctu ∷ vp ∷ vc ∷ vm₂ ∷ vm₃ ∷ vptr b o ∷ vint w32 grant ∷ []) Post)
@@ -244,7 +244,7 @@ module _ {M : Type 1} (𝓤 : URA M) (H : Heap 𝓤) (A : Atoms 𝓤) (W : Given
         use0 W (raw (Told 𝓤 H A mem run .pre (to-told x))) (goes-told x is-x) $
         calls-at ! fm (Told 𝓤 H A mem run) known-told (to-told x) (and-then ! (load ! (from ! (stop !)) (look ! 17 refl)) (no-more !)) (λ u.
         use1 W (later (some (λ (r : StepAnswer). (‵ ftrue ⊛ ‵ (Y.the-row .own r (u ∷ []))) ⊛ raw (ensured 𝓤 H A ans.ended (ans.clauses 𝓤 H A mem run) tt (x, tt) tt r)))) (id⊢ 𝓤 _) $ await ! tt $ pick ! (λ r.
-        split ! $ move ! (1 ∷ []) $ use1 W (raw (fact 𝓤 (r ≡ stepOf x))) (told-of x r) $ heard ! (r ≡ stepOf x) (λ e₄. split ! $ drop ! $ peeks ! Y.the-row (Is Y.the-row) (shows 𝓤 H A Y.the-row) r (u ∷ []) (λ is₃.
+        split ! $ move ! (1 ∷ []) $ use1 W (raw (fact 𝓤 (r ≡ stepAnswer x))) (told-of x r) $ heard ! (r ≡ stepAnswer x) (λ e₄. split ! $ drop ! $ peeks ! Y.the-row (Is Y.the-row) (shows 𝓤 H A Y.the-row) r (u ∷ []) (λ is₃.
         land ! (from ! (stop !)) (init ! 45 refl (LL.lawful Y.the-type Y′.the-laws 𝓤 H A W .typed r _ is₃ .0)) $
         returns ! (look ! 45 refl) $ forget ! 7 refl $ forget ! 9 refl $ forget ! 11 refl $ forget ! 13 refl $ forget ! 15 refl $ forget ! 17 refl $ forget ! 19 refl $ forget ! 21 refl $ forget ! 23 refl $ forget ! 25 refl $ forget ! 27 refl $ forget ! 29 refl $ forget ! 31 refl $ forget ! 33 refl $ forget ! 35 refl $ forget ! 37 refl $ forget ! 39 refl $ forget ! 41 refl $ forget ! 43 refl $ forget ! 45 refl $
         move ! (45 ∷ 46 ∷ []) $ free1 ! $ move ! (43 ∷ 44 ∷ []) $ free1 ! $ move ! (41 ∷ 42 ∷ []) $ free1 ! $ move ! (39 ∷ 40 ∷ []) $ free1 ! $ move ! (37 ∷ 38 ∷ []) $ free1 ! $ move ! (35 ∷ 36 ∷ []) $ free1 ! $ move ! (33 ∷ 34 ∷ []) $ free1 ! $ move ! (31 ∷ 32 ∷ []) $ free1 ! $ move ! (29 ∷ 30 ∷ []) $ free1 ! $ move ! (27 ∷ 28 ∷ []) $ free1 ! $ move ! (25 ∷ 26 ∷ []) $ free1 ! $ move ! (23 ∷ 24 ∷ []) $ free1 ! $ move ! (21 ∷ 22 ∷ []) $ free1 ! $ move ! (19 ∷ 20 ∷ []) $ free1 ! $ move ! (17 ∷ 18 ∷ []) $ free1 ! $ move ! (15 ∷ 16 ∷ []) $ free1 ! $ move ! (13 ∷ 14 ∷ []) $ free1 ! $ move ! (11 ∷ 12 ∷ []) $ free1 ! $ move ! (9 ∷ 10 ∷ []) $ free1 ! $ move ! (7 ∷ 8 ∷ []) $ free1 ! $ free0 ! $

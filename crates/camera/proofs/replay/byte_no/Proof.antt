@@ -1,4 +1,4 @@
--- `replay::early_no` meets its contract. Numbers 1, 4 and 5, then 8. Assumes nothing.
+-- `replay::byte_no` meets its contract. Numbers 1, 4 and 5, then 8. Assumes nothing.
 use mathlib.Core.Path.{refl, sym, ap, _∙_}
 use mathlib.Core.Bool.{true, false}
 use Rattle.laws.specs.Choose.{both-same}
@@ -8,8 +8,8 @@ use Rattle.walk.specs.checks.Checks.{every, openingNo}
 use Rattle.walk.specs.checks.Laws.{opening-stops, opening-goes}
 use Rattle.camera.specs.replay.Verdict.{Lent, bytesFit}
 use borrow.Author.Needs.{needs}
-use Rattle.camera.proofs.replay.early_no.Statement.{statement}
-use Rattle.camera.proofs.replay.early_no.Tie as tie
+use Rattle.camera.proofs.replay.byte_no.Statement.{statement}
+use Rattle.camera.proofs.replay.byte_no.Tie as tie
 
 are-whole-requires : tie.Need-are-whole-requires
 are-whole-requires c κs = search needs
@@ -41,8 +41,8 @@ returns-3 c =
     let e = c .before .before .before .opening-no .ensures ∙ ap (openingNo (a .s)) (both-same (both-same (c .before .before .before .before .are-whole .ensures) refl) refl) in
     opening-goes (a .s) (bytesFit (a .s) l) 8 (every residualOk (residualsOf (a .residuals .now))) false (sym e ∙ c .before .before .if1 .left) (sym (c .before .residuals-ok .ensures) ∙ c .if2 .left)
 
-pub early-no-spec : {M : Type 1} → statement M
-early-no-spec =
+pub byte-no-spec : {M : Type 1} → statement M
+byte-no-spec =
     tie.close
     (tie.spec
     are-whole-requires

@@ -9,8 +9,8 @@ use Rattle.refs.specs.declared.Layout.{Layout}
 use Rattle.refs.specs.Door.{chromaLength}
 use Rattle.camera.specs.gather.Door.{chromaBytesNo}
 use Rattle.refs.specs.Served.{chroma-number}
-use Rattle.camera.proofs.gather.chroma_no.Statement.{statement}
-use Rattle.camera.proofs.gather.chroma_no.Tie as tie
+use Rattle.camera.proofs.gather.chroma_bytes_no.Statement.{statement}
+use Rattle.camera.proofs.gather.chroma_bytes_no.Tie as tie
 
 whole-in-requires : tie.Need-whole-in-requires
 whole-in-requires c κs = search needs
@@ -29,8 +29,8 @@ returns c =
     chroma-number (eqb (a .cb) (2 * chromaLength (a .geo)) && eqb (a .cr) (2 * chromaLength (a .geo))) (a .geo) (s .pre)
     (both-same (c .before .before .whole-in .ensures) (c .before .whole-in2 .ensures) ∙ ap (λ (q : Layout). eqb (a .cb) (2 * q .length) && eqb (a .cr) (2 * q .length)) (s .pre)) (c .gather-no .ensures)
 
-pub chroma-no-spec : {M : Type 1} → statement M
-chroma-no-spec =
+pub chroma-bytes-no-spec : {M : Type 1} → statement M
+chroma-bytes-no-spec =
     tie.close
     (tie.spec
     whole-in-requires

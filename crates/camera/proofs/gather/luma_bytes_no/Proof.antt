@@ -7,8 +7,8 @@ use Rattle.refs.specs.Door.{lumaLength}
 use Rattle.camera.specs.gather.Door.{lumaBytesNo}
 use Rattle.refs.specs.Served.{luma-number}
 use borrow.Author.Needs.{needs}
-use Rattle.camera.proofs.gather.luma_no.Statement.{statement}
-use Rattle.camera.proofs.gather.luma_no.Tie as tie
+use Rattle.camera.proofs.gather.luma_bytes_no.Statement.{statement}
+use Rattle.camera.proofs.gather.luma_bytes_no.Tie as tie
 
 whole-in-requires : tie.Need-whole-in-requires
 whole-in-requires c κs = search needs
@@ -24,6 +24,6 @@ returns c =
     luma-number (eqb (a .len) (2 * lumaLength (a .geo))) (a .geo) (s .pre)
     (c .before .whole-in .ensures ∙ ap (λ (q : Layout). eqb (a .len) (2 * q .length)) (s .pre)) (c .gather-no .ensures)
 
-pub luma-no-spec : {M : Type 1} → statement M
-luma-no-spec =
+pub luma-bytes-no-spec : {M : Type 1} → statement M
+luma-bytes-no-spec =
     tie.close (tie.spec whole-in-requires gather-no-requires returns)

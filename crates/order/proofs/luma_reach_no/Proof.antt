@@ -1,4 +1,4 @@
--- `order::luma_no` meets its contract, test by test.
+-- `order::luma_reach_no` meets its contract, test by test.
 use mathlib.Core.Path.{refl, sym, _∙_}
 use borrow.Author.Tests.{not-true, not-false}
 use Rattle.laws.specs.Choose.{if-yes, if-no, both-same}
@@ -7,8 +7,8 @@ use Rattle.domain.specs.Facts.{size-of}
 use Rattle.order.specs.Order.{pictureOk}
 use Rattle.order.specs.Reach.{lumaPlaceOk, lumaReachNo}
 use borrow.Author.Needs.{needs}
-use Rattle.order.proofs.luma_no.Statement.{statement}
-use Rattle.order.proofs.luma_no.Tie as tie
+use Rattle.order.proofs.luma_reach_no.Statement.{statement}
+use Rattle.order.proofs.luma_reach_no.Tie as tie
 
 size-ok-requires : tie.Need-size-ok-requires
 size-ok-requires c κs = search needs
@@ -56,8 +56,8 @@ returns-4 c =
     (if-yes (pictureOk (c .before .before .before .before .before .before .before .before .before .before .before .before .args .b .picture)) _ 4 0 (sym (c .before .before .before .before .before .before .before .before .picture-ok .ensures) ∙ not-false _ (c .before .before .before .before .before .before .before .if2 .left))
     (if-yes (lumaPlaceOk (c .before .before .before .before .before .before .before .before .before .before .before .before .args .b)) 0 6 0 (sym (both-same (both-same (both-same (c .before .before .before .before .in-plane .ensures) refl) (c .before .before .unit-ok .ensures)) refl) ∙ not-false _ (c .if3 .left)) refl))
 
-pub luma-no-spec : {M : Type 1} → statement M
-luma-no-spec =
+pub luma-reach-no-spec : {M : Type 1} → statement M
+luma-reach-no-spec =
     tie.close
     (tie.spec
     size-ok-requires

@@ -1,10 +1,10 @@
--- `luma_rows::luma_rows` meets its contract. The rule decides. Rests on the contracts of both.
+-- `luma_rows::prepared_rows` meets its contract. The rule decides. Rests on the contracts of both.
 use mathlib.Core.Path.{_≡_}
 use lib.ListN.{length}
 use Rattle.predict.specs.luma_rows.LumaRows.{rows-smoothed, rows-kept}
 use borrow.Author.Needs.{needs}
-use Rattle.predict.proofs.luma_rows.luma_rows.Statement.{statement}
-use Rattle.predict.proofs.luma_rows.luma_rows.Tie as tie
+use Rattle.predict.proofs.luma_rows.prepared_rows.Statement.{statement}
+use Rattle.predict.proofs.luma_rows.prepared_rows.Tie as tie
 
 should-filter-refs-requires : tie.Need-should-filter-refs-requires
 should-filter-refs-requires c κs = search needs
@@ -35,8 +35,8 @@ returns-2 c =
     let a = s .args in
     rows-kept (a .bits) (a .n) (a .mode) (s .pre) (a .rows) (c .before .should-filter-refs .result) (c .before .should-filter-refs .ensures) (c .if1 .left)
 
-pub luma-rows-spec : {M : Type 1} → statement M
-luma-rows-spec =
+pub prepared-rows-spec : {M : Type 1} → statement M
+prepared-rows-spec =
     tie.close
     (tie.spec
     should-filter-refs-requires

@@ -7,8 +7,8 @@ use Rattle.camera.specs.prediction.Entries.{flatEntryNo}
 use Rattle.domain.specs.Domain.{sizeOk}
 use Rattle.domain.specs.Facts.{size-of}
 use borrow.Author.Needs.{needs}
-use Rattle.camera.proofs.prediction.flat_no.Statement.{statement}
-use Rattle.camera.proofs.prediction.flat_no.Tie as tie
+use Rattle.camera.proofs.prediction.flat_entry_no.Statement.{statement}
+use Rattle.camera.proofs.prediction.flat_entry_no.Tie as tie
 
 -- the side passed
 side : (c : tie.Else1) → sizeOk (c .before .before .args .n) ≡ true
@@ -32,5 +32,5 @@ returns-3 : tie.Need-returns-3
 unfolding flatEntryNo
 returns-3 c = if-yes _ _ _ _ (side (c .before .before)) (if-yes _ _ _ _ (sym (c .before .has-room .ensures) ∙ not-false _ (c .if2 .left)) refl)
 
-pub flat-no-spec : {M : Type 1} → statement M
-flat-no-spec = tie.close (tie.spec size-ok-requires returns has-room-requires returns-2 returns-3)
+pub flat-entry-no-spec : {M : Type 1} → statement M
+flat-entry-no-spec = tie.close (tie.spec size-ok-requires returns has-room-requires returns-2 returns-3)

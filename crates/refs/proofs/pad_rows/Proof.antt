@@ -3,8 +3,8 @@ use mathlib.Core.Path.{_≡_, _∙_}
 use lib.ListN.{length}
 use Rattle.refs.specs.Seen.{padRows, withCorner, two-set, second-kept, from-parts}
 use borrow.Author.Needs.{needs}
-use Rattle.refs.proofs.finish.Statement.{statement}
-use Rattle.refs.proofs.finish.Tie as tie
+use Rattle.refs.proofs.pad_rows.Statement.{statement}
+use Rattle.refs.proofs.pad_rows.Tie as tie
 
 index-1-choose : tie.Need-index-1-choose
 index-1-choose c = search needs
@@ -75,8 +75,8 @@ returns c =
     (simp (c .before .before .pad .ensures, c .before .before .before .before .last-of2 .ensures, c .before .before .before .before .before .before .before .choose3 .ensures, c .before .before .before .before .before .before .before .before .choose2 .ensures, c .before .before .before .before .before .before .before .before .before .before .before .last-of .ensures, c .before .before .before .before .before .before .before .before .before .before .before .before .before .before .choose .ensures))
     (simp (c .pad2 .ensures, second-kept, c .before .before .before .before .before .before .before .before .before .before .before .last-of .ensures, c .before .before .before .before .before .before .before .before .before .before .before .before .before .before .choose .ensures))
 
-pub finish-spec : {M : Type 1} → statement M
-finish-spec =
+pub pad-rows-spec : {M : Type 1} → statement M
+pad-rows-spec =
     tie.close
     (tie.spec
     index-1-choose

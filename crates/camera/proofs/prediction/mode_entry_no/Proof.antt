@@ -7,8 +7,8 @@ use Rattle.camera.specs.prediction.Entries.{modeEntryNo}
 use Rattle.domain.specs.Domain.{depthOk, sizeOk}
 use Rattle.domain.specs.Facts.{size-of}
 use borrow.Author.Needs.{needs}
-use Rattle.camera.proofs.prediction.mode_no.Statement.{statement}
-use Rattle.camera.proofs.prediction.mode_no.Tie as tie
+use Rattle.camera.proofs.prediction.mode_entry_no.Statement.{statement}
+use Rattle.camera.proofs.prediction.mode_entry_no.Tie as tie
 
 -- the tests that were passed
 depth : (c : tie.Else1) → depthOk (c .before .before .args .bits) ≡ true
@@ -46,8 +46,8 @@ returns-5 : tie.Need-returns-5
 unfolding modeEntryNo
 returns-5 c = if-yes _ _ _ _ (depth (c .before .before .before .before .before)) (if-yes _ _ _ _ (size (c .before .before .before)) (if-yes _ _ _ _ (not-false (c .before .before .before .before .before .before .before .args .taken) (c .before .before .if3 .left)) (if-yes _ _ _ _ (sym (c .before .has-room .ensures) ∙ not-false _ (c .if4 .left)) refl)))
 
-pub mode-no-spec : {M : Type 1} → statement M
-mode-no-spec =
+pub mode-entry-no-spec : {M : Type 1} → statement M
+mode-entry-no-spec =
     tie.close
     (tie.spec
     depth-ok-requires
