@@ -78,7 +78,7 @@ pub record Fits (b : ByteJob) (x : Held (List ℕ)) : Type 0 where
   pub plane : length (x .world) ≡ 2 * (b .still .frame .height * b .still .frame .width)
   pub residuals : length (b .residuals) ≡ 4 * (b .still .frame .height * b .still .frame .width)
   pub records : recordsOf (b .plan) .whole ≡ true
-  pub lent : InType x
+  pub in-type : InType x
 
 abbrev pub Long : ByteAsk → Type 0
 Long a = 8 ≤ length (a .result)

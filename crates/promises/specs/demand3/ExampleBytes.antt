@@ -58,7 +58,7 @@ fits = record {
   plane = refl;
   residuals = length-words residuals ∙ ap (λ (k : ℕ). 4 * k) (demand-3 .walk two source blankWorld there walked .1 .long);
   records = refl;
-  lent = (zeros-are 256, omega arith);
+  in-type = (zeros-are 256, omega arith);
 }
 
 -- block by block

@@ -1,8 +1,8 @@
 -- What one call of a door gives, from the two equations of its contract: the call of Calls, and, of one that is served, the blocks that it
 -- does. Rests on what a run of blocks leaves (Blocks) and on what it means that a call is served (Accept).
-use mathlib.Core.Path.{_≡_, refl, sym, ap, ap₂, _∙_, subst}
+use mathlib.Core.Path.{_≡_, refl, sym, ap, _∙_, subst}
 use mathlib.Core.List.{List}
-use Prim.Native.Nat.{ℕ, _+_, _-_, _<_, min}
+use Prim.Native.Nat.{ℕ, _-_, _<_, min}
 use native.Mathlib.Omega.{arith}
 use native.Mathlib.Decide.{ℕ-discrete}
 use lib.IntN.{ℤ}
@@ -18,13 +18,13 @@ use Rattle.walk.specs.block.Rebuilt.{replayUnit}
 use Rattle.walk.specs.block.Walked.{World, stored, walked, walkUnit}
 use Rattle.walk.specs.calls.Door.{replayAfter, walkAfter}
 use Rattle.walk.specs.Door.{steppedBy}
-use Rattle.walk.specs.lossless.Picture.{added, less, rebuild-out, store-out, replays, sourced, walks-plan}
+use Rattle.walk.specs.lossless.Picture.{rebuild-out, store-out, replays, sourced, walks-plan}
 use Rattle.walk.specs.lossless.Replay.{units-kept}
 use Rattle.promises.specs.demand3.Calls.{Task, Ask, Held, held, blocks, count, residualAt, walkVerdictAt, walkCall, replayVerdictAt, replayCall}
 use Rattle.promises.specs.demand3.Chains.{next, does, refuses}
 use Rattle.promises.specs.demand3.Accept.{Walking, Replaying, walk-told, replay-told, walk-steps, replay-steps}
 use Rattle.promises.specs.demand3.Blocks.{replay-settled, walk-settled}
-use Rattle.promises.specs.demand3.Spots.{at, most-at, spot, spot-of, spot-residual, spot-predict}
+use Rattle.promises.specs.demand3.Spots.{at, most-at, spot, spot-of, spot-residual, spot-less, spot-added}
 use Rattle.promises.specs.demand3.Demand3.{WalkDoes, ReplayDoes, WalkGave, ReplayGave}
 
 -- what calls that are served do together
@@ -49,10 +49,8 @@ module _ (j : Task) where
         done = refl;
         residuals = λ i r c d hr hc.
             let l : i < count j = omega (arith, d .1) in
-            sym (spot-residual s (blocks j) (count j) ok i r c l hr hc (y .world .residuals))
-            ∙ settled i (spot s (blocks j) (count j) ok i r c l hr hc) (d .0) (d .1) (spot-of s (blocks j) (count j) ok i r c l hr hc) .1
-            ∙ ap (less (sampleAt s source (blocks j i .row + r) (blocks j i .col + c)))
-            (spot-predict s (blocks j) (count j) ok i r c l hr hc (y .world .work));
+            spot-less s (blocks j) (count j) ok i r c l hr hc _ (y .world .residuals) (y .world .work)
+            (settled i (spot s (blocks j) (count j) ok i r c l hr hc) (d .0) (d .1) (spot-of s (blocks j) (count j) ok i r c l hr hc) .1);
         reconstructed = λ i r c d hr hc.
             let l : i < count j = omega (arith, d .1) in
             settled i (spot s (blocks j) (count j) ok i r c l hr hc) (d .0) (d .1) (spot-of s (blocks j) (count j) ok i r c l hr hc) .0;
@@ -81,11 +79,10 @@ module _ (j : Task) where
         done = refl;
         rebuilt = λ i r c d hr hc.
             let l : i < count j = omega (arith, d .1) in
-            replay-settled (replays s (blocks j) (count j) ok depth) residuals (x .progress .done)
+            spot-added s (blocks j) (count j) ok i r c l hr hc _ residuals (y .world)
+            (replay-settled (replays s (blocks j) (count j) ok depth) residuals (x .progress .done)
             (min grant (count j - x .progress .done)) (x .world) (omega arith) (f .plane-whole)
-            i (spot s (blocks j) (count j) ok i r c l hr hc) (d .0) (d .1) (spot-of s (blocks j) (count j) ok i r c l hr hc)
-            ∙ ap₂ (added s) (spot-predict s (blocks j) (count j) ok i r c l hr hc (y .world))
-            (spot-residual s (blocks j) (count j) ok i r c l hr hc residuals);
+            i (spot s (blocks j) (count j) ok i r c l hr hc) (d .0) (d .1) (spot-of s (blocks j) (count j) ok i r c l hr hc));
         samples-kept = λ r c h n.
             units-kept unit (λ (u : List ℕ). sampleAt s u r c) _ _ (x .world)
             (λ i u a b. rebuild-out s (blocks j) (count j) ok depth i residuals u (omega arith) (at r c h) (λ o. n i (a, b) o));

@@ -29,7 +29,7 @@ use Rattle.promises.specs.demand3.Accept.{Walking, Replaying, walk-told,
 use Rattle.promises.specs.demand3.Range.{predicted-most}
 use Rattle.promises.specs.demand3.Gives.{walk-done, replay-done, walk-gave, replay-gave}
 use Rattle.promises.specs.demand3.Forms.{numbers-listed}
-use Rattle.promises.specs.demand3.Spots.{at, by-samples, every-of, most-at, less-small, in-block, part-of, spot, covered-in, spot-of, spot-residual, spot-predict}
+use Rattle.promises.specs.demand3.Spots.{at, by-samples, every-of, most-at, less-small, in-block, part-of, spot, covered-in, spot-of, spot-less, spot-predict}
 use Rattle.promises.specs.demand3.Demand3.{LosslessWalk, Replayed, WalkDoes, ReplayDoes, Demand3}
 
 -- a walk of the whole picture
@@ -61,9 +61,8 @@ module _ (j : Task) (source : List ℕ) (w : World) (facts : Walking j source (f
   residual-is : (i r c : ℕ) → i < count j → r < blocks j i .side → c < blocks j i .side
       → residualAt j (all .residuals) i r c ≡ less (sampleAt s source (blocks j i .row + r) (blocks j i .col + c)) (predictedAt s (blocks j i) source r c)
   residual-is i r c l hr hc =
-      sym (spot-residual s (blocks j) (count j) ok i r c l hr hc (all .residuals))
-      ∙ told .2 i (spot s (blocks j) (count j) ok i r c l hr hc) l (spot-of s (blocks j) (count j) ok i r c l hr hc)
-      ∙ ap (less (sampleAt s source (blocks j i .row + r) (blocks j i .col + c))) (spot-predict s (blocks j) (count j) ok i r c l hr hc source)
+      spot-less s (blocks j) (count j) ok i r c l hr hc _ (all .residuals) source
+      (told .2 i (spot s (blocks j) (count j) ok i r c l hr hc) l (spot-of s (blocks j) (count j) ok i r c l hr hc))
 
   -- grants that reach the count walk it all
   calls-are : (asks : List Ask) → Each Roomy asks → count j ≤ granted asks → calls (walkCall j source) (fresh w) asks ≡ after (walkUnit s (blocks j) source) (count j) w

@@ -24,8 +24,7 @@ use Rattle.walk.specs.calls.Laws.{accepted-small}
 use Rattle.walk.specs.calls.Steps.{doingOf}
 use Rattle.walk.specs.Door.{steppedBy}
 use Rattle.walk.specs.Lent.{scratchTables}
-use Rattle.camera.specs.replay.Verdict.{wholeBy, bytesFit, byteVerdict}
-use Rattle.camera.specs.replay.Verdict.{Lent as Given}
+use Rattle.camera.specs.replay.Verdict.{Lent, wholeBy, bytesFit, byteVerdict}
 use Rattle.camera.specs.replay.VerdictLaws.{fitting}
 use Rattle.camera.specs.replay.Door.{After, nextWritten, planeAfter, resultAfter, replayed}
 use Rattle.camera.specs.replay.Laws.{served-fits}
@@ -55,7 +54,7 @@ module _ (b : ByteJob) where
 
   -- one call
   module _ (x : Held (List ℕ)) (a : ByteAsk) where
-    abbrev given : Given
+    abbrev given : Lent
     given = record { plan = b .plan; residuals = b .residuals; plane = length (x .world); result = length (a .result) }
 
     abbrev verdict : Verdict
@@ -75,7 +74,7 @@ module _ (b : ByteJob) where
           (le-leb 8 (length (a .result)) long)
 
       verdict-is : verdict ≡ replayVerdictAt j v (spelt x) scratchTables
-      verdict-is = spelt-verdict (b .still) (x .progress .done) given (a .grant) (x .world) refl fit (f .lent .0)
+      verdict-is = spelt-verdict (b .still) (x .progress .done) given (a .grant) (x .world) refl fit (f .in-type .0)
 
       -- the next record is a word, and it is the one that the replay hands back
       next-is : record { done = nextWritten (b .still) (x .progress .done) given (a .grant) }
@@ -100,7 +99,7 @@ module _ (b : ByteJob) where
               let small = accepted-small (b .still .frame) (recordsOf (b .plan)) (t .asked .plan-ok) in
               let few = t .asked .few in
               subst (λ (k : ℕ). k < 4294967296) (worked (verdict .no) _ _ z) (omega arith)
-          go (no n) = subst (λ (k : ℕ). k < 4294967296) (unserved (verdict .no) _ _ n) (f .lent .1)
+          go (no n) = subst (λ (k : ℕ). k < 4294967296) (unserved (verdict .no) _ _ n) (f .in-type .1)
 
       record-is : recordIn (byteAfter b x a .result) ≡ record { done = nextWritten (b .still) (x .progress .done) given (a .grant) }
       unfolding replayed resultAfter
@@ -108,19 +107,19 @@ module _ (b : ByteJob) where
 
       call-spells : spelt (byteCall b x a) ≡ replayCall j v (spelt x) (speltAsk a)
       call-spells =
-          let l = left (b .still) (x .progress .done) given (a .grant) (x .world) refl fit (f .lent .0) in
+          let l = left (b .still) (x .progress .done) given (a .grant) (x .world) refl fit (f .in-type .0) in
           let p = record-is ∙ next-is ∙ ap (λ (u : Verdict). steppedBy u (recordsOf (b .plan)) (x .progress) (a .grant) .next) verdict-is in
           let q = ap samplesOf plane-is ∙ l .spells in
           λ i. held (p i) (q i)
 
       call-fits : Fits b (byteCall b x a)
       call-fits =
-          let l = left (b .still) (x .progress .done) given (a .grant) (x .world) refl fit (f .lent .0) in
+          let l = left (b .still) (x .progress .done) given (a .grant) (x .world) refl fit (f .in-type .0) in
           record {
             plane = ap length plane-is ∙ l .long ∙ f .plane;
             residuals = f .residuals;
             records = f .records;
-            lent = (λ i. rw plane-is (l .are i), subst (λ (p : Progress). p .done < 4294967296) (sym record-is) next-word);
+            in-type = (λ i. rw plane-is (l .are i), subst (λ (p : Progress). p .done < 4294967296) (sym record-is) next-word);
           }
 
       served-is : byteAfter b x a .number ≡ replayVerdictAt j v (spelt x) scratchTables .no
@@ -133,7 +132,7 @@ module _ (b : ByteJob) where
         let f = fitting (b .still) given e in
         let fitted = wholeBy (b .still) 2 (length (x .world)) && wholeBy (b .still) 4 (length (b .residuals)) && recordsOf
         (b .plan) .whole in (
-          record { plane = f .plane; residuals = f .residuals; records = f .records; lent = lent },
+          record { plane = f .plane; residuals = f .residuals; records = f .records; in-type = lent },
           leb-true 8 (length (a .result))
               (both-true fitted (leb 8 (length (a .result))) e .1),
         )
@@ -177,7 +176,7 @@ module _ (b : ByteJob) where
   as-bytes x y f g e =
       let p = ap (λ (z : Held (List ℕ)). z .progress) e in
       let even : (z : Held (List ℕ)) → Fits b z → bytesOf (samplesOf (z .world))
-      ≡ z .world = λ z h. bytes-back (z .world) (omega (arith, h .plane)) (h .lent .0) in
+      ≡ z .world = λ z h. bytes-back (z .world) (omega (arith, h .plane)) (h .in-type .0) in
       let q = sym (even x f) ∙ ap (λ (z : Held (List ℕ)). bytesOf (z .world)) e ∙ even y g in
       λ i. held (p i) (q i)
 
@@ -260,7 +259,7 @@ on-bytes = record {
       (λ all spell enough. whole b source w asks all spell plane f again long enough) all spell enough;
   altered = λ b plane other f g first z asks others long too e r c cov.
       let v = residualsOf (b .residuals) in
-      let k = fits-of b (fresh plane) first z (f .lent) in
+      let k = fits-of b (fresh plane) first z (f .in-type) in
       ap (λ (x : Held (List ℕ)). sampleAt (b .still) (x .world) r c) (chain-spells b (fresh plane) asks f long .0)
       ∙ demand-3 .altered (speltTask b) v (samplesOf plane) (samplesOf other) (map speltAsk asks) (map speltAsk others) scratchTables
       (sym (served-is b (fresh plane) first (k .0) (k .1)) ∙ z)

@@ -22,7 +22,7 @@ use Rattle.plan.specs.tiling.Verdict.{Accepted}
 use Rattle.walk.specs.declared.checks.Still.{Still}
 use Rattle.walk.specs.block.Predicted.{sampleAt, predictedAt}
 use Rattle.walk.specs.checks.Checks.{every}
-use Rattle.walk.specs.lossless.Picture.{Sample, OfS, Whole, predict, residual}
+use Rattle.walk.specs.lossless.Picture.{Sample, OfS, Whole, predict, residual, added, less}
 
 -- a test of every entry, entry by entry
 pub every-of : {A : Type 0} (p : A → Bool) (l : List A) (z : A) → ((i : ℕ) → i < length l → p (getD l i z) ≡ true) → every p l ≡ true
@@ -100,3 +100,14 @@ module _ (s : Still) (plan : ℕ → Block) where
 
       pub spot-predict : (plane : List ℕ) → predict s plan i plane (spot i r c l hr hc) ≡ predictedAt s (plan i) plane r c
       spot-predict plane = ap₂ (predictedAt s (plan i) plane) row-back col-back
+
+      -- a residual that is a sample less the prediction, and a sample that is the prediction plus the residual, by their block
+      pub spot-less : (o : ℕ) (v : List ℤ) (plane : List ℕ)
+          → residual s plan v i (spot i r c l hr hc) ≡ less o (predict s plan i plane (spot i r c l hr hc))
+          → getD v (place plan i + r * plan i .side + c) (pos 0) ≡ pos o -ℤ pos (predictedAt s (plan i) plane r c)
+      spot-less o v plane e = sym (spot-residual v) ∙ e ∙ ap (less o) (spot-predict plane)
+
+      pub spot-added : (x : ℕ) (v : List ℤ) (plane : List ℕ)
+          → x ≡ added s (predict s plan i plane (spot i r c l hr hc)) (residual s plan v i (spot i r c l hr hc))
+          → x ≡ added s (predictedAt s (plan i) plane r c) (getD v (place plan i + r * plan i .side + c) (pos 0))
+      spot-added x v plane e = e ∙ ap₂ (added s) (spot-predict plane) (spot-residual v)
