@@ -99,6 +99,13 @@ pub record ReplayGave (j : Task) (residuals : List ℤ) (x : Held (List ℕ)) (a
   pub counted : r .no ≡ 0 → (r .did ≡ min (a .grant) (count j - x .progress .done)) × ReplayDoes j residuals x (r .did) y
   pub refused : (r .no ≡ 0 → ⊥) → (r .did ≡ 0) × (y ≡ x)
 
+-- calls that were made through the doors, of any form, one after the other
+abbrev pub WalkMade : Task → List ℕ → Held World → List Ask → Held World → Type 0
+WalkMade j source = Made (λ x a y. (r : Stepped) × WalkGave j source x a r y)
+
+abbrev pub ReplayMade : Task → List ℤ → Held (List ℕ) → List Ask → Held (List ℕ) → Type 0
+ReplayMade j residuals = Made (λ x a y. (r : Stepped) × ReplayGave j residuals x a r y)
+
 -- A walk of every block that is not refused: some scratch with which it is served from the start, scratch of every call that is long
 -- enough, and grants that reach the count.
 pub record WalksAll (j : Task) (source : List ℕ) (w : World) (asks : List Ask) : Type 0 where
@@ -187,7 +194,13 @@ pub record Demand3 : Type 2 where
       → length rows ≡ length l → length cols ≡ length l → length sides ≡ length l → length modes ≡ length l
       → ((k : ℕ) → k < length l → planOf rows cols sides modes .block k ≡ listed l .block k) → planOf rows cols sides modes ≡ listed l
   -- Calls that were made through the doors, one after the other, are the chains above.
-  pub walk-made : (j : Task) (source : List ℕ) (x : Held World) (asks : List Ask) (y : Held World)
-      → Made (λ x a y. (r : Stepped) × WalkGave j source x a r y) x asks y → y ≡ calls (walkCall j source) x asks
+  pub walk-made : (j : Task) (source : List ℕ) (x : Held World) (asks : List Ask) (y : Held World) → WalkMade j source x asks y
+      → y ≡ calls (walkCall j source) x asks
   pub replay-made : (j : Task) (residuals : List ℤ) (x : Held (List ℕ)) (asks : List Ask) (y : Held (List ℕ))
-      → Made (λ x a y. (r : Stepped) × ReplayGave j residuals x a r y) x asks y → y ≡ calls (replayCall j residuals) x asks
+      → ReplayMade j residuals x asks y → y ≡ calls (replayCall j residuals) x asks
+  -- So a walk and a replay of its residuals, both made through the doors: the one is lossless, the other gives the source back.
+  pub of-doors : (j : Task) (source : List ℕ) (w : World) (asks : List Ask) → WalksAll j source w asks
+      → (x : Held World) → WalkMade j source (fresh w) asks x
+      → (plane : List ℕ) → Whole (j .still) plane → (again : List Ask) → Each Roomy again
+      → (y : Held (List ℕ)) → ReplayMade j (x .world .residuals) (fresh plane) again y
+      → LosslessWalk j source x × Replayed j source plane (min (granted again) (count j)) y

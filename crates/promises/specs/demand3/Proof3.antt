@@ -191,4 +191,13 @@ demand-3 = record {
   one-plan = numbers-listed;
   walk-made = λ j source x asks y m. made-calls (λ x a y g. g .1 .left) x asks y m;
   replay-made = λ j residuals x asks y m. made-calls (λ x a y g. g .1 .left) x asks y m;
+  of-doors = λ j source w asks h x m plane long again room y n.
+      let f = walk-told j source (fresh w) (h .tables) (h .served) in
+      let walk = made-calls (λ x a y g. g .1 .left) (fresh w) asks x m in
+      let replay = made-calls (λ x a y g. g .1 .left) (fresh plane) again y n in
+      let same = ap (λ (z : Held World). calls (replayCall j (z .world .residuals)) (fresh plane) again) walk in (
+        subst (LosslessWalk j source) (sym walk) (walk-all j source w f asks (h .room) (h .enough)),
+        subst (Replayed j source plane (min (granted again) (count j))) (sym (replay ∙ same))
+            (replay-all j source w f plane long again room asks (h .room) (h .enough) .1),
+      );
 }
