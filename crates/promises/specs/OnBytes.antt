@@ -14,7 +14,7 @@ use contract.Lifetimes.{Lfts}
 use denote.Ref.{RefT, now}
 use denote.Triple.Clauses.{AtExit}
 use Rattle.bytes.specs.Bytes.{le4, samplesOf, residualsOf}
-use Rattle.bytes.specs.Laws.{AreBytes}
+use Rattle.bytes.specs.Laws.{AreBytes, Below}
 use Rattle.plan.specs.declared.tiling.Block.{Block}
 use Rattle.plan.specs.records.Records.{recordOf}
 use Rattle.plan.specs.tiling.Plan.{listed}
@@ -129,7 +129,8 @@ pub record OnBytes : Type 1 where
   -- Any split into calls is one call with the sum of the grants, from any record, refused or not.
   pub split : (b : ByteJob) (x : Held (List ℕ)) → Fits b x → (asks : List ByteAsk) (a : ByteAsk) → Each Long asks → Long a
       → a .grant ≡ bytesGranted asks → calls (byteCall b) x asks ≡ byteCall b x a
-  -- Bytes there are for every list of residuals in an i32's range, and a walk's residuals are such.
+  -- Bytes there are for every list of samples of 16 bits and for every list of residuals in an i32's range, and a walk's residuals are such.
+  pub sample-spelling : (l : List ℕ) → Below l → (d : List ℕ) × AreBytes d × (length d ≡ 2 * length l) × (samplesOf d ≡ l)
   pub spelling : (v : List ℤ) → Each (SFits w32) v → (d : List ℕ) × AreBytes d × (length d ≡ 4 * length v) × (residualsOf d ≡ v)
   pub walk-spelt : (j : Task) (source : List ℕ) (w : World) (asks : List Ask) → WalksAll j source w asks
       → Each (SFits w32) (calls (walkCall j source) (fresh w) asks .world .residuals)

@@ -13,7 +13,7 @@ use mir.Val.{SFits}
 use borrow.Author.Tests.{eq-eqb, le-leb, leb-true}
 use Rattle.laws.specs.Choose.{served, worked, unserved, both-same, both-true}
 use Rattle.bytes.specs.Bytes.{samplesOf, bytesOf, residualsOf}
-use Rattle.bytes.specs.Laws.{length-samples, bytes-back}
+use Rattle.bytes.specs.Laws.{length-samples, length-bytes, bytes-back}
 use Rattle.plan.specs.declared.tiling.Verdict.{Verdict}
 use Rattle.plan.specs.RecordPlan.{recordsOf}
 use Rattle.walk.specs.declared.Progress.{Progress}
@@ -27,6 +27,7 @@ use Rattle.walk.specs.Lent.{scratchTables}
 use Rattle.camera.specs.replay.Verdict.{Lent, wholeBy, bytesFit, byteVerdict}
 use Rattle.camera.specs.replay.VerdictLaws.{fitting}
 use Rattle.camera.specs.replay.Door.{After, nextWritten, planeAfter, resultAfter, replayed}
+use Rattle.camera.specs.replay.Blocks.{samples-back, are-bytes}
 use Rattle.camera.specs.replay.Laws.{served-fits}
 use Rattle.camera.specs.replay.Spelt.{spelt-verdict, left}
 use Rattle.promises.specs.demand3.Calls.{Task, Ask, ask, Roomy, Each, AllServed, ReplaysServed, Held, held, count, fresh, calls, walkCall, replayVerdictAt, replayCall}
@@ -272,6 +273,7 @@ on-bytes = record {
       (own-room asks) refl
       ∙ ap (λ (k : ℕ). replayCall (speltTask b) (residualsOf (b .residuals)) (spelt x) (ask k scratchTables)) (sym e)
       ∙ sym (call-spells b x a f one));
+  sample-spelling = λ l h. (bytesOf l, are-bytes l, length-bytes l, samples-back l h);
   spelling = λ v h. (wordsOf v, words-are v, length-words v, residuals-back v h);
   walk-spelt = in-range;
   one-plan = bytes-listed;
