@@ -1,9 +1,12 @@
--- OnBytes: demand 3 for replays on bytes.
+-- What the owner asked for, on pages that a stranger reads. Demand1: the table of numbers at every public function that gives one, over
+-- its contract; tables and run_tables have the rows, and what a refusal leaves, one_answer that a contract settles its answer.
+pub mod Demand1
+-- Demand 2: gathering, smoothing and prediction are H.265's. Demand 3: walk and replay; OnBytes: the same for replays on bytes.
+pub mod demand2
+pub mod demand3
 pub mod OnBytes
 -- Program: intrawalk prints a refusal, or all blocks and `same`.
 pub mod Program
-pub mod demand2
-pub mod demand3
 pub mod tables
 pub mod run_tables
 pub mod one_answer

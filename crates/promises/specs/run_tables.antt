@@ -6,7 +6,5 @@
 pub mod TableWalk
 pub mod TableBytes
 pub mod TableProgram
--- Doors: the rows at every public function that gives a number, over its contract.
-pub mod Doors
 -- Refused: what a refused walk, replay or entry gives back, and that it leaves what is lent untouched.
 pub mod Refused

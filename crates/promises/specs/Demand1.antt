@@ -1,8 +1,9 @@
--- Document 01's table of numbers at every public function that gives one, over its contract as the prover reads it: whatever answer
--- meets the contract has the number that the rows of the theorem named last give, exactly when they give it. A function that hands on
--- another's number has its rows. `Post` takes the arguments, the answer and what is lent at exit: `a .0` is the first argument, `a .1 .0`
--- the second; `b`, `c` and `d` begin with the fifth, the ninth and the thirteenth. tests/doors finds a public function that gives a
--- number and has no theorem here. Rests on Table, TableWalk, TableBytes and TableProgram.
+-- Demand 1: document 01's table of numbers at every public function that gives one, over its contract as the prover reads it. Whatever
+-- answer meets the contract has the number that the rows of the theorem named last give, exactly when they give it. A function that hands
+-- on another's number has its rows. `Post` takes the arguments, the answer and what is lent at exit: `a .0` is the first argument,
+-- `a .1 .0` the second; `b`, `c` and `d` begin with the fifth, the ninth and the thirteenth. tests/doors finds a public function that
+-- gives a number and has no theorem here. What a refusal leaves: tables/Refused and run_tables/Refused. Rests on the rows of tables and
+-- run_tables.
 use mathlib.Core.Path.{_≡_, refl, sym, ap, _∙_, subst}
 use mathlib.Core.List.{List}
 use Prim.Native.Nat.{ℕ}
