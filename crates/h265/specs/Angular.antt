@@ -20,7 +20,7 @@ abbrev lookUp : List (ℕ × ℤ) → ℕ → ℤ
 lookUp [] mode = pos 0
 lookUp (entry ∷ table) mode = cond (eqb mode (entry .0)) (entry .1) (lookUp table mode)
 
--- Table 8-4
+-- Table 8-4, intraPredAngle by mode
 unfoldable pub intraPredAngle : ℕ → ℤ
 intraPredAngle =
     lookUp
@@ -30,7 +30,7 @@ intraPredAngle =
     ∷ 26 ⇒ 0 ∷ 27 ⇒ 2 ∷ 28 ⇒ 5 ∷ 29 ⇒ 9 ∷ 30 ⇒ 13 ∷ 31 ⇒ 17 ∷ 32 ⇒ 21 ∷ 33 ⇒ 26 ∷ 34 ⇒ 32
     ∷ [])
 
--- Table 8-5
+-- Table 8-5, invAngle by mode; 0 where there is none
 unfoldable pub invAngle : ℕ → ℤ
 invAngle =
     lookUp

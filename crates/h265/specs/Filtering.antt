@@ -2,7 +2,7 @@
 use Prim.Native.Nat.{ℕ, _+_, _-_, _*_, _^_, min}
 use mathlib.Core.Bool.{Bool, cond, not, _&&_, _||_}
 use lib.Dec.{ltb, eqb}
-use lib.IntN.{ℤ, pos, natAbs, _+ℤ_, _-ℤ_}
+use lib.IntN.{pos, natAbs, _+ℤ_, _-ℤ_}
 use Rattle.h265.specs.Notation.{−1, Neighbours, near, _⟦_⟧⟦_⟧, _>>ℕ_}
 
 -- minDistVerHor, and intraHorVerDistThres for nTbS = 8, 16, 32

@@ -12,7 +12,6 @@ pub mod scratch_angular;
 pub mod scratch_predict;
 
 ghost use mathlib.Core.Path.{_≡_};
-ghost use mathlib.Core.Bool.{true};
 ghost use Rattle.h265.specs.Setting.{lumaAt, firstEditionStrong};
 ghost use Rattle.h265.specs.Prediction.{predSamples};
 ghost use Rattle.domain.specs.rows.Neighbours.{neighboursOf};

@@ -1,7 +1,6 @@
 // A block of either kind in any mode with the scratch struct, lent by `&mut`: each entry takes its three tables apart and calls
 // the form over slices. Rests on those forms. A call that makes its own scratch stands beside each entry.
 ghost use mathlib.Core.Path.{_≡_};
-ghost use mathlib.Core.Bool.{true};
 ghost use Rattle.h265.specs.Setting.{lumaAt, firstEditionStrong};
 ghost use Rattle.h265.specs.Prediction.{predSamples};
 ghost use Rattle.domain.specs.rows.Neighbours.{neighboursOf};

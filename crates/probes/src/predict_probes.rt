@@ -1,7 +1,6 @@
 // Entries at native types for the runs of prediction, residual and reconstruction against the Rust: each calls a door.
 // Rests on the doors' contracts.
 ghost use mathlib.Core.Path.{_≡_};
-ghost use mathlib.Core.Bool.{true};
 ghost use lib.ListN.{length};
 ghost use Rattle.h265.specs.Planar.{planar};
 ghost use Rattle.h265.specs.Dc.{dc};

@@ -1,7 +1,7 @@
 -- Document 01, 'use from C': what planar, DC, angular prediction and a chroma block on bytes give back and write, and their numbers.
 -- Numbers count bytes. Rests on the standard's clauses.
 use Prim.Native.Nat.{ℕ, _*_, _/_, _%_}
-use mathlib.Core.Bool.{Bool, true, not, _&&_}
+use mathlib.Core.Bool.{Bool, not, _&&_}
 use mathlib.Core.List.{List, [], _∷_}
 use lib.Dec.{leb, eqb}
 use lib.ListN.{length, getD, replicate}

@@ -1,6 +1,5 @@
 -- Document 01, 'Plan, walk, replay': the prediction of one block of a still, from a plane in rows. It is H.265's own. Assumes nothing.
 use Prim.Native.Nat.{ℕ, _+_, _*_}
-use mathlib.Core.Bool.{true}
 use mathlib.Core.List.{List}
 use lib.ListN.{getD}
 use Rattle.h265.specs.Setting.{lumaAt, firstEditionStrong}

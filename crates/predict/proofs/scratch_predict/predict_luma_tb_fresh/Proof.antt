@@ -1,7 +1,6 @@
 -- `scratch_predict::predict_luma_tb_fresh` meets its contract: a walk of its code by hand. The scratch is made in a local, lent to `predict_luma_tb_into` and comes back (proofs/Local);
 -- the block is given to the callee for good. All that the proof knows of the callees is their contracts.
 use mathlib.Core.Path.{_≡_, refl}
-use mathlib.Core.Bool.{true}
 use Prim.Native.Nat.{ℕ, _<_, _^_}
 use mathlib.Core.List.{List, [], _∷_}
 use lib.ListN.{length}

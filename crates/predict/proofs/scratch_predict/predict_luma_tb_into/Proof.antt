@@ -1,7 +1,6 @@
 -- `scratch_predict::predict_luma_tb_into` meets its contract: a walk of its code by hand. The tables are lent out of the struct for the call of `predict::predict_luma_tb_slices`
 -- and taken back (proofs/Tables). The block is given to the callee for good. All that the proof knows of the callee is its contract.
 use mathlib.Core.Path.{_≡_, refl, _∙_}
-use mathlib.Core.Bool.{true}
 use Prim.Native.Nat.{ℕ, _+_, _<_, _^_}
 use mathlib.Core.List.{List, [], _∷_}
 use lib.ListN.{length}
