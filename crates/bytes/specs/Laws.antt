@@ -66,7 +66,8 @@ sample-at (x ∷ y ∷ b) (suc i) at e h =
     sample-at b i (2 * i) refl (omega arith) ∙ ap₂ (λ (u v : ℕ). le2 (getD (x ∷ y ∷ b) u 0) (getD (x ∷ y ∷ b) v 0)) (sym z) (sym s)
 
 -- two bytes stored are a sample stored
-pub store-sample : (b : List ℕ) (i at x y v : ℕ) → at ≡ 2 * i → length b % 2 ≡ 0 → v ≡ le2 x y → samplesOf (set (set b at x) (at + 1) y) ≡ set (samplesOf b) i v
+pub store-sample : (b : List ℕ) (i at x y v : ℕ) → at ≡ 2 * i → length b % 2 ≡ 0 → v ≡ le2 x y → samplesOf (set (set b at x) (at + 1) y)
+    ≡ set (samplesOf b) i v
 unfolding samplesOf
 store-sample [] i at x y v e h q = refl
 store-sample (a ∷ []) i at x y v e h q = absurd (omega arith)
@@ -77,7 +78,8 @@ store-sample (a ∷ b ∷ l) zero at x y v e h q =
 store-sample (a ∷ b ∷ l) (suc i) at x y v e h q =
     let z : at ≡ suc (suc (2 * i)) = omega arith in
     let s : at + 1 ≡ suc (suc (2 * i + 1)) = omega arith in
-    ap₂ (λ (j k : ℕ). samplesOf (set (set (a ∷ b ∷ l) j x) k y)) z s ∙ ap (λ (r : List ℕ). le2 a b ∷ r) (store-sample l i (2 * i) x y v refl (omega arith) q)
+    ap₂ (λ (j k : ℕ). samplesOf (set (set (a ∷ b ∷ l) j x) k y)) z s
+    ∙ ap (λ (r : List ℕ). le2 a b ∷ r) (store-sample l i (2 * i) x y v refl (omega arith) q)
 
 -- bytes that are whole samples, as samples and back
 pub bytes-back : (b : List ℕ) → length b % 2 ≡ 0 → AreBytes b → bytesOf (samplesOf b) ≡ b
@@ -106,7 +108,8 @@ pub residual-in : (b : List ℕ) (i : ℕ) → i < length (residualsOf b) → 4 
 residual-in b i h = omega (arith, length-residuals b)
 
 -- residual i is the four bytes from 4 i on
-pub residual-at : (b : List ℕ) (i at : ℕ) → at ≡ 4 * i → at + 3 < length b → getD (residualsOf b) i (pos 0) ≡ residual4 (getD b at 0) (getD b (at + 1) 0) (getD b (at + 2) 0) (getD b (at + 3) 0)
+pub residual-at : (b : List ℕ) (i at : ℕ) → at ≡ 4 * i → at + 3 < length b → getD (residualsOf b) i (pos 0)
+    ≡ residual4 (getD b at 0) (getD b (at + 1) 0) (getD b (at + 2) 0) (getD b (at + 3) 0)
 unfolding residualsOf
 residual-at [] i at e h = absurd (omega arith)
 residual-at (x ∷ []) i at e h = absurd (omega arith)
@@ -127,7 +130,8 @@ residual-at (x ∷ y ∷ z ∷ t ∷ b) (suc i) at e h =
 
 -- eight stores are the pair
 pub pair-stored : (d : List ℕ) (v w : ℕ) → 8 ≤ length d
-    → set (set (set (set (set (set (set (set d 0 (v % 256)) 1 (byte1 v)) 2 (byte2 v)) 3 (byte3 v)) 4 (w % 256)) 5 (byte1 w)) 6 (byte2 w)) 7 (byte3 w) ≡ pairInto v w d
+    → set (set (set (set (set (set (set (set d 0 (v % 256)) 1 (byte1 v)) 2 (byte2 v)) 3 (byte3 v)) 4 (w % 256)) 5 (byte1 w)) 6 (byte2 w))
+    7 (byte3 w) ≡ pairInto v w d
 unfolding pairInto
 pair-stored (a ∷ b ∷ c ∷ d ∷ e ∷ f ∷ g ∷ h ∷ l) v w k = refl
 pair-stored [] v w k = absurd (omega arith)
@@ -146,7 +150,8 @@ halved len k = by (eqb len (2 * k)) refl (eqb (len % 2) 0 && eqb (len / 2) k) re
     by : (t : Bool) → eqb len (2 * k) ≡ t → (u : Bool) → (eqb (len % 2) 0 && eqb (len / 2) k) ≡ u → u ≡ t
     by true e true h = refl
     by false e false h = refl
-    by true e false h = let q = eqb-true len (2 * k) e in sym h ∙ both-same (eq-eqb (len % 2) 0 (omega arith)) (eq-eqb (len / 2) k (omega arith))
+    by true e false h = let q = eqb-true len (2 * k) e in sym h
+        ∙ both-same (eq-eqb (len % 2) 0 (omega arith)) (eq-eqb (len / 2) k (omega arith))
     by false e true h =
         let b = both-true (eqb (len % 2) 0) (eqb (len / 2) k) h in
         let p = eqb-true (len % 2) 0 (b .0) in

@@ -36,7 +36,8 @@ two v a b e = ⊎-elim (λ h. inl (eqb-true v a h)) (λ h. inr (eqb-true v b h))
 
 three : (v a b c : ℕ) → (eqb v a || eqb v b || eqb v c) ≡ true → (v ≡ a) ⊎ ((v ≡ b) ⊎ (v ≡ c))
 three v a b c e =
-    ⊎-elim (λ h. ⊎-elim inl (λ g. inr (inl g)) (two v a b h)) (λ h. inr (inr (eqb-true v c h))) (either-true (eqb v a || eqb v b) (eqb v c) e)
+    ⊎-elim (λ h. ⊎-elim inl (λ g. inr (inl g)) (two v a b h)) (λ h. inr (inr (eqb-true v c h)))
+    (either-true (eqb v a || eqb v b) (eqb v c) e)
 
 pub depth-of : (bits : ℕ) → depthOk bits ≡ true → Depth bits
 depth-of bits e = three bits 8 10 12 e
@@ -63,7 +64,8 @@ side-of s e =
 -- what holds at each number of a kind holds of any of them
 pub at-size : (P : ℕ → Type 0) → P 4 → P 8 → P 16 → P 32 → (n : ℕ) → Size n → P n
 at-size P a b c d n s =
-    ⊎-elim (λ e. subst P (sym e) a) (λ r. ⊎-elim (λ e. subst P (sym e) b) (λ q. ⊎-elim (λ e. subst P (sym e) c) (λ e. subst P (sym e) d) q) r) s
+    ⊎-elim (λ e. subst P (sym e) a) (λ r. ⊎-elim (λ e. subst P (sym e) b)
+    (λ q. ⊎-elim (λ e. subst P (sym e) c) (λ e. subst P (sym e) d) q) r) s
 
 pub at-depth : (P : ℕ → Type 0) → P 8 → P 10 → P 12 → (bits : ℕ) → Depth bits → P bits
 at-depth P a b c bits s = ⊎-elim (λ e. subst P (sym e) a) (λ r. ⊎-elim (λ e. subst P (sym e) b) (λ e. subst P (sym e) c) r) s

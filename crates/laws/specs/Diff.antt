@@ -28,7 +28,8 @@ as-sub a = ap pos (let e : a ≡ a - 0 = omega arith in e) ∙ sym (sub-pos a 0 
 -- two differences are equal where the sums across are
 pub sub-eq : (a b c d : ℕ) → a + d ≡ c + b → subℕ a b ≡ subℕ c d
 sub-eq a b c d e =
-    ⊎-elim (λ h. sub-neg a b h ∙ ap negsuc (omega arith) ∙ sym (sub-neg c d (omega arith))) (λ h. sub-pos a b h ∙ ap pos (omega arith) ∙ sym (sub-pos c d (omega arith)))
+    ⊎-elim (λ h. sub-neg a b h ∙ ap negsuc (omega arith) ∙ sym (sub-neg c d (omega arith)))
+    (λ h. sub-pos a b h ∙ ap pos (omega arith) ∙ sym (sub-pos c d (omega arith)))
     (order a b)
 
 -- sums, products and shifts of differences
@@ -73,7 +74,8 @@ pub sub-le : (a b c d : ℕ) → a + d ≤ c + b → leZ (subℕ a b) (subℕ c 
 sub-le a b c d e =
     ⊎-elim
     (λ h.
-    ⊎-elim (λ k. rw (sub-neg a b h, sub-neg c d k) (le-leb (d - suc c) (b - suc a) (omega arith))) (λ k. rw (sub-neg a b h, sub-pos c d k)) (order c d))
+    ⊎-elim (λ k. rw (sub-neg a b h, sub-neg c d k) (le-leb (d - suc c) (b - suc a) (omega arith)))
+    (λ k. rw (sub-neg a b h, sub-pos c d k)) (order c d))
     (λ h. rw (sub-pos a b h, sub-pos c d (omega arith)) (le-leb (a - b) (c - d) (omega arith)))
     (order a b)
 
@@ -81,6 +83,7 @@ pub sub-lt : (a b c d : ℕ) → a + d < c + b → ltZ (subℕ a b) (subℕ c d)
 sub-lt a b c d e =
     ⊎-elim
     (λ h.
-    ⊎-elim (λ k. rw (sub-neg a b h, sub-neg c d k) (lt-ltb (d - suc c) (b - suc a) (omega arith))) (λ k. rw (sub-neg a b h, sub-pos c d k)) (order c d))
+    ⊎-elim (λ k. rw (sub-neg a b h, sub-neg c d k) (lt-ltb (d - suc c) (b - suc a) (omega arith)))
+    (λ k. rw (sub-neg a b h, sub-pos c d k)) (order c d))
     (λ h. rw (sub-pos a b h, sub-pos c d (omega arith)) (lt-ltb (a - b) (c - d) (omega arith)))
     (order a b)

@@ -3,7 +3,8 @@ use mathlib.Core.Path.{_≡_, refl, ap, _∙_}
 use mathlib.Core.Logic.{⊎-elim}
 use mathlib.Core.List.{List}
 use Prim.Native.Nat.{ℕ, zero, suc, _+_, _*_, _/_, _%_, _≤_, _<_}
-use native.Mathlib.Nat.{eq-or-lt-of-le, le-of-suc-le-suc, not-suc-le-zero, add-zero, add-suc, add-mul, one-mul, zero-mul, div-lt-iff-lt-mul, mod-lt}
+use native.Mathlib.Nat.{eq-or-lt-of-le, le-of-suc-le-suc, not-suc-le-zero, add-zero, add-suc, add-mul, one-mul, zero-mul}
+use native.Mathlib.Nat.{div-lt-iff-lt-mul, mod-lt}
 use native.Mathlib.Numerals.{add-one}
 use native.Mathlib.Omega.{arith}
 use lib.ListN.{length, getD, set, length-set}
@@ -61,7 +62,8 @@ module _ {A : Type 0} where
   unfolding run
   run-none g a d = refl
 
-  pub run-more : (g : ℕ → A) (a : ℕ) (d : List A) {i : ℕ} {e : List A} {v : A} → e ≡ run g a i d → v ≡ g i → set e (a + i) v ≡ run g a (i + 1) d
+  pub run-more : (g : ℕ → A) (a : ℕ) (d : List A) {i : ℕ} {e : List A} {v : A} → e ≡ run g a i d → v ≡ g i → set e (a + i) v
+      ≡ run g a (i + 1) d
   unfolding run
   run-more g a d p q = rw (add-one, p, q)
 
@@ -108,7 +110,8 @@ module _ {A : Type 0} where
       (eq-or-lt-of-le (le-of-suc-le-suc h))
 
   -- blocks whose samples are the same
-  pub rows-same : (g h : ℕ → ℕ → A) (n m : ℕ) (d : List A) → ((r c : ℕ) → r < m → c < n → g r c ≡ h r c) → zero < n → rows g n m d ≡ rows h n m d
+  pub rows-same : (g h : ℕ → ℕ → A) (n m : ℕ) (d : List A) → ((r c : ℕ) → r < m → c < n → g r c ≡ h r c) → zero < n → rows g n m d
+      ≡ rows h n m d
   unfolding rows
   rows-same g h n m d same p =
       fill-same _ _ (m * n) d (λ i l. same (i / n) (i % n) (div-lt-iff-lt-mul p .1 l) (mod-lt i p))
@@ -119,7 +122,8 @@ module _ {A : Type 0} where
   run-same f g a (suc k) d h = rw (run-same f g a k d (λ j l. h j (omega arith)), h k (omega arith))
 
   -- what a block's entries are
-  pub rows-at : (g : ℕ → ℕ → A) (n m : ℕ) (d : List A) (r c : ℕ) (z : A) → r < m → c < n → m * n ≤ length d → getD (rows g n m d) (r * n + c) z ≡ g r c
+  pub rows-at : (g : ℕ → ℕ → A) (n m : ℕ) (d : List A) (r c : ℕ) (z : A) → r < m → c < n → m * n ≤ length d
+      → getD (rows g n m d) (r * n + c) z ≡ g r c
   unfolding rows
   rows-at g n m d r c z hr hc l =
       let h = digits-lt {q = r} {m = m} {r = c} {c = n} hr hc in

@@ -35,7 +35,8 @@ drawnRow seed top = drawn seed top (replicate 65 0)
 -- whether the first k entries from a place on are a line's words from a word on; what lies past an end counts as 0
 unfoldable pub sameFrom : List ℕ → ℕ → List ℕ → ℕ → ℕ → Bool
 sameFrom line first written place zero = true
-sameFrom line first written place (suc k) = sameFrom line first written place k && eqb (wordAt line (9 * (first + k))) (getD written (place + k) 0)
+sameFrom line first written place (suc k) = sameFrom line first written place k
+    && eqb (wordAt line (9 * (first + k))) (getD written (place + k) 0)
 
 -- one call more, which gave what the list has or not; a count stays at its largest
 abbrev pub more : ℕ → ℕ

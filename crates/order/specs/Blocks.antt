@@ -25,7 +25,8 @@ use Rattle.order.specs.declared.Shifts.{Shifts}
 use Rattle.order.specs.declared.Site.{Site}
 use Rattle.order.specs.Order.{pictureOk, placeOk, numberAt, before}
 use Rattle.order.specs.Good.{Good, sized, shiftsOf, small-of}
-use Rattle.order.specs.Reach.{cornerHas, aboveHas, leftHas, leading, reachBy, inPlane, lumaPlaceOk, lumaReachNo, lumaHas, chromaHeight, chromaWidth, hasChroma, chromaBlockOk, chromaPlaceOk, chromaReachNo, chromaHas}
+use Rattle.order.specs.Reach.{cornerHas, aboveHas, leftHas, leading, reachBy, inPlane, lumaPlaceOk, lumaReachNo, lumaHas}
+use Rattle.order.specs.Reach.{chromaHeight, chromaWidth, hasChroma, chromaBlockOk, chromaPlaceOk, chromaReachNo, chromaHas}
 use Rattle.order.specs.Edges.{numberBy, Sited, aboveThere, leftThere, cornerThere, edgesOf}
 use Rattle.order.specs.Walk.{span}
 
@@ -48,7 +49,12 @@ in-plane height width row col n e =
     let a = both-true (eqb (row % n) 0 && eqb (col % n) 0 && leb (row + n) height) (leb (col + n) width) e in
     let b = both-true (eqb (row % n) 0 && eqb (col % n) 0) (leb (row + n) height) (a .0) in
     let c = both-true (eqb (row % n) 0) (eqb (col % n) 0) (b .0) in
-    record { row-at = eqb-true (row % n) 0 (c .0); col-at = eqb-true (col % n) 0 (c .1); row-in = leb-true (row + n) height (b .1); col-in = leb-true (col + n) width (a .1) }
+    record {
+      row-at = eqb-true (row % n) 0 (c .0);
+      col-at = eqb-true (col % n) 0 (c .1);
+      row-in = leb-true (row + n) height (b .1);
+      col-in = leb-true (col + n) width (a .1);
+    }
 
 -- Luma
 pub record LumaFine (b : LumaBlock) : Type 0 where
@@ -93,7 +99,8 @@ pub record Over (e : Site) (height width row col : ℕ) : Type 0 where
 together : (v side step : ℕ) → v ≤ side → v * step + (side - v) * step ≡ side * step
 together v side step h = sym (add-mul v (side - v) step) ∙ ap (λ (k : ℕ). k * step) (let q : v + (side - v) ≡ side = omega arith in q)
 
-sited : (p : Picture) (s : Shifts) (e : Site) (height width row col n : ℕ) → Good p → s ≡ shiftsOf p → Size n → InPlane height width row col n → Over e height width row col
+sited : (p : Picture) (s : Shifts) (e : Site) (height width row col n : ℕ) → Good p → s ≡ shiftsOf p → Size n
+    → InPlane height width row col n → Over e height width row col
     → height * e .down ≤ 4096 → width * e .across ≤ 4096 → Sited s e (p .unit) n
 sited p s e height width row col n g es size i o tall wide =
     let some = size-small n size in
@@ -141,7 +148,8 @@ past v i side = go (decLt (v + i) side)
     go (no h) = le-ltb i (side - v) (omega arith) ∙ sym (le-ltb (v + i) side (omega arith))
 
 -- where the rule's tests are those of the numbers below a limit, the code's rule is that rule
-module _ {has : ℤ → ℤ → Bool} {height width : ℕ} {there : ℕ → ℕ → Bool} (t : TellsEach has height width there) (s : Shifts) (e : Site) (row col : ℕ)
+module _ {has : ℤ → ℤ → Bool} {height width : ℕ} {there : ℕ → ℕ → Bool} (t : TellsEach has height width there) (s : Shifts) (e : Site)
+    (row col : ℕ)
     (rin : row < height) (cin : col < width) (o : Over e height width row col) where
   abbrev Limits : ℕ → ℕ → ℕ → Type 0
   Limits limit r c = there r c ≡ ltb (numberBy s (r * e .down) (c * e .across)) limit
@@ -151,22 +159,26 @@ module _ {has : ℤ → ℤ → Bool} {height width : ℕ} {there : ℕ → ℕ 
   none-before v step x ex z = le-ltb 0 x (omega (arith, ap (λ (k : ℕ). k * step) z ∙ zero-mul step))
 
   some-before : (v step x : ℕ) → x ≡ v * step → Subsampling step → 0 < v → ltb 0 x ≡ true
-  some-before v step x ex q h = lt-ltb 0 x (⊎-elim (λ w. omega (arith, ap (λ (k : ℕ). v * k) w)) (λ w. omega (arith, ap (λ (k : ℕ). v * k) w)) q)
+  some-before v step x ex q h = lt-ltb 0 x (⊎-elim (λ w. omega (arith, ap (λ (k : ℕ). v * k) w))
+      (λ w. omega (arith, ap (λ (k : ℕ). v * k) w)) q)
 
   above-are : (limit i : ℕ) → ((c : ℕ) → 0 < row → Limits limit (row - 1) c) → aboveThere s e limit i ≡ aboveHas has row col i
   above-are limit i same = go (decLt 0 row)
     where
       go : Dec (0 < row) → aboveThere s e limit i ≡ aboveHas has row col i
       go (yes h) =
-          ap (λ (b : Bool). b && ltb i (e .cols) && ltb (numberBy s (e .above .0) (e .col .0 + i * e .across)) limit) (some-before row (e .down) (e .row .0) (o .row-is) (o .downs) h)
+          ap (λ (b : Bool). b && ltb i (e .cols) && ltb (numberBy s (e .above .0) (e .col .0 + i * e .across)) limit)
+          (some-before row (e .down) (e .row .0) (o .row-is) (o .downs) h)
           ∙ both-same (ap (ltb i) (o .cols-are) ∙ past col i width)
-          (ap₂ (λ (y x : ℕ). ltb (numberBy s y x) limit) (o .above-is) (ap (λ (x : ℕ). x + i * e .across) (o .col-is) ∙ sym (add-mul col i (e .across))) ∙ sym (same (col + i) h))
+          (ap₂ (λ (y x : ℕ). ltb (numberBy s y x) limit) (o .above-is)
+          (ap (λ (x : ℕ). x + i * e .across) (o .col-is) ∙ sym (add-mul col i (e .across))) ∙ sym (same (col + i) h))
           ∙ sym (ap (λ (b : Bool). b && ltb (col + i) width && there (row - 1) (col + i)) (lt-ltb (row - 1) height (omega arith)))
           ∙ sym (t .inside (row - 1) (col + i))
           ∙ sym (ap (λ (z : ℤ). has z (pos (col + i))) (up row h))
       go (no h) =
           let z : row ≡ 0 = omega arith in
-          ap (λ (b : Bool). b && ltb i (e .cols) && ltb (numberBy s (e .above .0) (e .col .0 + i * e .across)) limit) (none-before row (e .down) (e .row .0) (o .row-is) z)
+          ap (λ (b : Bool). b && ltb i (e .cols) && ltb (numberBy s (e .above .0) (e .col .0 + i * e .across)) limit)
+          (none-before row (e .down) (e .row .0) (o .row-is) z)
           ∙ sym (ap (λ (r : ℕ). has (pos r -ℤ pos 1) (pos (col + i))) z ∙ t .top 0 (pos (col + i)))
 
   left-are : (limit i : ℕ) → ((r : ℕ) → row ≤ r → Limits limit r (col - 1)) → leftThere s e limit i ≡ leftHas has row col i
@@ -174,9 +186,11 @@ module _ {has : ℤ → ℤ → Bool} {height width : ℕ} {there : ℕ → ℕ 
     where
       go : Dec (0 < col) → leftThere s e limit i ≡ leftHas has row col i
       go (yes h) =
-          ap (λ (b : Bool). b && ltb i (e .rows) && ltb (numberBy s (e .row .0 + i * e .down) (e .left .0)) limit) (some-before col (e .across) (e .col .0) (o .col-is) (o .acrosses) h)
+          ap (λ (b : Bool). b && ltb i (e .rows) && ltb (numberBy s (e .row .0 + i * e .down) (e .left .0)) limit)
+          (some-before col (e .across) (e .col .0) (o .col-is) (o .acrosses) h)
           ∙ both-same (ap (ltb i) (o .rows-are) ∙ past row i height)
-          (ap₂ (λ (y x : ℕ). ltb (numberBy s y x) limit) (ap (λ (y : ℕ). y + i * e .down) (o .row-is) ∙ sym (add-mul row i (e .down))) (o .left-is) ∙ sym (same (row + i) (omega arith)))
+          (ap₂ (λ (y x : ℕ). ltb (numberBy s y x) limit) (ap (λ (y : ℕ). y + i * e .down) (o .row-is) ∙ sym (add-mul row i (e .down)))
+          (o .left-is) ∙ sym (same (row + i) (omega arith)))
           ∙ sym (middle (ltb (row + i) height) (there (row + i) (col - 1)) (lt-ltb (col - 1) width (omega arith)))
           ∙ sym (t .inside (row + i) (col - 1))
           ∙ sym (ap (λ (z : ℤ). has (pos (row + i)) z) (up col h))
@@ -186,7 +200,8 @@ module _ {has : ℤ → ℤ → Bool} {height width : ℕ} {there : ℕ → ℕ 
           middle false c q = refl
       go (no h) =
           let z : col ≡ 0 = omega arith in
-          ap (λ (b : Bool). b && ltb i (e .rows) && ltb (numberBy s (e .row .0 + i * e .down) (e .left .0)) limit) (none-before col (e .across) (e .col .0) (o .col-is) z)
+          ap (λ (b : Bool). b && ltb i (e .rows) && ltb (numberBy s (e .row .0 + i * e .down) (e .left .0)) limit)
+          (none-before col (e .across) (e .col .0) (o .col-is) z)
           ∙ sym (ap (λ (c : ℕ). has (pos (row + i)) (pos c -ℤ pos 1)) z ∙ t .side (row + i) 0)
 
   corner-is : (limit : ℕ) → ((c : ℕ) → 0 < row → Limits limit (row - 1) c) → cornerThere s e limit ≡ cornerHas has row col
@@ -194,23 +209,29 @@ module _ {has : ℤ → ℤ → Bool} {height width : ℕ} {there : ℕ → ℕ 
     where
       go : Dec (0 < row) → Dec (0 < col) → cornerThere s e limit ≡ cornerHas has row col
       go (yes h) (yes k) =
-          ap₂ (λ (a b : Bool). a && b && ltb (numberBy s (e .above .0) (e .left .0)) limit) (some-before row (e .down) (e .row .0) (o .row-is) (o .downs) h) (some-before col (e .across) (e .col .0) (o .col-is) (o .acrosses) k)
+          ap₂ (λ (a b : Bool). a && b && ltb (numberBy s (e .above .0) (e .left .0)) limit)
+          (some-before row (e .down) (e .row .0) (o .row-is) (o .downs) h)
+          (some-before col (e .across) (e .col .0) (o .col-is) (o .acrosses) k)
           ∙ ap₂ (λ (y x : ℕ). ltb (numberBy s y x) limit) (o .above-is) (o .left-is)
           ∙ sym (same (col - 1) h)
-          ∙ sym (ap₂ (λ (a b : Bool). a && b && there (row - 1) (col - 1)) (lt-ltb (row - 1) height (omega arith)) (lt-ltb (col - 1) width (omega arith)))
+          ∙ sym (ap₂ (λ (a b : Bool). a && b && there (row - 1) (col - 1)) (lt-ltb (row - 1) height (omega arith))
+          (lt-ltb (col - 1) width (omega arith)))
           ∙ sym (t .inside (row - 1) (col - 1))
           ∙ sym (ap₂ has (up row h) (up col k))
       go (yes h) (no k) =
           let z : col ≡ 0 = omega arith in
-          ap₂ (λ (a b : Bool). a && b && ltb (numberBy s (e .above .0) (e .left .0)) limit) (some-before row (e .down) (e .row .0) (o .row-is) (o .downs) h) (none-before col (e .across) (e .col .0) (o .col-is) z)
+          ap₂ (λ (a b : Bool). a && b && ltb (numberBy s (e .above .0) (e .left .0)) limit)
+          (some-before row (e .down) (e .row .0) (o .row-is) (o .downs) h) (none-before col (e .across) (e .col .0) (o .col-is) z)
           ∙ sym (ap₂ (λ (r : ℤ) (c : ℕ). has r (pos c -ℤ pos 1)) (up row h) z ∙ t .side (row - 1) 0)
       go (no h) k =
           let z : row ≡ 0 = omega arith in
-          ap (λ (a : Bool). a && ltb 0 (e .col .0) && ltb (numberBy s (e .above .0) (e .left .0)) limit) (none-before row (e .down) (e .row .0) (o .row-is) z)
+          ap (λ (a : Bool). a && ltb 0 (e .col .0) && ltb (numberBy s (e .above .0) (e .left .0)) limit)
+          (none-before row (e .down) (e .row .0) (o .row-is) z)
           ∙ sym (ap (λ (r : ℕ). has (pos r -ℤ pos 1) (pos col -ℤ pos 1)) z ∙ t .top 0 (pos col -ℤ pos 1))
 
   -- so are the reaches by the two, with a limit for the corner and the row above, and one for the left column
-  reach-is : (n high low : ℕ) → ((c : ℕ) → 0 < row → Limits high (row - 1) c) → ((r : ℕ) → row ≤ r → Limits low r (col - 1)) → edgesOf s e n high low ≡ reachBy 0 has row col n
+  reach-is : (n high low : ℕ) → ((c : ℕ) → 0 < row → Limits high (row - 1) c) → ((r : ℕ) → row ≤ r → Limits low r (col - 1))
+      → edgesOf s e n high low ≡ reachBy 0 has row col n
   reach-is n high low up-same left-same =
       let corner = corner-is high up-same in
       let above : aboveThere s e high ≡ aboveHas has row col = fun-ext (λ i. above-are high i up-same) in
@@ -244,29 +265,35 @@ luma-over b =
       cols-are = refl;
     }
 
-pub luma-sited : (b : LumaBlock) → LumaFine b → (s : Shifts) (e : Site) → s ≡ shiftsOf (b .picture) → e ≡ lumaSite b → Sited s e (b .picture .unit) (b .n)
+pub luma-sited : (b : LumaBlock) → LumaFine b → (s : Shifts) (e : Site) → s ≡ shiftsOf (b .picture) → e ≡ lumaSite b
+    → Sited s e (b .picture .unit) (b .n)
 luma-sited b f s e es ee =
     subst (λ (m : Site). Sited s m (b .picture .unit) (b .n)) (sym ee)
-    (sited (b .picture) s (lumaSite b) (b .picture .height) (b .picture .width) (b .row .0) (b .col .0) (b .n) (f .good) es (f .size) (f .placed) (luma-over b)
+    (sited (b .picture) s (lumaSite b) (b .picture .height) (b .picture .width) (b .row .0) (b .col .0) (b .n) (f .good) es (f .size)
+    (f .placed) (luma-over b)
     (omega (arith, f .good .tall .high)) (omega (arith, f .good .wide .high)))
 
-luma-tells : (b : LumaBlock) → TellsEach (lumaHas b) (b .picture .height) (b .picture .width) (λ r c. ltb (numberAt (b .picture) r c) (numberAt (b .picture) (b .row .0) (b .col .0)))
+luma-tells : (b : LumaBlock) → TellsEach (lumaHas b) (b .picture .height) (b .picture .width)
+    (λ r c. ltb (numberAt (b .picture) r c) (numberAt (b .picture) (b .row .0) (b .col .0)))
 unfolding before
 luma-tells b = record { inside = λ r c. refl; top = λ r c. refl; side = λ r c. refl }
 
 -- the code's rule over the luma plane is the luma rule
 pub luma-edges : (b : LumaBlock) → LumaFine b → (s : Shifts) (e : Site) (cur : ℕ) (r : Reach) → s ≡ shiftsOf (b .picture) → e ≡ lumaSite b
-    → cur ≡ numberAt (b .picture) (b .row .0) (b .col .0) → r ≡ edgesOf s e (b .n) cur cur → r ≡ reachBy 0 (lumaHas b) (b .row .0) (b .col .0) (b .n)
+    → cur ≡ numberAt (b .picture) (b .row .0) (b .col .0) → r ≡ edgesOf s e (b .n) cur cur → r
+    ≡ reachBy 0 (lumaHas b) (b .row .0) (b .col .0) (b .n)
 unfolding numberAt minTbAddrZs
 luma-edges b f s e cur r es ee ec er =
     let p = b .picture in
     let k = numberAt p (b .row .0) (b .col .0) in
     let some = size-small (b .n) (f .size) in
-    let same : (y x : ℕ) → ltb (numberAt p y x) k ≡ ltb (numberBy (shiftsOf p) (y * 1) (x * 1)) k = λ y x. ap₂ (λ (v u : ℕ). ltb (numberAt p v u) k) (sym (mul-one y)) (sym (mul-one x)) in
+    let same : (y x : ℕ) → ltb (numberAt p y x) k ≡ ltb (numberBy (shiftsOf p) (y * 1) (x * 1)) k = λ y x. ap₂
+    (λ (v u : ℕ). ltb (numberAt p v u) k) (sym (mul-one y)) (sym (mul-one x)) in
     er
     ∙ ap (λ (j : ℕ). edgesOf s e (b .n) j j) ec
     ∙ ap₂ (λ (t : Shifts) (m : Site). edgesOf t m (b .n) k k) es ee
-    ∙ reach-is (luma-tells b) (shiftsOf p) (lumaSite b) (b .row .0) (b .col .0) (omega (arith, f .placed .row-in)) (omega (arith, f .placed .col-in)) (luma-over b) (b .n) k k
+    ∙ reach-is (luma-tells b) (shiftsOf p) (lumaSite b) (b .row .0) (b .col .0) (omega (arith, f .placed .row-in))
+    (omega (arith, f .placed .col-in)) (luma-over b) (b .n) k k
     (λ c h. same (b .row .0 - 1) c) (λ y h. same y (b .col .0 - 1))
 
 -- Chroma
@@ -302,7 +329,8 @@ chroma-fine b e =
     }
 
 -- the code's test of the block
-pub block-is : (p : Picture) (f : ChromaFormat) (row col n h w k : ℕ) (t : Bool) → h ≡ p .height / subHeight f → w ≡ p .width / subWidth f → k ≡ p .ctu / subWidth f
+pub block-is : (p : Picture) (f : ChromaFormat) (row col n h w k : ℕ) (t : Bool) → h ≡ p .height / subHeight f → w ≡ p .width / subWidth f
+    → k ≡ p .ctu / subWidth f
     → t ≡ inPlane h w row col n → (t && leb n k) ≡ chromaBlockOk p f row col n
 block-is p f row col n h w k t eh ew ek et = both-same (et ∙ ap₂ (λ (x y : ℕ). inPlane x y row col n) eh ew) (ap (leb n) ek)
 
@@ -331,8 +359,20 @@ chroma-over : (b : ChromaBlock) → ChromaFine b → Over (chromaSite b) (chroma
 chroma-over b f =
     let h = step-height (b .format) in
     let w = step-width (b .format) in
-    let low : b .row .0 ≤ 4096 = omega (arith, f .placed .row-in, f .good .tall .high, div-le-self (b .picture .height) (subHeight (b .format))) in
-    let far : b .col .0 ≤ 4096 = omega (arith, f .placed .col-in, f .good .wide .high, div-le-self (b .picture .width) (subWidth (b .format))) in
+    let low : b .row .0 ≤ 4096 = omega (
+      arith,
+      f .placed .row-in,
+      f .good .tall .high,
+      div-le-self (b .picture .height)
+          (subHeight (b .format)),
+    ) in
+    let far : b .col .0 ≤ 4096 = omega (
+      arith,
+      f .placed .col-in,
+      f .good .wide .high,
+      div-le-self (b .picture .width)
+          (subWidth (b .format)),
+    ) in
     record {
       downs = h;
       acrosses = w;
@@ -344,10 +384,12 @@ chroma-over b f =
       cols-are = refl;
     }
 
-pub chroma-sited : (b : ChromaBlock) → ChromaFine b → (s : Shifts) (e : Site) → s ≡ shiftsOf (b .picture) → e ≡ chromaSite b → Sited s e (b .picture .unit) (b .n)
+pub chroma-sited : (b : ChromaBlock) → ChromaFine b → (s : Shifts) (e : Site) → s ≡ shiftsOf (b .picture) → e ≡ chromaSite b
+    → Sited s e (b .picture .unit) (b .n)
 chroma-sited b f s e es ee =
     subst (λ (m : Site). Sited s m (b .picture .unit) (b .n)) (sym ee)
-    (sited (b .picture) s (chromaSite b) (chromaHeight b) (chromaWidth b) (b .row .0) (b .col .0) (b .n) (f .good) es (f .size) (f .placed) (chroma-over b f)
+    (sited (b .picture) s (chromaSite b) (chromaHeight b) (chromaWidth b) (b .row .0) (b .col .0) (b .n) (f .good) es (f .size)
+    (f .placed) (chroma-over b f)
     (omega (arith, f .good .tall .high, div-mul-le-self (b .picture .height) (subHeight (b .format))))
     (omega (arith, f .good .wide .high, div-mul-le-self (b .picture .width) (subWidth (b .format)))))
 
@@ -377,7 +419,8 @@ unfolding chromaHas
 chroma-tells b = record { inside = λ r c. refl; top = λ r c. refl; side = λ r c. refl }
 
 -- the code's rule with its two limits is the chroma rule
-pub chroma-edges : (b : ChromaBlock) → ChromaFine b → (s : Shifts) (e : Site) (cur : ℕ) (r : Reach) → s ≡ shiftsOf (b .picture) → e ≡ chromaSite b
+pub chroma-edges : (b : ChromaBlock) → ChromaFine b → (s : Shifts) (e : Site) (cur : ℕ) (r : Reach) → s ≡ shiftsOf (b .picture) → e
+    ≡ chromaSite b
     → cur ≡ numberAt (b .picture) (b .«cur_luma_row» .0) (b .«cur_luma_col» .0) → r ≡ edgesOf s e (b .n) (cur + 1) cur
     → r ≡ reachBy 0 (chromaHas b) (b .row .0) (b .col .0) (b .n)
 unfolding numberAt minTbAddrZs
@@ -389,6 +432,7 @@ chroma-edges b f s e cur r es ee ec er =
     er
     ∙ ap (λ (j : ℕ). edgesOf s e (b .n) (j + 1) j) ec
     ∙ ap₂ (λ (t : Shifts) (m : Site). edgesOf t m (b .n) (k + 1) k) es ee
-    ∙ reach-is (chroma-tells b) (shiftsOf p) (chromaSite b) (b .row .0) (b .col .0) (omega (arith, f .placed .row-in)) (omega (arith, f .placed .col-in)) (chroma-over b f) (b .n) (k + 1) k
+    ∙ reach-is (chroma-tells b) (shiftsOf p) (chromaSite b) (b .row .0) (b .col .0) (omega (arith, f .placed .row-in))
+    (omega (arith, f .placed .col-in)) (chroma-over b f) (b .n) (k + 1) k
     (λ c h. sym (above-block (nb (b .row .0 - 1) c) k (b .row .0 - 1) (b .row .0) (omega arith)))
     (λ y h. sym (beside-block (nb y (b .col .0 - 1)) k y (b .row .0) h))

@@ -77,7 +77,8 @@ cell-inj zero w {y} {x} {y′} {x′} hx hx′ e =
     let l′ : x′ < w = omega arith in
     (sym (digits-div y l) ∙ ap (λ (v : ℕ). v / w) e ∙ digits-div y′ l′, sym (digits-mod y l) ∙ ap (λ (v : ℕ). v % w) e ∙ digits-mod y′ l′)
 cell-inj (suc k) w {y} {x} {y′} {x′} hx hx′ e =
-    let ih = cell-inj k w {y = y / 2} {x = x / 2} {y′ = y′ / 2} {x′ = x′ / 2} (omega (arith, dbl w k)) (omega (arith, dbl w k)) (omega arith) in
+    let ih = cell-inj k w {y = y / 2} {x = x / 2} {y′ = y′ / 2} {x′ = x′ / 2} (omega (arith, dbl w k)) (omega (arith, dbl w k))
+    (omega arith) in
     (omega (arith, ih .0), omega (arith, ih .1))
 
 half-quot : (k w y x : ℕ) → cellNo (suc k) w y x / 4 ≡ cellNo k w (y / 2) (x / 2)
@@ -110,7 +111,8 @@ pub cell-zs : (k w y x : ℕ) → cellNo k w y x ≡ zScan k w x y
 unfolding cellNo zScan
 cell-zs zero w y x = unfold interleaved in simp div-one (omega arith)
 cell-zs (suc k) w y x =
-    rw (cell-zs k w (y / 2) (x / 2), zScan, half-half k y, half-half k x) (omega (arith, morton-half k y x, quad (y / 2 ^ suc k * w + x / 2 ^ suc k) k))
+    rw (cell-zs k w (y / 2) (x / 2), zScan, half-half k y, half-half k x)
+    (omega (arith, morton-half k y x, quad (y / 2 ^ suc k * w + x / 2 ^ suc k) k))
 
 pub morton-lt : (j y x : ℕ) → morton j y x < 4 ^ j
 morton-lt zero y x = unfold interleaved in omega arith
@@ -149,7 +151,8 @@ module _ (j k w Y X y x : ℕ) where
   run-in p q =
       omega (arith, first-is, cell-split j k w y x, ap (λ (v : ℕ). v * 4 ^ j) (ap₂ (cellNo k w) p q), morton-lt j y x)
 
-  pub run-only : X < w * 2 ^ k → x / 2 ^ j < w * 2 ^ k → first ≤ cellNo (j + k) w y x → cellNo (j + k) w y x < first + 4 ^ j → (y / 2 ^ j ≡ Y) × (x / 2 ^ j ≡ X)
+  pub run-only : X < w * 2 ^ k → x / 2 ^ j < w * 2 ^ k → first ≤ cellNo (j + k) w y x → cellNo (j + k) w y x < first + 4 ^ j
+      → (y / 2 ^ j ≡ Y) × (x / 2 ^ j ≡ X)
   run-only hX hx low high =
       let f = first-is in
       let e = div-eq-of-lt-le {k = cellNo k w Y X} (4 ^ j) {m = cellNo (j + k) w y x} (omega arith) (omega arith) in

@@ -47,14 +47,22 @@ group-from unit step n e =
     let a = both-true (ltb 0 g && leb g 8 && eqb unit (step * (g * (unit / (step * g))))) (eqb (n % g) 0) e in
     let b = both-true (ltb 0 g && leb g 8) (eqb unit (step * (g * (unit / (step * g))))) (a .0) in
     let c = both-true (ltb 0 g) (leb g 8) (b .0) in
-    record { some = ltb-true 0 g (c .0); few = leb-true g 8 (c .1); fit = eqb-true unit (step * (g * (unit / (step * g)))) (b .1); whole = eqb-true (n % g) 0 (a .1) }
+    record {
+      some = ltb-true 0 g (c .0);
+      few = leb-true g 8 (c .1);
+      fit = eqb-true unit (step * (g * (unit / (step * g)))) (b .1);
+      whole =
+          eqb-true (n % g) 0 (a .1);
+    }
 
 pub group : (unit step n : ℕ) → Unit unit → Subsampling step → Size n → Group unit step n
 unfolding groupTest
 group unit step n u t s =
     ⊎-elim
-    (λ p. ⊎-elim (λ q. at 4 1 p q (at-size (λ (m : ℕ). groupTest 4 1 m ≡ true) refl refl refl refl n s)) (λ q. at 4 2 p q (at-size (λ (m : ℕ). groupTest 4 2 m ≡ true) refl refl refl refl n s)) t)
-    (λ p. ⊎-elim (λ q. at 8 1 p q (at-size (λ (m : ℕ). groupTest 8 1 m ≡ true) refl refl refl refl n s)) (λ q. at 8 2 p q (at-size (λ (m : ℕ). groupTest 8 2 m ≡ true) refl refl refl refl n s)) t)
+    (λ p. ⊎-elim (λ q. at 4 1 p q (at-size (λ (m : ℕ). groupTest 4 1 m ≡ true) refl refl refl refl n s))
+    (λ q. at 4 2 p q (at-size (λ (m : ℕ). groupTest 4 2 m ≡ true) refl refl refl refl n s)) t)
+    (λ p. ⊎-elim (λ q. at 8 1 p q (at-size (λ (m : ℕ). groupTest 8 1 m ≡ true) refl refl refl refl n s))
+    (λ q. at 8 2 p q (at-size (λ (m : ℕ). groupTest 8 2 m ≡ true) refl refl refl refl n s)) t)
     u
   where
     at : (a b : ℕ) → unit ≡ a → step ≡ b → groupTest a b n ≡ true → Group unit step n
@@ -79,7 +87,8 @@ same-group unit step n v i u t s e =
     let k = v / n * (n / g) in
     let m : v ≡ k * g = at-group v n g e (r .whole) in
     let pos : 0 < step = ⊎-elim (λ q. omega arith) (λ q. omega arith) t in
-    cell g d k (r .some) pos (r .fit) m i ∙ sym (cell g d k (r .some) pos (r .fit) m (i / g * g) ∙ ap (λ (x : ℕ). (k + x) / d) (mul-div-cancel (i / g) (r .some)))
+    cell g d k (r .some) pos (r .fit) m i ∙ sym (cell g d k (r .some) pos (r .fit) m (i / g * g)
+    ∙ ap (λ (x : ℕ). (k + x) / d) (mul-div-cancel (i / g) (r .some)))
   where
     cell : (g d k : ℕ) → 0 < g → 0 < step → unit ≡ step * (g * d) → v ≡ k * g → (j : ℕ) → (v * step + j * step) / unit ≡ (k + j / g) / d
     cell g d k hg hs f m j =
@@ -97,7 +106,8 @@ pub record Line (s : Shifts) (row col down across group most : ℕ) : Type 0 whe
   pub few : group ≤ 8
   pub short : most ≤ 65
   pub inside : (i : ℕ) → i < most → (i * down ≤ 4096) × (i * across ≤ 4096) × (row + i * down < 4096) × (col + i * across < 4096)
-  pub same : (i : ℕ) → numberBy s (row + i * down) (col + i * across) ≡ numberBy s (row + i / group * group * down) (col + i / group * group * across)
+  pub same : (i : ℕ) → numberBy s (row + i * down) (col + i * across)
+      ≡ numberBy s (row + i / group * group * down) (col + i / group * group * across)
 
 -- an edge of a block of side n, down or across, of which so many samples are in the plane
 pub record Edge (s : Shifts) (row col down across unit n room : ℕ) : Type 0 where

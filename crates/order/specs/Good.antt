@@ -40,7 +40,13 @@ good-of p row col e =
     let s = both-true (sideOk (p .width)) (sideOk (p .height)) (q .0) in
     let m = both-true (unitOk (p .unit) && ltb (row .0) (p .height)) (ltb (col .0) (p .width)) (b .0) in
     let n = both-true (unitOk (p .unit)) (ltb (row .0) (p .height)) (m .0) in (
-      record { wide = side-of (p .width) (s .0); tall = side-of (p .height) (s .1); ctus = ctu-of (p .ctu) (q .1); units = unit-of (p .unit) (n .0) },
+      record {
+        wide = side-of (p .width) (s .0);
+        tall = side-of (p .height) (s .1);
+        ctus = ctu-of (p .ctu) (q .1);
+        units = unit-of
+            (p .unit) (n .0);
+      },
       (ltb-true (row .0) (p .height) (n .1), ltb-true (col .0) (p .width) (m .1)),
     )
 
@@ -61,7 +67,8 @@ levels p = log2 (p .ctu) - log2 (p .unit)
 
 -- what holds of the six
 abbrev Bounds : ℕ → ℕ → Type 0
-Bounds ctu unit = (log2 ctu - log2 unit ≤ 4) × (log2 unit ≤ log2 ctu) × (log2 ctu ≤ 6) × (4 ≤ unit) × (unit ≤ 8) × (16 ≤ ctu) × (ctu ≤ 64) × (log2 unit ≤ 3)
+Bounds ctu unit = (log2 ctu - log2 unit ≤ 4) × (log2 unit ≤ log2 ctu) × (log2 ctu ≤ 6) × (4 ≤ unit) × (unit ≤ 8) × (16 ≤ ctu) × (ctu ≤ 64)
+    × (log2 unit ≤ 3)
 
 pub record Sized (ctu unit : ℕ) : Type 0 where
   pub unit-is : 2 ^ log2 unit ≡ unit
@@ -148,13 +155,15 @@ pub shifts-are : {p : Picture} → Good p → (a b c : ℕ) → a ≡ log2 (p .u
 shifts-are {p} g a b c ea eb ec =
     let s = sized g in
     let pos : 0 < p .unit = omega arith in
-    let cells : p .ctu / 2 ^ a ≡ 2 ^ levels p = ap (λ (k : ℕ). p .ctu / 2 ^ k) ea ∙ ap (λ (u : ℕ). p .ctu / u) (s .unit-is) ∙ div-eq-of-eq-mul-left pos (sym (s .split) ∙ mul-comm (p .unit) (2 ^ levels p)) in
+    let cells : p .ctu / 2 ^ a ≡ 2 ^ levels p = ap (λ (k : ℕ). p .ctu / 2 ^ k) ea ∙ ap (λ (u : ℕ). p .ctu / u) (s .unit-is)
+    ∙ div-eq-of-eq-mul-left pos (sym (s .split) ∙ mul-comm (p .unit) (2 ^ levels p)) in
     let ctus : c ≡ ctusIn p = ec ∙ ctus-found g ∙ sym (ctus-are g) in
     let levels : b - a ≡ log2 (p .ctu) - log2 (p .unit) = ap₂ (λ (x y : ℕ). x - y) eb ea in
     λ i. record { unit = ea i; levels = levels i; cells = cells i; ctus = ctus i }
 
 -- a number found by the shifts is the place's own
-pub number-of : (p : Picture) (s : Shifts) (v row col : ℕ) → s ≡ shiftsOf p → v ≡ zScan (s .levels) (s .ctus) (col / 2 ^ s .unit) (row / 2 ^ s .unit) → v ≡ numberAt p row col
+pub number-of : (p : Picture) (s : Shifts) (v row col : ℕ) → s ≡ shiftsOf p → v
+    ≡ zScan (s .levels) (s .ctus) (col / 2 ^ s .unit) (row / 2 ^ s .unit) → v ≡ numberAt p row col
 unfolding numberAt minTbAddrZs
 number-of p s v row col e h = h ∙ ap (λ (t : Shifts). zScan (t .levels) (t .ctus) (col / 2 ^ t .unit) (row / 2 ^ t .unit)) e
 

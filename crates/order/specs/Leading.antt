@@ -26,7 +26,13 @@ leading-from-is f i (suc m) k l = go (ℕ-discrete i k) (leading-from-is f (suc 
     go (no n) ih =
         let h : i < k = omega (arith, l .from) in
         let b : f i ≡ true = l .hold i (omega arith) h in
-        simp b (ih (record { from = h; most = omega (arith, l .most); hold = λ j p q. l .hold j (omega arith) q; stop = ⊎-elim (λ q. inl (omega (arith, q))) inr (l .stop) }))
+        simp b (ih (record {
+          from = h;
+          most = omega (arith, l .most);
+          hold = λ j p q. l .hold j (omega arith) q;
+          stop = ⊎-elim
+              (λ q. inl (omega (arith, q))) inr (l .stop);
+        }))
 
 one-more : (f : ℕ → Bool) (i m k : ℕ) → f i ≡ true → Leads f (suc i) m k → Leads f i (suc m) k
 one-more f i m k e r =
@@ -43,7 +49,13 @@ one-more f i m k e r =
 
 pub leading-from-leads : (f : ℕ → Bool) (i m : ℕ) → Leads f i m (leadingFrom f i m)
 unfolding leadingFrom
-leading-from-leads f i zero = record { from = omega arith; most = omega arith; hold = λ j p q. absurd (omega arith); stop = inl (omega arith) }
+leading-from-leads f i zero = record {
+  from = omega arith;
+  most = omega arith;
+  hold = λ j p q. absurd (omega arith);
+  stop = inl
+      (omega arith);
+}
 leading-from-leads f i (suc m) = go (f i) refl (leading-from-leads f (suc i) m)
   where
     go : (b : Bool) → f i ≡ b → Leads f (suc i) m (leadingFrom f (suc i) m) → Leads f i (suc m) (cond b (leadingFrom f (suc i) m) i)
@@ -51,7 +63,8 @@ leading-from-leads f i (suc m) = go (f i) refl (leading-from-leads f (suc i) m)
     go false e r = record { from = omega arith; most = omega arith; hold = λ j p q. absurd (omega arith); stop = inr e }
 
 pub leading-is : (f : ℕ → Bool) (m k : ℕ) → k ≤ m → ((j : ℕ) → j < k → f j ≡ true) → (k ≡ m) ⊎ (f k ≡ false) → leading f m ≡ k
-leading-is f m k h all stop = leading-from-is f 0 m k (record { from = omega arith; most = omega arith; hold = λ j p q. all j q; stop = ⊎-elim (λ e. inl (omega arith)) inr stop })
+leading-is f m k h all stop = leading-from-is f 0 m k
+    (record { from = omega arith; most = omega arith; hold = λ j p q. all j q; stop = ⊎-elim (λ e. inl (omega arith)) inr stop })
 
 pub leading-none : (f : ℕ → Bool) (m : ℕ) → f 0 ≡ false → leading f m ≡ 0
 leading-none f m e = leading-is f m 0 (omega arith) (λ j q. absurd (omega arith)) (inr e)

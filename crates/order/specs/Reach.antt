@@ -87,10 +87,12 @@ chromaBlockOk p f row col n = inPlane (p .height / subHeight f) (p .width / subW
 
 abbrev pub chromaPlaceOk : ChromaBlock → Bool
 chromaPlaceOk b =
-    chromaBlockOk (b .picture) (b .format) (b .row .0) (b .col .0) (b .n) && placeOk (b .picture) (b .«cur_luma_row» .0) (b .«cur_luma_col» .0)
+    chromaBlockOk (b .picture) (b .format) (b .row .0) (b .col .0) (b .n)
+    && placeOk (b .picture) (b .«cur_luma_row» .0) (b .«cur_luma_col» .0)
 
 unfoldable pub chromaReachNo : ChromaBlock → ℕ
-chromaReachNo b = firstFail ((2 unless sizeOk (b .n)) ∷ (4 unless pictureOk (b .picture) && hasChroma (b .format)) ∷ (6 unless chromaPlaceOk b) ∷ [])
+chromaReachNo b = firstFail ((2 unless sizeOk (b .n)) ∷ (4 unless pictureOk (b .picture) && hasChroma (b .format))
+    ∷ (6 unless chromaPlaceOk b) ∷ [])
 
 -- the chroma rule: in the chroma plane, and the neighbour's luma cell comes before the current luma place's, or is that cell and
 -- the neighbour's row is above the block

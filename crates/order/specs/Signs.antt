@@ -42,5 +42,6 @@ pub avail-is : (p : Picture) (nb : LumaNeighbour) (row : LumaRow) (col : LumaCol
     → _≡_ {A = Flagged} (record { no = 0; yes = flag }) (isAvailable p nb row col)
 unfolding isAvailable
 avail-is p nb row col cur flag y x n c ey ex e =
-    let told : flag ≡ before p (numberAt p (row .0) (col .0)) (nb .row) (nb .col) = e ∙ ap (λ (k : ℕ). before p k y x) c ∙ ap₂ (before p (numberAt p (row .0) (col .0))) ey ex in
+    let told : flag ≡ before p (numberAt p (row .0) (col .0)) (nb .row) (nb .col) = e ∙ ap (λ (k : ℕ). before p k y x) c
+    ∙ ap₂ (before p (numberAt p (row .0) (col .0))) ey ex in
     simp (n, told)

@@ -1,4 +1,5 @@
--- 6.5.2's inner sum, one coordinate at a time: how many of a number's bits count, and the cell's number as the code makes it. Assumes nothing.
+-- 6.5.2's inner sum, one coordinate at a time: how many of a number's bits count, and the cell's number as the code makes it.
+-- Assumes nothing.
 use mathlib.Core.Path.{_≡_, refl, sym, ap, ap₂, _∙_}
 use Prim.Native.Nat.{ℕ, zero, suc, _+_, _-_, _*_, _/_, _%_, _^_, _≤_, _<_}
 use native.Mathlib.Nat.{div-eq-of-lt, pow-suc, add-suc, add-zero, mod-lt, div-add-mod', div-le-self, mul-le-mul, pow-le-pow-right}
@@ -28,7 +29,8 @@ spread-half : (k v : ℕ) → spread (suc k) v ≡ 4 * spread k (v / 2) + v % 2
 unfolding spread
 spread-half zero v = omega arith
 spread-half (suc k) v =
-    let b : v / 2 ^ suc k % 2 * 4 ^ suc k ≡ 4 * (v / 2 / 2 ^ k % 2 * 4 ^ k) = quad (v / 2 ^ suc k % 2) k ∙ ap (λ (u : ℕ). 4 * (u % 2 * 4 ^ k)) (sym (half-half k v)) in
+    let b : v / 2 ^ suc k % 2 * 4 ^ suc k ≡ 4 * (v / 2 / 2 ^ k % 2 * 4 ^ k) = quad (v / 2 ^ suc k % 2) k
+    ∙ ap (λ (u : ℕ). 4 * (u % 2 * 4 ^ k)) (sym (half-half k v)) in
     omega (arith, spread-half k v)
 
 half-mod : (k v : ℕ) → v % 2 ^ suc k / 2 ≡ v / 2 % 2 ^ k
@@ -65,11 +67,13 @@ pub rest : (k v cells : ℕ) → cells ≡ 2 ^ k → v - v / 2 ^ k * cells ≡ v
 rest k v cells e = rw e (omega (arith, div-add-mod' v (2 ^ k)))
 
 -- the number as the code makes it
-pub number-is : (k w x y cells a b c : ℕ) → k ≤ 4 → cells ≡ 2 ^ k → a ≡ y % 2 ^ k → b ≡ x % 2 ^ k → c ≡ interleaved 4 b a → (y / 2 ^ k * w + x / 2 ^ k) * (cells * cells) + c ≡ zScan k w x y
+pub number-is : (k w x y cells a b c : ℕ) → k ≤ 4 → cells ≡ 2 ^ k → a ≡ y % 2 ^ k → b ≡ x % 2 ^ k → c ≡ interleaved 4 b a
+    → (y / 2 ^ k * w + x / 2 ^ k) * (cells * cells) + c ≡ zScan k w x y
 unfolding zScan
 number-is k w x y cells a b c h e p q r =
     let s : cells * cells ≡ 4 ^ k = rw e (square-pow k) in
-    let m : interleaved 4 b a ≡ spread k x + 2 * spread k y = rw (p, q) (interleaved-spread 4 (x % 2 ^ k) (y % 2 ^ k) ∙ ap₂ (λ (u v : ℕ). u + 2 * v) (spread-four k x h) (spread-four k y h)) in
+    let m : interleaved 4 b a ≡ spread k x + 2 * spread k y = rw (p, q)
+    (interleaved-spread 4 (x % 2 ^ k) (y % 2 ^ k) ∙ ap₂ (λ (u v : ℕ). u + 2 * v) (spread-four k x h) (spread-four k y h)) in
     rw (s, r, m, interleaved-spread k x y) (omega arith)
 
 -- four bits make less than 256

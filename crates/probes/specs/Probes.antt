@@ -81,7 +81,8 @@ abbrev pub flagOf : Flagged → Answer
 flagOf a = record { no = a .no; value = bit (a .yes) }
 
 abbrev pub orderAnswer : ℕ → ℕ → ℕ → ℕ → ℕ → ℕ → Answer
-orderAnswer row col width height ctu unit = valueOf (decodeOrder (pictureWith width height ctu unit) (record { 0 = row }) (record { 0 = col }))
+orderAnswer row col width height ctu unit = valueOf
+    (decodeOrder (pictureWith width height ctu unit) (record { 0 = row }) (record { 0 = col }))
 
 abbrev pub availableAnswer : ℤ → ℤ → ℕ → ℕ → ℕ → ℕ → ℕ → ℕ → Answer
 availableAnswer nr nc row col width height ctu unit =

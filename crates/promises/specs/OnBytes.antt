@@ -28,7 +28,8 @@ use Rattle.walk.specs.Lent.{scratchTables}
 use Rattle.camera.specs.replay.Door.{After, replayed}
 use Rattle.camera.proofs.salvrunde_replay as salvrunde-replay
 use Rattle.camera.proofs.salvrunde_replay.Reads as salvrunde-replay-contract
-use Rattle.promises.specs.demand3.Calls.{Task, task, Ask, ask, granted, Each, Made, AllServed, Held, held, blocks, count, fresh, calls, walkCall}
+use Rattle.promises.specs.demand3.Calls.{Task, task, Ask, ask, granted, Each, Made, AllServed, Held, held, blocks, count, fresh}
+use Rattle.promises.specs.demand3.Calls.{calls, walkCall}
 use Rattle.promises.specs.demand3.Demand3.{Replayed, ReplayDoes, WalksAll}
 
 -- what all calls share: the still, and the bytes of plan and residuals; and the task that they spell
@@ -129,7 +130,8 @@ pub record OnBytes : Type 1 where
   -- Any split into calls is one call with the sum of the grants, from any record, refused or not.
   pub split : (b : ByteJob) (x : Held (List ℕ)) → Fits b x → (asks : List ByteAsk) (a : ByteAsk) → Each Long asks → Long a
       → a .grant ≡ bytesGranted asks → calls (byteCall b) x asks ≡ byteCall b x a
-  -- Bytes there are for every list of samples of 16 bits and for every list of residuals in an i32's range, and a walk's residuals are such.
+  -- Bytes there are for every list of samples of 16 bits and for every list of residuals in an i32's range, and a walk's residuals
+  -- are such.
   pub sample-spelling : (l : List ℕ) → Below l → (d : List ℕ) × AreBytes d × (length d ≡ 2 * length l) × (samplesOf d ≡ l)
   pub spelling : (v : List ℤ) → Each (SFits w32) v → (d : List ℕ) × AreBytes d × (length d ≡ 4 * length v) × (residualsOf d ≡ v)
   pub walk-spelt : (j : Task) (source : List ℕ) (w : World) (asks : List Ask) → WalksAll j source w asks

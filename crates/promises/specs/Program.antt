@@ -1,5 +1,5 @@
--- Document 01, 'The program': intrawalk never prints `differs`. Whatever its input, it prints a refusal, or the lines of all blocks and then `same`.
--- Rests on demand 3.
+-- Document 01, 'The program': intrawalk never prints `differs`. Whatever its input, it prints a refusal, or the lines of all blocks
+-- and then `same`. Rests on demand 3.
 use mathlib.Core.Path.{_≡_, refl, ap}
 use mathlib.Core.Bool.{Bool, true, false, cond}
 use mathlib.Core.List.{List, [], _∷_, _++_}
@@ -37,7 +37,8 @@ enough f = omega (arith, sum-more (f .plan .count) [], sum-none)
 pub source-back : (f : File) → verdict f .no ≡ 0 → replayedPlane f ≡ f .source
 unfolding calls
 source-back f served =
-    demand-3 .same (job f) (f .source) (blank (f .still)) (whole f) (record { tables = scratchTables; served = served; room = room f; enough = enough f })
+    demand-3 .same (job f) (f .source) (blank (f .still)) (whole f)
+    (record { tables = scratchTables; served = served; room = room f; enough = enough f })
     (zeros (f .still)) (length-replicate _ 0) (whole f) (room f) (enough f)
 
 agree-same : (a b : List ℕ) → a ≡ b → (k : ℕ) → agree a b k ≡ true
@@ -58,10 +59,12 @@ unfolding told
 told-same f = go (eqb (verdict f .no) 0) refl
   where
     go : (t : Bool) → eqb (verdict f .no) 0 ≡ t
-        → let x = cond t (lines (f .plan .block) (residuals f) (f .plan .count) ++ ending (f .plan .count) (agree (replayedPlane f) (f .source) (length (f .source)))) (refusal (verdict f .no) (verdict f .block)) in
+        → let x = cond t (lines (f .plan .block) (residuals f) (f .plan .count) ++ ending (f .plan .count)
+        (agree (replayedPlane f) (f .source) (length (f .source)))) (refusal (verdict f .no) (verdict f .block)) in
         Refused x ⊎ Same f x
     go true e =
-        inr (ap (λ (t : Bool). lines (f .plan .block) (residuals f) (f .plan .count) ++ ending (f .plan .count) t) (agree-same (replayedPlane f) (f .source) (source-back f (eqb-true (verdict f .no) 0 e)) (length (f .source))))
+        inr (ap (λ (t : Bool). lines (f .plan .block) (residuals f) (f .plan .count) ++ ending (f .plan .count) t)
+        (agree-same (replayedPlane f) (f .source) (source-back f (eqb-true (verdict f .no) 0 e)) (length (f .source))))
     go false e = inl (verdict f .no, verdict f .block, refl)
 
 -- of any bytes

@@ -1,6 +1,6 @@
--- Document 01's table of numbers at each door before plan, walk and replay: each is given exactly when its row says, and a refused call leaves what it is
--- lent. Laws alone.
--- Exact: rows of document 01's table, and what it means that a number is given exactly when its row says.
+-- Document 01's table of numbers at each door before plan, walk and replay: each is given exactly when its row says, and a refused
+-- call leaves what it is lent. Laws alone. Exact: rows of document 01's table, and what it means that a number is given exactly when
+-- its row says.
 pub mod Exact
 -- Table: document 01's table of numbers at each door.
 pub mod Table

@@ -22,7 +22,8 @@ use Rattle.domain.specs.declared.rows.Rows.{Rows}
 use Rattle.domain.specs.rows.Neighbours.{levelRows}
 use Rattle.refs.specs.substitution.Substitution.{flagsOn, samplesOn, substituted}
 use Rattle.refs.specs.Gather.{flagsBy, samplesBy, gatheredBy}
-use Rattle.refs.specs.substitution.Line.{on-left, on-corner, on-above, anyBy, startBy, leftBy, cornerBy, restBy, aboveBy, CountedLine, told, settled-left, settled-corner, settled-above, starts, nothing}
+use Rattle.refs.specs.substitution.Line.{on-left, on-corner, on-above, anyBy, startBy, leftBy, cornerBy, restBy, aboveBy}
+use Rattle.refs.specs.substitution.Line.{CountedLine, told, settled-left, settled-corner, settled-above, starts, nothing}
 
 -- the samples of a block's neighbours
 abbrev pub aboveAt : (ℕ → ℕ → ℕ) → ℕ → ℕ → ℕ → ℕ
@@ -54,7 +55,12 @@ abbrev pub reached : Reach → ℕ → (ℕ → ℕ) → (ℕ → ℕ) → ℕ �
 reached r c above left n =
     let start = startOf r c above left in
     let corner = cornerOf r c left start in
-    record { corner = corner; above = paddedEdge (2 * n + 1) (r .above) above (restOf r above corner); left = paddedEdge (2 * n + 1) (r .left) left start }
+    record {
+      corner = corner;
+      above = paddedEdge (2 * n + 1) (r .above) above (restOf r above corner);
+      left = paddedEdge (2 * n + 1)
+          (r .left) left start;
+    }
 
 unfoldable pub fromReach : Reach → ℕ → (ℕ → ℕ) → (ℕ → ℕ) → ℕ → ℕ → Rows
 fromReach r c above left n neutral = cond (anyBy (r .corner) (r .above) (r .left)) (reached r c above left n) (levelRows neutral)
@@ -89,14 +95,17 @@ module _ (has : ℤ → ℤ → Bool) (sample : ℕ → ℕ → ℕ) (row col n 
   entry : {A : Type 0} (f : ℕ → A) (z : A) (i : ℕ) → i ≤ 2 * n → getD (fill f (2 * n + 1) (replicate 65 z)) i z ≡ f i
   entry f z i h = fill-at f (2 * n + 1) (replicate 65 z) i z (omega arith) (omega (arith, length-replicate 65 z))
 
-  counted-line : CountedLine (2 * n) (r .left) (r .above) (r .corner) (leftAt sample row col) (aboveAt sample row col) (cornerAt sample row col) marks values
+  counted-line : CountedLine (2 * n) (r .left) (r .above) (r .corner) (leftAt sample row col) (aboveAt sample row col)
+      (cornerAt sample row col) marks values
   counted-line =
       record {
         few = known .left-few;
-        left-marked = λ k h. on-left _ _ _ (2 * n) k h ∙ entry (leftHas has row col) false (2 * n - k) (omega arith) ∙ known .left (2 * n - k) (omega arith);
+        left-marked = λ k h. on-left _ _ _ (2 * n) k h ∙ entry (leftHas has row col) false (2 * n - k) (omega arith)
+            ∙ known .left (2 * n - k) (omega arith);
         corner-marked = on-corner _ _ _ (2 * n) ∙ known .corner;
         above-marked = λ i h. on-above _ _ _ (2 * n) i ∙ entry (aboveHas has row col) false i h ∙ known .above i h;
-        left-value = λ k h m. on-left _ _ _ (2 * n) k h ∙ entry _ 0 (2 * n - k) (omega arith) ∙ simp (known .left (2 * n - k) (omega arith), lt-ltb (2 * n - k) (r .left) m);
+        left-value = λ k h m. on-left _ _ _ (2 * n) k h ∙ entry _ 0 (2 * n - k) (omega arith)
+            ∙ simp (known .left (2 * n - k) (omega arith), lt-ltb (2 * n - k) (r .left) m);
         corner-value = λ t. on-corner _ _ _ (2 * n) ∙ simp (known .corner, t);
         above-value = λ i h m. on-above _ _ _ (2 * n) i ∙ entry _ 0 i h ∙ simp (known .above i h, lt-ltb i (r .above) m);
       }
@@ -123,10 +132,12 @@ module _ (has : ℤ → ℤ → Bool) (sample : ℕ → ℕ → ℕ) (row col n 
         corner = (settled-corner counted-line first ∙ ap (cornerOf r c left) (s .1)) i;
         above =
             fill-over _ (λ (k : ℕ). cond (aboveHas has row col k) (above k) 0) _ (2 * n + 1) (replicate 65 0) 0
-            (λ j l. settled-above counted-line first j (omega arith) ∙ ap (λ (v : ℕ). aboveBy (r .above) above (restOf r above (cornerOf r c left v)) j) (s .1)) i;
+            (λ j l. settled-above counted-line first j (omega arith)
+            ∙ ap (λ (v : ℕ). aboveBy (r .above) above (restOf r above (cornerOf r c left v)) j) (s .1)) i;
         left =
             fill-over _ (λ (k : ℕ). cond (leftHas has row col k) (left k) 0) _ (2 * n + 1) (replicate 65 0) 0
-            (λ j l. settled-left counted-line first (2 * n - j) (omega arith) ∙ ap₂ (leftBy (r .left) left) (s .1) (let q : 2 * n - (2 * n - j) ≡ j = omega arith in q)) i;
+            (λ j l. settled-left counted-line first (2 * n - j) (omega arith)
+            ∙ ap₂ (leftBy (r .left) left) (s .1) (let q : 2 * n - (2 * n - j) ≡ j = omega arith in q)) i;
       })
 
   none : (neutral : ℕ) → anyBy (r .corner) (r .above) (r .left) ≡ false → gatheredBy has sample row col n neutral ≡ levelRows neutral

@@ -58,7 +58,8 @@ lumaBlock g = record { picture = g .picture; row = g .«block_row»; col = g .«
 abbrev pub lumaNumber : Bool → LumaRefGeometry → ℕ
 lumaNumber whole g =
     firstFail
-    ((1 unless depthOk (g .bits)) ∷ (2 unless sizeOk (g .n)) ∷ (4 unless pictureOk (g .picture)) ∷ (5 unless whole) ∷ (6 unless lumaPlaceOk (lumaBlock g))
+    ((1 unless depthOk (g .bits)) ∷ (2 unless sizeOk (g .n)) ∷ (4 unless pictureOk (g .picture)) ∷ (5 unless whole)
+    ∷ (6 unless lumaPlaceOk (lumaBlock g))
     ∷ [])
 
 -- a plane's count of luma samples
@@ -71,7 +72,8 @@ lumaNo len g = lumaNumber (eqb len (lumaLength g)) g
 -- the rows of a luma block
 unfoldable pub lumaRows : List ℕ → LumaRefGeometry → Rows
 lumaRows plane g =
-    gatheredBy (lumaHas (lumaBlock g)) (sampleOf plane (g .picture .width)) (g .«block_row» .0) (g .«block_col» .0) (g .n) (neutralAt (g .bits))
+    gatheredBy (lumaHas (lumaBlock g)) (sampleOf plane (g .picture .width)) (g .«block_row» .0) (g .«block_col» .0) (g .n)
+    (neutralAt (g .bits))
 
 unfoldable pub getReferenceSamples : List ℕ → LumaRefGeometry → Gathered
 getReferenceSamples plane g = let k = lumaNo (length plane) g in record { no = k; rows = served k (lumaRows plane g) (levelRows 0) }
@@ -110,7 +112,8 @@ chromaLength g = chromaHeight (chromaBlock g) * chromaWidth (chromaBlock g)
 abbrev pub chromaNumber : Bool → ChromaRefGeometry → ℕ
 chromaNumber whole g =
     firstFail
-    ((1 unless depthOk (g .bits)) ∷ (2 unless sizeOk (g .n)) ∷ (4 unless pictureOk (chromaPicture g) && leb 1 (g .format) && leb (g .format) 3)
+    ((1 unless depthOk (g .bits)) ∷ (2 unless sizeOk (g .n))
+    ∷ (4 unless pictureOk (chromaPicture g) && leb 1 (g .format) && leb (g .format) 3)
     ∷ (5 unless whole) ∷ (6 unless chromaPlaceOk (chromaBlock g)) ∷ [])
 
 unfoldable pub chromaNo : ℕ → ℕ → ChromaRefGeometry → ℕ
@@ -119,7 +122,8 @@ chromaNo cb cr g = chromaNumber (eqb cb (chromaLength g) && eqb cr (chromaLength
 -- the rows of a chroma block in one plane
 unfoldable pub chromaRows : List ℕ → ChromaRefGeometry → Rows
 chromaRows plane g =
-    gatheredBy (chromaHas (chromaBlock g)) (sampleOf plane (chromaWidth (chromaBlock g))) (g .«block_row» .0) (g .«block_col» .0) (g .n) (neutralAt (g .bits))
+    gatheredBy (chromaHas (chromaBlock g)) (sampleOf plane (chromaWidth (chromaBlock g))) (g .«block_row» .0) (g .«block_col» .0) (g .n)
+    (neutralAt (g .bits))
 
 -- Cb first, then Cr
 abbrev pub chromaPair : List ℕ → List ℕ → ChromaRefGeometry → List Rows

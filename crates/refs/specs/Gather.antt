@@ -1,4 +1,5 @@
--- Document 01, module 4: the rows of a block by a rule that tells which neighbours are there. A missing sample is read nowhere. Assumes nothing.
+-- Document 01, module 4: the rows of a block by a rule that tells which neighbours are there. A missing sample is read nowhere.
+-- Assumes nothing.
 use Prim.Native.Nat.{ℕ, _+_, _-_, _*_}
 use mathlib.Core.Bool.{Bool, false, cond}
 use mathlib.Core.List.{List}

@@ -110,18 +110,22 @@ chroma-rule b g =
           λ r c c′ h e.
           let t = parts r c′ e in
           simp (lt-ltb r (chromaHeight b) (t .0), lt-ltb c (chromaWidth b) (omega (arith, t .1)))
-          (earlier-too (current b) (b .row .0) _ r _ r (col-rises g (r * subHeight (b .format)) (mul-le-mul-right (subWidth (b .format)) h)) (omega arith) (t .2));
+          (earlier-too (current b) (b .row .0) _ r _ r (col-rises g (r * subHeight (b .format))
+          (mul-le-mul-right (subWidth (b .format)) h)) (omega arith) (t .2));
       down =
           λ c r r′ h e.
           let t = parts r′ c e in
           simp (lt-ltb r (chromaHeight b) (omega (arith, t .0)), lt-ltb c (chromaWidth b) (t .1))
-          (earlier-too (current b) (b .row .0) _ r _ r′ (row-rises g (c * subWidth (b .format)) (mul-le-mul-right (subHeight (b .format)) h)) h (t .2));
+          (earlier-too (current b) (b .row .0) _ r _ r′
+          (row-rises g (c * subWidth (b .format)) (mul-le-mul-right (subHeight (b .format)) h)) h (t .2));
     }
   where
     parts : (r c : ℕ) → chromaHas b (pos r) (pos c) ≡ true
-        → (r < chromaHeight b) × (c < chromaWidth b) × (earlier (current b) (b .row .0) (numberAt (b .picture) (r * subHeight (b .format)) (c * subWidth (b .format))) r ≡ true)
+        → (r < chromaHeight b) × (c < chromaWidth b) ×
+        (earlier (current b) (b .row .0) (numberAt (b .picture) (r * subHeight (b .format)) (c * subWidth (b .format))) r ≡ true)
     parts r c e =
-        let a = both-true (ltb r (chromaHeight b) && ltb c (chromaWidth b)) (earlier (current b) (b .row .0) (numberAt (b .picture) (r * subHeight (b .format)) (c * subWidth (b .format))) r) e in
+        let a = both-true (ltb r (chromaHeight b) && ltb c (chromaWidth b))
+        (earlier (current b) (b .row .0) (numberAt (b .picture) (r * subHeight (b .format)) (c * subWidth (b .format))) r) e in
         let d = both-true (ltb r (chromaHeight b)) (ltb c (chromaWidth b)) (a .0) in
         (ltb-true r (chromaHeight b) (d .0), ltb-true c (chromaWidth b) (d .1), a .1)
 
@@ -154,8 +158,10 @@ module _ {has : ℤ → ℤ → Bool} {height width : ℕ} (rule : HasRule has h
   counted row col n =
       record {
         corner = refl;
-        above = λ i h. counts (aboveHas has row col) (2 * n + 1) i (λ j k l e. closed-along (pos row -ℤ pos 1) (col + j) (col + k) (omega arith) e) (omega arith);
-        left = λ i h. counts (leftHas has row col) (2 * n + 1) i (λ j k l e. closed-down (pos col -ℤ pos 1) (row + j) (row + k) (omega arith) e) (omega arith);
+        above = λ i h. counts (aboveHas has row col) (2 * n + 1) i
+            (λ j k l e. closed-along (pos row -ℤ pos 1) (col + j) (col + k) (omega arith) e) (omega arith);
+        left = λ i h. counts (leftHas has row col) (2 * n + 1) i
+            (λ j k l e. closed-down (pos col -ℤ pos 1) (row + j) (row + k) (omega arith) e) (omega arith);
         above-few = omega (arith, leading-from-leads (aboveHas has row col) 0 (2 * n + 1) .most);
         left-few = omega (arith, leading-from-leads (leftHas has row col) 0 (2 * n + 1) .most);
       }

@@ -1,4 +1,5 @@
--- The samples that are there, as they are read out of a plane, and the rows made of these values alone, whatever held them. Assumes nothing.
+-- The samples that are there, as they are read out of a plane, and the rows made of these values alone, whatever held them. Assumes
+-- nothing.
 use mathlib.Core.Path.{_≡_, refl, sym, ap, _∙_}
 use mathlib.Core.Bool.{Bool, true, false, cond, _||_, false≢true}
 use mathlib.Core.List.{List, [], _∷_}
@@ -70,8 +71,10 @@ module _ (have : ℕ) (at : ℕ → ℕ) (rest : ℕ) where
   pub pad-edge : (count : ℕ) → have ≤ count → padded count have rest (edgeSeen have at) ≡ paddedEdge count have at rest
   unfolding paddedEdge
   pad-edge count h =
-      ap (run (λ i. rest) have (count - have)) (fill-same at on have (replicate 65 0) (λ i l. ap (λ (b : Bool). cond b (at i) rest) (sym (lt-ltb i have l))))
-      ∙ fill-run on (λ i. rest) have (count - have) (replicate 65 0) (λ j l. ap (λ (b : Bool). cond b (at (have + j)) rest) (sym (le-ltb (have + j) have (omega arith))))
+      ap (run (λ i. rest) have (count - have)) (fill-same at on have (replicate 65 0)
+      (λ i l. ap (λ (b : Bool). cond b (at i) rest) (sym (lt-ltb i have l))))
+      ∙ fill-run on (λ i. rest) have (count - have) (replicate 65 0)
+      (λ j l. ap (λ (b : Bool). cond b (at (have + j)) rest) (sym (le-ltb (have + j) have (omega arith))))
       ∙ ap (λ (k : ℕ). fill on k (replicate 65 0)) (let q : have + (count - have) ≡ count = omega arith in q)
 
 module _ (r : Reach) (c : ℕ) (above left : ℕ → ℕ) (n : ℕ) (small : n ≤ 32) (ha : r .above ≤ 2 * n + 1) (hl : r .left ≤ 2 * n + 1) where
@@ -88,17 +91,21 @@ module _ (r : Reach) (c : ℕ) (above left : ℕ → ℕ) (n : ℕ) (small : n �
   start any =
       by-test (ltb 0 (r .left))
       (λ t. let p = ltb-true 0 (r .left) t in seen-at (r .left) left (r .left - 1) (omega arith) (omega arith))
-      (λ f. by-test (r .corner) corner-seen (λ g. seen-at (r .above) above 0 (omega arith) (ltb-true 0 (r .above) (only-above _ _ _ any f g))))
+      (λ f. by-test (r .corner) corner-seen (λ g. seen-at (r .above) above 0 (omega arith)
+      (ltb-true 0 (r .above) (only-above _ _ _ any f g))))
 
   corner : (s : ℕ) → cornerOf r (cornerSeen r c) l s ≡ cornerOf r c left s
-  corner s = by-test (r .corner) corner-seen (λ f. by-test (ltb 0 (r .left)) (λ t. seen-at (r .left) left 0 (omega arith) (ltb-true 0 (r .left) t)) (λ g. refl))
+  corner s = by-test (r .corner) corner-seen (λ f. by-test (ltb 0 (r .left))
+      (λ t. seen-at (r .left) left 0 (omega arith) (ltb-true 0 (r .left) t)) (λ g. refl))
 
   rest : (k : ℕ) → restOf r a k ≡ restOf r above k
-  rest k = by-test (ltb 0 (r .above)) (λ t. let p = ltb-true 0 (r .above) t in seen-at (r .above) above (r .above - 1) (omega arith) (omega arith)) (λ g. refl)
+  rest k = by-test (ltb 0 (r .above)) (λ t. let p = ltb-true 0 (r .above) t in seen-at (r .above) above (r .above - 1) (omega arith)
+      (omega arith)) (λ g. refl)
 
   -- the rows made of what was read are the rows of the samples
   padded-are : anyBy (r .corner) (r .above) (r .left) ≡ true
-      → padRows r (record { corner = cornerSeen r c; above = edgeSeen (r .above) above; left = edgeSeen (r .left) left }) n ≡ reached r c above left n
+      → padRows r (record { corner = cornerSeen r c; above = edgeSeen (r .above) above; left = edgeSeen (r .left) left }) n
+      ≡ reached r c above left n
   unfolding padRows
   padded-are any =
       let s = start any in
@@ -118,20 +125,28 @@ module _ (plane : List ℕ) (s : Spot) (r : Reach) (n neutral : ℕ) where
   finish-none gone = if-no (anyBy (r .corner) (r .above) (r .left)) _ (levelRows neutral) (levelRows neutral) gone refl
 
   pub finish-some : anyBy (r .corner) (r .above) (r .left) ≡ true → Few r n → {x y v : Rows}
-      → x ≡ record { corner = cornerSeen r (cornerOn plane s); above = edgeSeen (r .above) (aboveOn plane s); left = edgeSeen (r .left) (leftOn plane s) }
+      → x ≡ record {
+        corner = cornerSeen r (cornerOn plane s);
+        above = edgeSeen (r .above) (aboveOn plane s);
+        left = edgeSeen (r .left)
+            (leftOn plane s);
+      }
       → y ≡ padRows r x n → v ≡ y → v ≡ planeRows plane s r n neutral
   unfolding fromReach
   finish-some any f {x} {y} {v} ex ey ev =
-      if-yes (anyBy (r .corner) (r .above) (r .left)) (reached r (cornerOn plane s) (aboveOn plane s) (leftOn plane s) n) (levelRows neutral) v any
+      if-yes (anyBy (r .corner) (r .above) (r .left)) (reached r (cornerOn plane s) (aboveOn plane s) (leftOn plane s) n)
+      (levelRows neutral) v any
       (ev ∙ ey ∙ ap (λ (q : Rows). padRows r q n) ex
       ∙ padded-are r (cornerOn plane s) (aboveOn plane s) (leftOn plane s) n (f .side) (f .above-few) (f .left-few) any)
 
 -- rows from their parts
-pub from-parts : {c : ℕ} {a l : List ℕ} (r : Rows) → c ≡ r .corner → a ≡ r .above → l ≡ r .left → _≡_ {A = Rows} (record { corner = c; above = a; left = l }) r
+pub from-parts : {c : ℕ} {a l : List ℕ} (r : Rows) → c ≡ r .corner → a ≡ r .above → l ≡ r .left
+    → _≡_ {A = Rows} (record { corner = c; above = a; left = l }) r
 from-parts r ec ea el = λ i. record { corner = ec i; above = ea i; left = el i }
 
 -- both rows stored anew
-pub two-set : (two : List (List ℕ)) (c : ℕ) (a l : List ℕ) → length two ≡ 2 → withCorner c (set (set two 0 a) 1 l) ≡ record { corner = c; above = a; left = l }
+pub two-set : (two : List (List ℕ)) (c : ℕ) (a l : List ℕ) → length two ≡ 2 → withCorner c (set (set two 0 a) 1 l)
+    ≡ record { corner = c; above = a; left = l }
 two-set (_ ∷ _ ∷ _) c a l h = refl
 two-set (_ ∷ []) c a l h = absurd (omega arith)
 two-set [] c a l h = absurd (omega arith)

@@ -16,7 +16,8 @@ use Rattle.fmt.specs.depth.Depth.{neutralOf}
 use Rattle.fmt.specs.depth.Laws.{neutral-of-is}
 use Rattle.order.specs.declared.Reach.{Reach}
 use Rattle.order.specs.Order.{pictureOk}
-use Rattle.order.specs.Reach.{reachBy, noReach, lumaPlaceOk, lumaReachNo, lumaHas, lumaReach, hasChroma, chromaPlaceOk, chromaReachNo, chromaHas, chromaReach, chromaWidth}
+use Rattle.order.specs.Reach.{reachBy, noReach, lumaPlaceOk, lumaReachNo, lumaHas, lumaReach, hasChroma, chromaPlaceOk, chromaReachNo}
+use Rattle.order.specs.Reach.{chromaHas, chromaReach, chromaWidth}
 use Rattle.order.specs.Blocks.{luma-fine, chroma-fine}
 use Rattle.domain.specs.declared.rows.Rows.{Rows}
 use Rattle.refs.specs.declared.GatheredPair.{GatheredPair}
@@ -26,7 +27,8 @@ use Rattle.refs.specs.declared.LumaRefGeometry.{LumaRefGeometry}
 use Rattle.refs.specs.declared.ChromaRefGeometry.{ChromaRefGeometry}
 use Rattle.refs.specs.Gather.{gatheredBy, sampleOf}
 use Rattle.refs.specs.substitution.Door.{neutralAt}
-use Rattle.refs.specs.Door.{lumaBlock, lumaNumber, lumaLength, lumaNo, lumaRows, formatOf, chromaPicture, chromaBlock, chromaLength, chromaNumber, chromaNo, chromaRows, chromaPair}
+use Rattle.refs.specs.Door.{lumaBlock, lumaNumber, lumaLength, lumaNo, lumaRows, formatOf, chromaPicture, chromaBlock}
+use Rattle.refs.specs.Door.{chromaLength, chromaNumber, chromaNo, chromaRows, chromaPair}
 use Rattle.refs.specs.substitution.Line.{told}
 use Rattle.refs.specs.Counts.{Counted}
 use Rattle.refs.specs.Spots.{spotOf, lumaLayout, chromaLayout, planeRows, Reads, rows-are}
@@ -37,7 +39,8 @@ abbrev pub gatherNo : ℕ → ℕ → Bool → ℕ
 gatherNo bits k whole = cond (depthOk bits) (cond (eqb k 2 || eqb k 4) k (cond whole k 5)) 1
 
 -- size, picture, place; whole
-same-number : (s p q w : Bool) → let k : ℕ = cond s (cond p (cond q 0 6) 4) 2 in cond s (cond p (cond w (cond q 0 6) 5) 4) 2 ≡ cond (eqb k 2 || eqb k 4) k (cond w k 5)
+same-number : (s p q w : Bool) → let k : ℕ = cond s (cond p (cond q 0 6) 4) 2 in cond s (cond p (cond w (cond q 0 6) 5) 4) 2
+    ≡ cond (eqb k 2 || eqb k 4) k (cond w k 5)
 same-number false p q w = refl
 same-number true false q w = refl
 same-number true true true true = refl
@@ -63,20 +66,32 @@ coloured true = by-four (λ (f : ℕ). (leb 1 f && leb f 3) ≡ hasChroma (forma
   where
     other : (k : ℕ) → 4 ≤ k → (leb 1 k && leb k 3) ≡ hasChroma (formatOf k)
     other k h =
-        simp (le-leb 1 k (omega arith), lt-leb k 3 (omega arith), ne-eqb k 0 (λ e. let q : k ≡ 0 = e in omega arith), ne-eqb k 1 (λ e. let q : k ≡ 1 = e in omega arith), ne-eqb k 2 (λ e. let q : k ≡ 2 = e in omega arith), ne-eqb k 3 (λ e. let q : k ≡ 3 = e in omega arith))
+        simp (
+          le-leb 1 k (omega arith),
+          lt-leb k 3 (omega arith),
+          ne-eqb k 0 (λ e. let q : k ≡ 0 = e in omega arith),
+          ne-eqb k 1
+              (λ e. let q : k ≡ 1 = e in omega arith),
+          ne-eqb k 2 (λ e. let q : k ≡ 2 = e in omega arith),
+          ne-eqb k 3
+              (λ e. let q : k ≡ 3 = e in omega arith),
+        )
 coloured false = λ f. refl
 
 pub chroma-no : (whole : Bool) (g : ChromaRefGeometry) → chromaNumber whole g ≡ gatherNo (g .bits) (chromaReachNo (chromaBlock g)) whole
 unfolding chromaReachNo
 chroma-no whole g =
     let q = chromaPlaceOk (chromaBlock g) in
-    ap (λ (p : Bool). cond (depthOk (g .bits)) (cond (sizeOk (g .n)) (cond p (cond whole (cond q 0 6) 5) 4) 2) 1) (coloured (pictureOk (chromaPicture g)) (g .format))
-    ∙ ap (λ (k : ℕ). cond (depthOk (g .bits)) k 1) (same-number (sizeOk (g .n)) (pictureOk (chromaPicture g) && hasChroma (formatOf (g .format))) q whole)
+    ap (λ (p : Bool). cond (depthOk (g .bits)) (cond (sizeOk (g .n)) (cond p (cond whole (cond q 0 6) 5) 4) 2) 1)
+    (coloured (pictureOk (chromaPicture g)) (g .format))
+    ∙ ap (λ (k : ℕ). cond (depthOk (g .bits)) k 1) (same-number (sizeOk (g .n))
+    (pictureOk (chromaPicture g) && hasChroma (formatOf (g .format))) q whole)
 
 -- the number stands in the reach, and a reach of number 0 is the block's own
 reach-no : (k : ℕ) (r : Reach) → r .no ≡ 0 → served k r (noReach k) .no ≡ k
 reach-no k r z =
-    ⊎-elim (λ e. ap (λ (b : Bool). cond b r (noReach k) .no) e ∙ z ∙ sym (eqb-true k 0 e)) (λ e. ap (λ (b : Bool). cond b r (noReach k) .no) e) (told (eqb k 0))
+    ⊎-elim (λ e. ap (λ (b : Bool). cond b r (noReach k) .no) e ∙ z ∙ sym (eqb-true k 0 e))
+    (λ e. ap (λ (b : Bool). cond b r (noReach k) .no) e) (told (eqb k 0))
 
 pub luma-reach-no : (g : LumaRefGeometry) → lumaReach (lumaBlock g) .no ≡ lumaReachNo (lumaBlock g)
 unfolding lumaReach
@@ -102,14 +117,17 @@ pub record GatherReady (has : ℤ → ℤ → Bool) (r : Reach) (len width row c
   pub known : Counted has row col n r
   pub reads : Reads r (spotOf width row col) len n
 
-ready : {has : ℤ → ℤ → Bool} {height width : ℕ} → HasRule has height width → (r : Reach) (len row col n : ℕ) → r ≡ reachBy 0 has row col n → len ≡ height * width
+ready : {has : ℤ → ℤ → Bool} {height width : ℕ} → HasRule has height width → (r : Reach) (len row col n : ℕ) → r ≡ reachBy 0 has row col n
+    → len ≡ height * width
     → n ≤ 32 → GatherReady has r len width row col n
 ready {has} {height} {width} rule r len row col n er el small =
     subst (λ (q : Reach). GatherReady has q len width row col n) (sym er)
-    (subst (λ (l : ℕ). GatherReady has (reachBy 0 has row col n) l width row col n) (sym el) (record { known = counted rule row col n; reads = reads rule row col n small }))
+    (subst (λ (l : ℕ). GatherReady has (reachBy 0 has row col n) l width row col n) (sym el)
+    (record { known = counted rule row col n; reads = reads rule row col n small }))
 
 pub luma-ready : (len : ℕ) (g : LumaRefGeometry) (r : Reach) → r ≡ lumaReach (lumaBlock g) → lumaNo len g ≡ 0
-    → (depthOk (g .bits) ≡ true) × GatherReady (lumaHas (lumaBlock g)) r len (g .picture .width) (g .«block_row» .0) (g .«block_col» .0) (g .n)
+    → (depthOk (g .bits) ≡ true) × GatherReady (lumaHas (lumaBlock g)) r len (g .picture .width) (g .«block_row» .0) (g .«block_col» .0)
+    (g .n)
 unfolding lumaReach lumaNo
 luma-ready len g r er e =
     let b = lumaBlock g in
@@ -132,7 +150,8 @@ chroma-ready cb cr g r er e =
     let f = gather-fine (g .bits) (chromaReachNo b) whole (sym (chroma-no whole g) ∙ e) in
     let w = chroma-fine b (f .1) in
     let l = both-true (eqb cb (chromaLength g)) (eqb cr (chromaLength g)) (f .2) in
-    let one : (len : ℕ) → eqb len (chromaLength g) ≡ true → GatherReady (chromaHas b) r len (chromaWidth b) (g .«block_row» .0) (g .«block_col» .0) (g .n) =
+    let one : (len : ℕ) → eqb len (chromaLength g) ≡ true
+    → GatherReady (chromaHas b) r len (chromaWidth b) (g .«block_row» .0) (g .«block_col» .0) (g .n) =
     λ len t.
     ready (chroma-rule b (w .good)) r len (g .«block_row» .0) (g .«block_col» .0) (g .n)
     (er ∙ sym (worked (chromaReachNo b) (reachBy 0 (chromaHas b) (b .row .0) (b .col .0) (b .n)) (noReach (chromaReachNo b)) (f .1)))
@@ -144,18 +163,21 @@ abbrev pub gatheredPair : ℕ → List Rows → GatheredPair
 gatheredPair k v = record { no = k; planes = v }
 
 -- the number that the code gives is the call's, however its planes are told to be whole
-pub luma-number : (whole : Bool) (g : LumaRefGeometry) {l : Layout} {w : Bool} {k : ℕ} → l ≡ lumaLayout g → w ≡ whole → k ≡ gatherNo (g .bits) (l .reach .no) w
+pub luma-number : (whole : Bool) (g : LumaRefGeometry) {l : Layout} {w : Bool} {k : ℕ} → l ≡ lumaLayout g → w ≡ whole → k
+    ≡ gatherNo (g .bits) (l .reach .no) w
     → k ≡ lumaNumber whole g
 luma-number whole g el ew ek =
     ek ∙ ap₂ (gatherNo (g .bits)) (ap (λ (q : Layout). q .reach .no) el ∙ luma-reach-no g) ew ∙ sym (luma-no whole g)
 
-pub chroma-number : (whole : Bool) (g : ChromaRefGeometry) {l : Layout} {w : Bool} {k : ℕ} → l ≡ chromaLayout g → w ≡ whole → k ≡ gatherNo (g .bits) (l .reach .no) w
+pub chroma-number : (whole : Bool) (g : ChromaRefGeometry) {l : Layout} {w : Bool} {k : ℕ} → l ≡ chromaLayout g → w ≡ whole → k
+    ≡ gatherNo (g .bits) (l .reach .no) w
     → k ≡ chromaNumber whole g
 chroma-number whole g el ew ek =
     ek ∙ ap₂ (gatherNo (g .bits)) (ap (λ (q : Layout). q .reach .no) el ∙ chroma-reach-no g) ew ∙ sym (chroma-no whole g)
 
 -- the rows of a plane, from the parts that the code makes
-module _ {has : ℤ → ℤ → Bool} {r : Reach} (plane : List ℕ) (width row col n bits : ℕ) (y : GatherReady has r (length plane) width row col n) {s : Spot}
+module _ {has : ℤ → ℤ → Bool} {r : Reach} (plane : List ℕ) (width row col n bits : ℕ)
+    (y : GatherReady has r (length plane) width row col n) {s : Spot}
     (es : s ≡ spotOf width row col) where
   inside : Reads r s (length plane) n
   inside = subst (λ (t : Spot). Reads r t (length plane) n) (sym es) (y .reads)
@@ -169,32 +191,40 @@ module _ {has : ℤ → ℤ → Bool} {r : Reach} (plane : List ℕ) (width row 
 
 -- the same for the two doors, whose calls are not refused
 module _ (plane : List ℕ) (g : LumaRefGeometry) {l : Layout} (el : l ≡ lumaLayout g) (e : lumaNo (length plane) g ≡ 0) where
-  abbrev luma : (depthOk (g .bits) ≡ true) × GatherReady (lumaHas (lumaBlock g)) (l .reach) (length plane) (g .picture .width) (g .«block_row» .0) (g .«block_col» .0) (g .n)
+  abbrev luma : (depthOk (g .bits) ≡ true) × GatherReady (lumaHas (lumaBlock g)) (l .reach) (length plane) (g .picture .width)
+      (g .«block_row» .0) (g .«block_col» .0) (g .n)
   luma = luma-ready (length plane) g (l .reach) (ap (λ (q : Layout). q .reach) el) e
 
   pub luma-inside : Reads (l .reach) (l .spot) (length plane) (g .n)
-  luma-inside = inside plane (g .picture .width) (g .«block_row» .0) (g .«block_col» .0) (g .n) (g .bits) (luma .1) (ap (λ (q : Layout). q .spot) el)
+  luma-inside = inside plane (g .picture .width) (g .«block_row» .0) (g .«block_col» .0) (g .n) (g .bits) (luma .1)
+      (ap (λ (q : Layout). q .spot) el)
 
-  pub luma-made : {neutral : ℕ} {v : Rows} → neutral ≡ neutralOf (g .bits) → v ≡ planeRows plane (l .spot) (l .reach) (g .n) neutral → v ≡ lumaRows plane g
+  pub luma-made : {neutral : ℕ} {v : Rows} → neutral ≡ neutralOf (g .bits) → v ≡ planeRows plane (l .spot) (l .reach) (g .n) neutral → v
+      ≡ lumaRows plane g
   unfolding lumaRows
-  luma-made en ev = made plane (g .picture .width) (g .«block_row» .0) (g .«block_col» .0) (g .n) (g .bits) (luma .1) (ap (λ (q : Layout). q .spot) el) (luma .0) en ev
+  luma-made en ev = made plane (g .picture .width) (g .«block_row» .0) (g .«block_col» .0) (g .n) (g .bits) (luma .1)
+      (ap (λ (q : Layout). q .spot) el) (luma .0) en ev
 
 module _ (cb cr : List ℕ) (g : ChromaRefGeometry) {l : Layout} (el : l ≡ chromaLayout g) (e : chromaNo (length cb) (length cr) g ≡ 0) where
   abbrev Chroma : List ℕ → Type 0
-  Chroma plane = GatherReady (chromaHas (chromaBlock g)) (l .reach) (length plane) (chromaWidth (chromaBlock g)) (g .«block_row» .0) (g .«block_col» .0) (g .n)
+  Chroma plane = GatherReady (chromaHas (chromaBlock g)) (l .reach) (length plane) (chromaWidth (chromaBlock g)) (g .«block_row» .0)
+      (g .«block_col» .0) (g .n)
 
   abbrev fine : (depthOk (g .bits) ≡ true) × Chroma cb × Chroma cr
   fine = chroma-ready (length cb) (length cr) g (l .reach) (ap (λ (q : Layout). q .reach) el) e
 
   one-inside : (plane : List ℕ) → Chroma plane → Reads (l .reach) (l .spot) (length plane) (g .n)
-  one-inside plane y = inside plane (chromaWidth (chromaBlock g)) (g .«block_row» .0) (g .«block_col» .0) (g .n) (g .bits) y (ap (λ (q : Layout). q .spot) el)
+  one-inside plane y = inside plane (chromaWidth (chromaBlock g)) (g .«block_row» .0) (g .«block_col» .0) (g .n) (g .bits) y
+      (ap (λ (q : Layout). q .spot) el)
 
   pub chroma-inside : Reads (l .reach) (l .spot) (length cb) (g .n) × Reads (l .reach) (l .spot) (length cr) (g .n)
   chroma-inside = (one-inside cb (fine .1), one-inside cr (fine .2))
 
-  one-made : (plane : List ℕ) → Chroma plane → {neutral : ℕ} {v : Rows} → neutral ≡ neutralOf (g .bits) → v ≡ planeRows plane (l .spot) (l .reach) (g .n) neutral → v ≡ chromaRows plane g
+  one-made : (plane : List ℕ) → Chroma plane → {neutral : ℕ} {v : Rows} → neutral ≡ neutralOf (g .bits) → v
+      ≡ planeRows plane (l .spot) (l .reach) (g .n) neutral → v ≡ chromaRows plane g
   unfolding chromaRows
-  one-made plane y en ev = made plane (chromaWidth (chromaBlock g)) (g .«block_row» .0) (g .«block_col» .0) (g .n) (g .bits) y (ap (λ (q : Layout). q .spot) el) (fine .0) en ev
+  one-made plane y en ev = made plane (chromaWidth (chromaBlock g)) (g .«block_row» .0) (g .«block_col» .0) (g .n) (g .bits) y
+      (ap (λ (q : Layout). q .spot) el) (fine .0) en ev
 
   pub chroma-made : {neutral : ℕ} {v u : Rows} → neutral ≡ neutralOf (g .bits) → v ≡ planeRows cb (l .spot) (l .reach) (g .n) neutral
       → u ≡ planeRows cr (l .spot) (l .reach) (g .n) neutral → _≡_ {A = List Rows} (v ∷ u ∷ []) (chromaPair cb cr g)

@@ -70,10 +70,13 @@ pub record Reads (r : Reach) (s : Spot) (len n : ℕ) : Type 0 where
 pub rows-are : (has : ℤ → ℤ → Bool) (plane : List ℕ) (width row col n neutral : ℕ) (r : Reach) → n ≤ 32 → Counted has row col n r
     → planeRows plane (spotOf width row col) r n neutral ≡ gatheredBy has (sampleOf plane width) row col n neutral
 rows-are has plane width row col n neutral r small known =
-    sym (from-reach has (sampleOf plane width) row col n r small known neutral ∙ ap₂ (λ (f g : ℕ → ℕ). fromReach r (cornerAt (sampleOf plane width) row col) f g n neutral) above left)
+    sym (from-reach has (sampleOf plane width) row col n r small known neutral
+    ∙ ap₂ (λ (f g : ℕ → ℕ). fromReach r (cornerAt (sampleOf plane width) row col) f g n neutral) above left)
   where
     above : aboveAt (sampleOf plane width) row col ≡ aboveOn plane (spotOf width row col)
-    above = fun-ext (λ i. ap (λ (k : ℕ). getD plane k 0) (let q : (row - 1) * width + (col + i) ≡ (row - 1) * width + col + i * 1 = omega arith in q))
+    above = fun-ext (λ i. ap (λ (k : ℕ). getD plane k 0)
+        (let q : (row - 1) * width + (col + i) ≡ (row - 1) * width + col + i * 1 = omega arith in q))
 
     left : leftAt (sampleOf plane width) row col ≡ leftOn plane (spotOf width row col)
-    left = fun-ext (λ i. ap (λ (k : ℕ). getD plane k 0) (let q : (row + i) * width + (col - 1) ≡ row * width + (col - 1) + i * width = omega arith in q))
+    left = fun-ext (λ i. ap (λ (k : ℕ). getD plane k 0)
+        (let q : (row + i) * width + (col - 1) ≡ row * width + (col - 1) + i * width = omega arith in q))

@@ -64,7 +64,8 @@ unfoldable pub told : Job → List ℕ
 told j =
     let v = verdict j in
     cond (eqb (v .no) 0)
-    (lines (j .plan .block) (residuals j) (j .plan .count) ++ ending (j .plan .count) (agree (replayedPlane j) (j .source) (length (j .source))))
+    (lines (j .plan .block) (residuals j) (j .plan .count) ++ ending (j .plan .count)
+    (agree (replayedPlane j) (j .source) (length (j .source))))
     (refusal (v .no) (v .block))
 
 -- and of every input: number 12 comes before everything

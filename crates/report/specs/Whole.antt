@@ -32,7 +32,8 @@ use Rattle.report.specs.sums.Sums.{agree}
 use Rattle.report.specs.text.Text.{laid, refusal, ending}
 use Rattle.report.specs.text.Laws.{Laid}
 use Rattle.report.specs.declared.Printout.{Printout}
-use Rattle.report.specs.Told.{Job, stillIn, jobOf, noneDone, zeros, blank, verdict, residuals, replayedPlane, lines, told, printed, reportOf}
+use Rattle.report.specs.Told.{Job, stillIn, jobOf, noneDone, zeros, blank, verdict, residuals, replayedPlane, lines, told}
+use Rattle.report.specs.Told.{printed, reportOf}
 use Rattle.report.specs.Laws.{Listed, WholeWalk, take-fill}
 
 -- what the program lends a walk: few blocks, planes and residuals of zeros, room for the text
@@ -46,7 +47,8 @@ pub record Blank (s : Still) (blocks : ℕ) (w : World) (plane : List ℕ) (room
 stepped-no : (v : Verdict) (plan : Plan) (p : Progress) (grant : ℕ) → steppedBy v plan p grant .no ≡ v .no
 stepped-no v plan p grant = go (eqb (v .no) 0) refl _ refl
   where
-    go : (t : Bool) → eqb (v .no) 0 ≡ t → (a : Stepped) → a .no ≡ 0 → cond t a (record { no = v .no; block = v .block; did = 0; next = p }) .no ≡ v .no
+    go : (t : Bool) → eqb (v .no) 0 ≡ t → (a : Stepped) → a .no ≡ 0
+        → cond t a (record { no = v .no; block = v .block; did = 0; next = p }) .no ≡ v .no
     go true e a z = z ∙ sym (eqb-true (v .no) 0 e)
     go false e a z = refl
 
@@ -55,7 +57,8 @@ stepped-block v plan p grant h = ap (λ (a : Stepped). a .block) (sym (unserved 
 
 module _ {j : Job} {w x : World} {r : Stepped} (h : WholeWalk j w x r) (b : w ≡ blank (j .still)) where
   given : r ≡ steppedBy (verdict j) (j .plan) noneDone (j .plan .count)
-  given = h .gives ∙ ap (λ (u : World). steppedBy (walkVerdict (j .still) (j .plan) scratchTables 0 (j .source) u) (j .plan) noneDone (j .plan .count)) b
+  given = h .gives ∙ ap (λ (u : World). steppedBy (walkVerdict (j .still) (j .plan) scratchTables 0 (j .source) u) (j .plan) noneDone
+      (j .plan .count)) b
 
   number-is : r .no ≡ verdict j .no
   number-is = ap (λ (u : Stepped). u .no) given ∙ stepped-no (verdict j) (j .plan) noneDone (j .plan .count)
@@ -68,10 +71,12 @@ module _ {j : Job} {w x : World} {r : Stepped} (h : WholeWalk j w x r) (b : w �
       ∙ if-no (eqb (verdict j .no) 0) _ _ _ (ne-eqb (verdict j .no) 0 k) refl
 
   pub residuals-are : x .residuals ≡ residuals j
-  residuals-are = ap (λ (u : World). u .residuals) (h .leaves) ∙ ap (λ (u : World). walkAfter (j .still) (j .plan) scratchTables 0 (j .plan .count) (j .source) u .residuals) b
+  residuals-are = ap (λ (u : World). u .residuals) (h .leaves)
+      ∙ ap (λ (u : World). walkAfter (j .still) (j .plan) scratchTables 0 (j .plan .count) (j .source) u .residuals) b
 
   module _ (z : r .no ≡ 0) where
-    sound : Sound (j .still) (j .plan) (length (w .work)) (length (w .residuals)) scratchTables × ((length (j .source) ≡ length (w .work)) × (0 ≤ j .plan .count))
+    sound : Sound (j .still) (j .plan) (length (w .work)) (length (w .residuals)) scratchTables
+        × ((length (j .source) ≡ length (w .work)) × (0 ≤ j .plan .count))
     sound =
         walk-sound (j .still) (j .plan) scratchTables 0 (j .source) w
         (ap (λ (u : World). walkVerdict (j .still) (j .plan) scratchTables 0 (j .source) u .no) b ∙ sym number-is ∙ z)
@@ -91,13 +96,16 @@ module _ {j : Job} {w x : World} {r : Stepped} (h : WholeWalk j w x r) (b : w �
         ap length e ∙ length-replicate n 0 ∙ sym (length-replicate n 0) ∙ sym (ap (λ (u : World). length (u .work)) b) ∙ sym (sound .1 .0)
 
     pub served-told : (plane back : List ℕ) (same : Bool) → plane ≡ zeros (j .still)
-        → back ≡ replayAfter (j .still) (j .plan) scratchTables 0 (j .plan .count) (x .residuals) plane → same ≡ agree back (j .source) (length (j .source))
+        → back ≡ replayAfter (j .still) (j .plan) scratchTables 0 (j .plan .count) (x .residuals) plane → same
+        ≡ agree back (j .source) (length (j .source))
         → lines (j .plan .block) (x .residuals) (j .plan .count) ++ ending (j .plan .count) same ≡ told j
     unfolding told
     served-told plane back same e q s =
         let v = residuals-are in
-        let f : back ≡ replayedPlane j = q ∙ ap₂ (λ (u : List ℤ) (d : List ℕ). replayAfter (j .still) (j .plan) scratchTables 0 (j .plan .count) u d) v e in
-        ap₂ (λ (u : List ℤ) (t : Bool). lines (j .plan .block) u (j .plan .count) ++ ending (j .plan .count) t) v (s ∙ ap (λ (d : List ℕ). agree d (j .source) (length (j .source))) f)
+        let f : back ≡ replayedPlane j = q ∙ ap₂ (λ (u : List ℤ) (d : List ℕ). replayAfter (j .still) (j .plan) scratchTables 0
+        (j .plan .count) u d) v e in
+        ap₂ (λ (u : List ℤ) (t : Bool). lines (j .plan .block) u (j .plan .count) ++ ending (j .plan .count) t) v
+        (s ∙ ap (λ (d : List ℕ). agree d (j .source) (length (j .source))) f)
         ∙ if-yes (eqb (verdict j .no) 0) _ _ _ (eq-eqb (verdict j .no) 0 (sym number-is ∙ z)) refl
 
 -- a file that number 12 is not given for, and its trailer
@@ -114,7 +122,8 @@ held-file b t e q =
     let start = length b - 16 in
     let x = both-true (leb 16 (length b) && leb (length b) 65536) (regionsOk (trailerOf b) start) e in
     let r : regionsOk t start ≡ true = ap (λ (u : Trailer). regionsOk u start) q ∙ x .1 in
-    let a = both-true (leb (areaOf t) 8192 && leb (t .blocks) 512 && leb (t .samples + 2 * areaOf t) start) (leb (t .plan + 6 * t .blocks) start) r in
+    let a = both-true (leb (areaOf t) 8192 && leb (t .blocks) 512 && leb (t .samples + 2 * areaOf t) start)
+    (leb (t .plan + 6 * t .blocks) start) r in
     let c = both-true (leb (areaOf t) 8192 && leb (t .blocks) 512) (leb (t .samples + 2 * areaOf t) start) (a .0) in
     let d = both-true (leb (areaOf t) 8192) (leb (t .blocks) 512) (c .0) in
     record {
@@ -132,7 +141,8 @@ part-long n d e h = sym (length-take-le n d (omega arith))
 pub zeros-long : {A : Type 0} (n m : ℕ) (z : A) {d : List A} → d ≡ replicate m z → n ≤ m → n ≡ length (take n d)
 zeros-long n m z {d} e h = part-long n d (ap length e ∙ length-replicate m z) h
 
-pub fill-long : {A : Type 0} (f : ℕ → A) (k m : ℕ) (z : A) {d : List A} → d ≡ fill f (min k m) (replicate m z) → k ≤ m → k ≡ length (take k d)
+pub fill-long : {A : Type 0} (f : ℕ → A) (k m : ℕ) (z : A) {d : List A} → d ≡ fill f (min k m) (replicate m z) → k ≤ m → k
+    ≡ length (take k d)
 fill-long f k m z {d} e h = part-long k d (ap length e ∙ length-fill f (min k m) (replicate m z) ∙ length-replicate m z) h
 
 pub fill-room : {A : Type 0} (f : ℕ → A) (k m n : ℕ) (z : A) {d : List A} → d ≡ fill f k (replicate m z) → n ≤ m → n ≤ length d
@@ -142,7 +152,8 @@ take-zeros : {A : Type 0} (n m : ℕ) (z : A) → n ≤ m → take n (replicate 
 unfolding fill
 take-zeros n m z h = take-fill (λ k. z) 0 n m z (omega arith) h
 
-pub blank-part : {f : List ℕ} (s : Still) (t : Trailer) (n blocks room : ℕ) (d e : List ℕ) (v : List ℤ) → GoodFile f t → s ≡ stillIn t → n ≡ areaOf t → blocks ≡ t .blocks → 65536 ≤ room
+pub blank-part : {f : List ℕ} (s : Still) (t : Trailer) (n blocks room : ℕ) (d e : List ℕ) (v : List ℤ) → GoodFile f t → s ≡ stillIn t → n
+    ≡ areaOf t → blocks ≡ t .blocks → 65536 ≤ room
     → d ≡ replicate 8192 0 → v ≡ replicate 8192 (pos 0) → e ≡ replicate 8192 0
     → Blank s blocks (record { work = take n d; residuals = take n v }) (take n e) room
 blank-part s t n blocks room d e v h i m k r p q u =
@@ -160,7 +171,8 @@ field-is f n d h p =
     ap (take n) p ∙ ap (λ (j : ℕ). take n (fill f j (replicate 512 0))) few ∙ take-fill f n n 512 0 (omega arith) h
 
 -- what is read is what the file asks to be walked
-pub job-is : (b : List ℕ) (t : Trailer) (s : Still) (n : ℕ) (rows cols sides modes source : List ℕ) → GoodFile b t → s ≡ stillIn t → n ≡ areaOf t
+pub job-is : (b : List ℕ) (t : Trailer) (s : Still) (n : ℕ) (rows cols sides modes source : List ℕ) → GoodFile b t → s ≡ stillIn t → n
+    ≡ areaOf t
     → rows ≡ fill (λ (k : ℕ). leAt 2 b (t .plan + 6 * k)) (min (t .blocks) 512) (replicate 512 0)
     → cols ≡ fill (λ (k : ℕ). leAt 2 b (t .plan + 2 + 6 * k)) (min (t .blocks) 512) (replicate 512 0)
     → sides ≡ fill (λ (k : ℕ). getD b (t .plan + 4 + 6 * k) 0) (min (t .blocks) 512) (replicate 512 0)
@@ -174,7 +186,9 @@ job-is b t s n rows cols sides modes source h e m p₀ p₁ p₂ p₃ q =
     let x₁ = field-is _ (t .blocks) cols (h .blocks-few) p₁ in
     let x₂ = field-is _ (t .blocks) sides (h .blocks-few) p₂ in
     let x₃ = field-is _ (t .blocks) modes (h .blocks-few) p₃ in
-    let y : take n source ≡ sourceOf b t = ap (take n) q ∙ ap₂ (λ (j k : ℕ). take j (fill (λ (i : ℕ). leAt 2 b (t .samples + 2 * i)) k (replicate 8192 0))) m all ∙ take-fill _ (areaOf t) (areaOf t) 8192 0 (omega arith) (h .samples-few) in
+    let y : take n source ≡ sourceOf b t = ap (take n) q
+    ∙ ap₂ (λ (j k : ℕ). take j (fill (λ (i : ℕ). leAt 2 b (t .samples + 2 * i)) k (replicate 8192 0))) m all
+    ∙ take-fill _ (areaOf t) (areaOf t) 8192 0 (omega arith) (h .samples-few) in
     (λ i. record { still = e i; plan = planOf (x₀ i) (x₁ i) (x₂ i) (x₃ i); source = y i })
     ∙ ap (λ (u : Trailer). record { still = stillIn u; plan = planIn b u; source = sourceOf b u }) (h .trailer)
 
@@ -183,7 +197,8 @@ pub printed-is : (b : List ℕ) (t : Bool) → fileOk b ≡ t → cond t (told (
 unfolding printed
 printed-is b t e = ap (λ (x : Bool). cond x (told (jobOf b)) (refusal 12 0)) (sym e)
 
-pub report-is : (b s d e : List ℕ) (upto room : ℕ) → Laid 0 s d e upto room → s ≡ printed b → d ≡ replicate 65536 0 → record { text = e; length = upto } ≡ reportOf b
+pub report-is : (b s d e : List ℕ) (upto room : ℕ) → Laid 0 s d e upto room → s ≡ printed b → d ≡ replicate 65536 0
+    → record { text = e; length = upto } ≡ reportOf b
 report-is b s d e upto room h q p =
     let x : e ≡ laid 0 (printed b) (replicate 65536 0) = h .over ∙ ap₂ (λ (u v : List ℕ). laid 0 u v) q p in
     let y : upto ≡ length (printed b) = omega (arith, h .ends, ap length q) in

@@ -29,7 +29,8 @@ pub none-in : (rs : List ℤ) → true ≡ allInRange rs 0
 unfolding allInRange
 none-in rs = refl
 
-pub one-more : (rs : List ℤ) (i : ℕ) {a b : Bool} → a ≡ allInRange rs i → b ≡ residualOk (getD rs i (pos 0)) → (a && b) ≡ allInRange rs (i + 1)
+pub one-more : (rs : List ℤ) (i : ℕ) {a b : Bool} → a ≡ allInRange rs i → b ≡ residualOk (getD rs i (pos 0)) → (a && b)
+    ≡ allInRange rs (i + 1)
 unfolding allInRange
 one-more rs i p q = rw (add-one, p, q)
 
@@ -38,7 +39,8 @@ unfolding allInRange
 each-small rs zero e i h = absurd (not-suc-le-zero h)
 each-small rs (suc k) e i h =
     let o = both-true (allInRange rs k) (residualOk (getD rs k (pos 0))) e in
-    ⊎-elim (λ q. rw q (leb-true (natAbs (getD rs k (pos 0))) 65535 (o .1))) (λ l. each-small rs k (o .0) i l) (eq-or-lt-of-le (le-of-suc-le-suc h))
+    ⊎-elim (λ q. rw q (leb-true (natAbs (getD rs k (pos 0))) 65535 (o .1))) (λ l. each-small rs k (o .0) i l)
+    (eq-or-lt-of-le (le-of-suc-le-suc h))
 
 -- three buffers hold so many runs of 16
 pub record RunsFit (runs a b c : ℕ) : Type 0 where

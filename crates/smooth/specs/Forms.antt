@@ -40,11 +40,13 @@ down nb (pos x) = refl
 down nb (negsuc x) = refl
 
 -- the standard's filtering is the one or the other
-pub strong-is : (allowed : Bool) (bits n : ℕ) (nb : Neighbours) → biIntFlag allowed bits n nb ≡ true → filtered allowed bits n nb ≡ strongForm nb
+pub strong-is : (allowed : Bool) (bits n : ℕ) (nb : Neighbours) → biIntFlag allowed bits n nb ≡ true → filtered allowed bits n nb
+    ≡ strongForm nb
 unfolding filtered
 strong-is allowed bits n nb e = rw e
 
-pub weak-is : (allowed : Bool) (bits n : ℕ) (nb : Neighbours) → biIntFlag allowed bits n nb ≡ false → filtered allowed bits n nb ≡ weakForm n nb
+pub weak-is : (allowed : Bool) (bits n : ℕ) (nb : Neighbours) → biIntFlag allowed bits n nb ≡ false → filtered allowed bits n nb
+    ≡ weakForm n nb
 unfolding filtered
 weak-is allowed bits n nb e =
     rw e

@@ -28,7 +28,8 @@ row-at n pF row h i l =
 pub row-kept : (n : ℕ) (pF : ℕ → ℕ) (row : List ℕ) → n ≤ 32 → getD (rowOf n pF row) (2 * n) 0 ≡ getD row (2 * n) 0
 unfolding rowOf
 row-kept n pF row h =
-    fill-at (rowEntry n pF row) (2 * n + 1) (replicate 65 0) (2 * n) 0 (omega arith) (rw length-replicate (omega arith)) ∙ rw (le-ltb (2 * n) (2 * n) (omega arith))
+    fill-at (rowEntry n pF row) (2 * n + 1) (replicate 65 0) (2 * n) 0 (omega arith) (rw length-replicate (omega arith))
+    ∙ rw (le-ltb (2 * n) (2 * n) (omega arith))
 
 zeros : (k i : ℕ) → _≡_ {A = ℕ} (getD (replicate k 0) i 0) 0
 zeros zero i = refl
@@ -48,7 +49,8 @@ is-standard allowed bits n corner above left h =
     record { corner = refl; above = row-at n (pF .above) above h; left = row-at n (pF .left) left h }
 
 -- at the door: a call that is served
-pub door-is-standard : (allowed : Bool) (corner : ℕ) (above left : List ℕ) (n bits : ℕ) → filterLumaNo bits n (length above) (length left) ≡ 0
+pub door-is-standard : (allowed : Bool) (corner : ℕ) (above left : List ℕ) (n bits : ℕ) → filterLumaNo bits n (length above) (length left)
+    ≡ 0
     → Agree n (neighboursOf (filterLumaRefs allowed corner above left n bits .rows)) (filtered allowed bits n (fromRows corner above left))
 unfolding filterLumaRefs
 door-is-standard allowed corner above left n bits e =

@@ -31,7 +31,8 @@ module _ (n corner : ℕ) (row : List ℕ) where
   unfolding weakAt
   weak-first h = rw (lt-ltb 0 (2 * n) (omega arith), lt-ltb 0 (2 * n - 1) (omega arith))
 
-  pub weak-mid : (x : ℕ) → 1 ≤ x → x < 2 * n - 1 → (getD row (x + 1) 0 + 2 * getD row x 0 + getD row (x - 1) 0 + 2) / 4 ≡ weakEntry n corner row x
+  pub weak-mid : (x : ℕ) → 1 ≤ x → x < 2 * n - 1 → (getD row (x + 1) 0 + 2 * getD row x 0 + getD row (x - 1) 0 + 2) / 4
+      ≡ weakEntry n corner row x
   unfolding weakAt
   weak-mid x h l = rw (lt-ltb x (2 * n) (omega arith), lt-ltb x (2 * n - 1) l, sub-pos x 1 h)
 
@@ -67,12 +68,17 @@ ready n above left e =
 
 -- either form, row by row
 module _ (allowed : Bool) (bits n corner : ℕ) (above left : List ℕ) where
-  pub give-strong : {a l : List ℕ} → biIntFlag allowed bits n (fromRows corner above left) ≡ true → a ≡ rowOf 32 (strongAt corner (getD above 63 0)) above → l ≡ rowOf 32 (strongAt corner (getD left 63 0)) left → _≡_ {A = Rows} (record { corner = corner; above = a; left = l }) (smoothed allowed bits n corner above left)
+  pub give-strong : {a l : List ℕ} → biIntFlag allowed bits n (fromRows corner above left) ≡ true → a
+      ≡ rowOf 32 (strongAt corner (getD above 63 0)) above → l ≡ rowOf 32 (strongAt corner (getD left 63 0)) left
+      → _≡_ {A = Rows} (record { corner = corner; above = a; left = l }) (smoothed allowed bits n corner above left)
   unfolding smoothed
   give-strong f p q =
       rw (strong-is allowed bits n (fromRows corner above left) f, p, q, strong-side allowed bits n (fromRows corner above left) f)
 
-  pub give-weak : {v : ℕ} {a l : List ℕ} → biIntFlag allowed bits n (fromRows corner above left) ≡ false → v ≡ (getD left 0 0 + 2 * corner + getD above 0 0 + 2) / 4 → a ≡ rowOf n (weakRow n corner (λ x. getD above x 0)) above → l ≡ rowOf n (weakRow n corner (λ x. getD left x 0)) left → _≡_ {A = Rows} (record { corner = v; above = a; left = l }) (smoothed allowed bits n corner above left)
+  pub give-weak : {v : ℕ} {a l : List ℕ} → biIntFlag allowed bits n (fromRows corner above left) ≡ false → v
+      ≡ (getD left 0 0 + 2 * corner + getD above 0 0 + 2) / 4 → a ≡ rowOf n (weakRow n corner (λ x. getD above x 0)) above → l
+      ≡ rowOf n (weakRow n corner (λ x. getD left x 0)) left
+      → _≡_ {A = Rows} (record { corner = v; above = a; left = l }) (smoothed allowed bits n corner above left)
   unfolding smoothed
   give-weak f u p q = rw (weak-is allowed bits n (fromRows corner above left) f, u, p, q)
 
@@ -81,7 +87,9 @@ luma-ready bits n above left e =
     let p = passed (depthOk bits) (filterNo n above left) 1 (omega arith) e in (depth-of bits (p .0), ready n above left (p .1))
 
 -- the door of the two rows, where it is served
-pub filter-served : (n corner : ℕ) (above left : List ℕ) {a l : List ℕ} → filterNo n (length above) (length left) ≡ 0 → a ≡ rowOf n (weakRow n corner (λ x. getD above x 0)) above → l ≡ rowOf n (weakRow n corner (λ x. getD left x 0)) left → _≡_ {A = FilteredRows} (record { no = 0; above = a; left = l }) (filterReferences corner above left n)
+pub filter-served : (n corner : ℕ) (above left : List ℕ) {a l : List ℕ} → filterNo n (length above) (length left) ≡ 0 → a
+    ≡ rowOf n (weakRow n corner (λ x. getD above x 0)) above → l ≡ rowOf n (weakRow n corner (λ x. getD left x 0)) left
+    → _≡_ {A = FilteredRows} (record { no = 0; above = a; left = l }) (filterReferences corner above left n)
 unfolding filterReferences
 filter-served n corner above left e p q =
     rw e

@@ -22,7 +22,8 @@ use Rattle.walk.specs.declared.Stepped.{Stepped}
 abbrev pub steppedBy : Verdict → Plan → Progress → ℕ → Stepped
 steppedBy v plan p grant =
     let did = doingOf (plan .count) (p .done) grant in
-    served (v .no) (record { no = 0; block = 0; did = did; next = record { done = p .done + did } }) (record { no = v .no; block = v .block; did = 0; next = p })
+    served (v .no) (record { no = 0; block = 0; did = did; next = record { done = p .done + did } })
+    (record { no = v .no; block = v .block; did = 0; next = p })
 
 -- a call of replay from the plane d: its answer r, the plane e after it, and that a refusal keeps the scratch
 abbrev pub ReplayGives : Still → Plan → Tables → Progress → ℕ → List ℤ → List ℕ → List ℕ → Stepped → Type 0 → Type 0
@@ -44,5 +45,6 @@ ReplayLent s plan p grant residuals plane refs indices fractions r =
 
 abbrev pub WalkLent : Still → Plan → Progress → ℕ → Slice → Slice → Residuals → Slice → Slice → Slice → Stepped → Type 0
 WalkLent s plan p grant source work residuals refs indices fractions r =
-    WalkGives s plan (lentTables refs indices fractions) p grant (now (source .entry)) (worldBefore work residuals) (worldAfter work residuals) r
+    WalkGives s plan (lentTables refs indices fractions) p grant (now (source .entry)) (worldBefore work residuals)
+    (worldAfter work residuals) r
     (Untouched refs indices fractions)

@@ -44,7 +44,8 @@ module _ (v : Verdict) (plan : Plan) (p : Progress) (grant : ℕ) where
       ap (λ (x : Step). made x p) (e ∙ sym (unserved (v .no) _ _ d))
       ∙ ap₂ (λ (x : Stepped) (u : Step). record { answer = x; upto = u .upto }) (unserved (v .no) _ _ d) (unserved (v .no) _ _ d)
 
-  pub granted-call : (t : Step) → t ≡ stepOf v (plan .count) (p .done) grant → v .no ≡ 0 → made t (record { done = t .upto }) ≡ callOf v plan p grant
+  pub granted-call : (t : Step) → t ≡ stepOf v (plan .count) (p .done) grant → v .no ≡ 0 → made t (record { done = t .upto })
+      ≡ callOf v plan p grant
   unfolding callOf stepOf
   granted-call t e z =
       ap (λ (x : Step). made x (record { done = x .upto })) (e ∙ sym (worked (v .no) _ _ z))
@@ -68,7 +69,8 @@ module _ (v : Verdict) (plan : Plan) (p : Progress) (grant : ℕ) (c : Call) (is
       go (no d) = k (calls.refused-upto v (plan .count) (p .done) grant (c .upto) upto-is d)
 
 -- replay: what its loop may ask, and what the call gives and leaves
-module _ (s : Still) (plan : Plan) (t : Tables) (p : Progress) (grant : ℕ) (v : List ℤ) (d : List ℕ) (found : Verdict) (q : found ≡ planVerdict (s .frame) plan) (c : Call)
+module _ (s : Still) (plan : Plan) (t : Tables) (p : Progress) (grant : ℕ) (v : List ℤ) (d : List ℕ) (found : Verdict)
+    (q : found ≡ planVerdict (s .frame) plan) (c : Call)
     (is : c ≡ callOf (settle found (plan .count) (p .done) (replayNo s (plan .whole) t (length d) v)) (bare (plan .count)) p grant) where
   abbrev replayCall : Verdict
   replayCall = replayVerdict s plan t (p .done) (length d) v
@@ -84,12 +86,18 @@ module _ (s : Still) (plan : Plan) (t : Tables) (p : Progress) (grant : ℕ) (v 
       → (c .answer ≡ steppedBy replayCall plan p grant) × ((e ≡ replayAfter s plan t (p .done) grant v d) × ((c .answer .no ≡ 0 → ⊥) → Q))
   replay-ends e u k = (
     answer-is replayCall plan p grant c replay-call-is,
-    (calls.replay-leaves s plan t (p .done) v d grant (c .upto) (upto-is replayCall plan p grant c replay-call-is) e u, refused-so replayCall plan p grant c replay-call-is k),
+    (
+      calls.replay-leaves s plan t (p .done) v d grant (c .upto) (upto-is replayCall plan p grant c replay-call-is) e u,
+      refused-so
+          replayCall plan p grant c replay-call-is k,
+    ),
   )
 
 -- the same of the walk
-module _ (s : Still) (plan : Plan) (t : Tables) (p : Progress) (grant : ℕ) (source : List ℕ) (w : World) (found : Verdict) (q : found ≡ planVerdict (s .frame) plan) (c : Call)
-    (is : c ≡ callOf (settle found (plan .count) (p .done) (walkNo s (plan .whole) t source (length (w .work)) (length (w .residuals)))) (bare (plan .count)) p grant) where
+module _ (s : Still) (plan : Plan) (t : Tables) (p : Progress) (grant : ℕ) (source : List ℕ) (w : World) (found : Verdict)
+    (q : found ≡ planVerdict (s .frame) plan) (c : Call)
+    (is : c ≡ callOf (settle found (plan .count) (p .done) (walkNo s (plan .whole) t source (length (w .work)) (length (w .residuals))))
+    (bare (plan .count)) p grant) where
   abbrev walkCall : Verdict
   walkCall = walkVerdict s plan t (p .done) source w
 
@@ -104,5 +112,9 @@ module _ (s : Still) (plan : Plan) (t : Tables) (p : Progress) (grant : ℕ) (so
       → (c .answer ≡ steppedBy walkCall plan p grant) × ((e ≡ walkAfter s plan t (p .done) grant source w) × ((c .answer .no ≡ 0 → ⊥) → Q))
   walk-ends e u k = (
     answer-is walkCall plan p grant c walk-call-is,
-    (calls.walk-leaves s plan t (p .done) source w grant (c .upto) (upto-is walkCall plan p grant c walk-call-is) e u, refused-so walkCall plan p grant c walk-call-is k),
+    (
+      calls.walk-leaves s plan t (p .done) source w grant (c .upto) (upto-is walkCall plan p grant c walk-call-is) e u,
+      refused-so walkCall
+          plan p grant c walk-call-is k,
+    ),
   )

@@ -1,5 +1,5 @@
--- What a call of walk or replay refuses and leaves behind, and what its loop over the blocks rests on. Laws alone, apart from the loops' code.
--- Steps: how many blocks a call does. Places: where the residuals of a plan's blocks begin.
+-- What a call of walk or replay refuses and leaves behind, and what its loop over the blocks rests on. Laws alone, apart from the
+-- loops' code. Steps: how many blocks a call does. Places: where the residuals of a plan's blocks begin.
 pub mod Steps
 pub mod Places
 -- Door: what a call refuses and leaves behind.

@@ -15,9 +15,11 @@ servedWithin m count long work kept = cond (leb count m) (cond long work kept) k
 
 -- the first samples of bytes
 unfoldable pub readInto : ℕ → List ℕ → List ℕ → List ℕ
-readInto count row d = servedWithin 32 count (leb (4 * count) (length row) && leb (2 * count) (length d)) (fill (λ i. getD (samplesOf row) i 0) (2 * count) d) d
+readInto count row d = servedWithin 32 count (leb (4 * count) (length row) && leb (2 * count) (length d))
+    (fill (λ i. getD (samplesOf row) i 0) (2 * count) d) d
 
 -- the bytes of the first samples
 unfoldable pub storeInto : ℕ → List ℕ → List ℕ → List ℕ
 storeInto count samples d =
-    servedWithin 512 count (leb (2 * count) (length samples) && leb (4 * count) (length d)) (fill (byteOf 2 (λ i. getD samples i 0)) (4 * count) d) d
+    servedWithin 512 count (leb (2 * count) (length samples) && leb (4 * count) (length d))
+    (fill (byteOf 2 (λ i. getD samples i 0)) (4 * count) d) d

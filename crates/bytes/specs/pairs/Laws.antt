@@ -15,11 +15,14 @@ use Rattle.bytes.specs.pairs.Into.{servedWithin, readInto, storeInto}
 enough : (m count : ℕ) (long : Bool) (work kept : List ℕ) → count ≤ m → long ≡ true → servedWithin m count long work kept ≡ work
 enough m count long work kept h e = rw (le-leb count m h, e)
 
-pub read-done : (count : ℕ) (row d : List ℕ) → count ≤ 32 → 4 * count ≤ length row → 2 * count ≤ length d → readInto count row d ≡ fill (λ i. getD (samplesOf row) i 0) (2 * count) d
+pub read-done : (count : ℕ) (row d : List ℕ) → count ≤ 32 → 4 * count ≤ length row → 2 * count ≤ length d → readInto count row d
+    ≡ fill (λ i. getD (samplesOf row) i 0) (2 * count) d
 unfolding readInto
-read-done count row d h p q = enough 32 count (leb (4 * count) (length row) && leb (2 * count) (length d)) _ _ h (rw (le-leb (4 * count) (length row) p, le-leb (2 * count) (length d) q))
+read-done count row d h p q = enough 32 count (leb (4 * count) (length row) && leb (2 * count) (length d)) _ _ h
+    (rw (le-leb (4 * count) (length row) p, le-leb (2 * count) (length d) q))
 
 pub store-done : (count : ℕ) (samples d : List ℕ) → count ≤ 512 → 2 * count ≤ length samples → 4 * count ≤ length d
     → storeInto count samples d ≡ fill (byteOf 2 (λ i. getD samples i 0)) (4 * count) d
 unfolding storeInto
-store-done count samples d h p q = enough 512 count (leb (2 * count) (length samples) && leb (4 * count) (length d)) _ _ h (rw (le-leb (2 * count) (length samples) p, le-leb (4 * count) (length d) q))
+store-done count samples d h p q = enough 512 count (leb (2 * count) (length samples) && leb (4 * count) (length d)) _ _ h
+    (rw (le-leb (2 * count) (length samples) p, le-leb (4 * count) (length d) q))

@@ -18,11 +18,13 @@ pairOf l i = getD l (2 * i) 0 + 65536 * getD l (2 * i + 1) 0
 
 -- four bytes are a pair of samples
 pub four-bytes : (b : List ℕ) (i : ℕ) → 4 * i + 3 < length b
-    → getD b (4 * i) 0 + 256 * getD b (4 * i + 1) 0 + 65536 * getD b (4 * i + 2) 0 + 16777216 * getD b (4 * i + 3) 0 ≡ pairOf (samplesOf b) i
+    → getD b (4 * i) 0 + 256 * getD b (4 * i + 1) 0 + 65536 * getD b (4 * i + 2) 0 + 16777216 * getD b (4 * i + 3) 0
+    ≡ pairOf (samplesOf b) i
 four-bytes b i h =
     let p = sample-at b (2 * i) (4 * i) (omega arith) (omega arith) in
     let q = sample-at b (2 * i + 1) (4 * i + 2) (omega arith) (omega arith) in
-    let r : getD b (4 * i + 2 + 1) 0 ≡ getD b (4 * i + 3) 0 = ap (λ (k : ℕ). getD b k 0) (let e : 4 * i + 2 + 1 ≡ 4 * i + 3 = omega arith in e) in
+    let r : getD b (4 * i + 2 + 1) 0 ≡ getD b (4 * i + 3) 0 = ap (λ (k : ℕ). getD b k 0)
+    (let e : 4 * i + 2 + 1 ≡ 4 * i + 3 = omega arith in e) in
     omega arith
 
 -- e is d with the first pairs of s
@@ -56,7 +58,8 @@ high-half w i =
     rw (d, m)
 
 -- one number more, taken apart
-pub apart-more : (w d : List ℕ) (i : ℕ) {e : List ℕ} {x y : ℕ} → e ≡ fill (halfOf w) (2 * i) d → x ≡ getD w i 0 % 65536 → y ≡ getD w i 0 / 65536 % 65536
+pub apart-more : (w d : List ℕ) (i : ℕ) {e : List ℕ} {x y : ℕ} → e ≡ fill (halfOf w) (2 * i) d → x ≡ getD w i 0 % 65536 → y
+    ≡ getD w i 0 / 65536 % 65536
     → set (set e (2 * i) x) (2 * i + 1) y ≡ fill (halfOf w) (2 * (i + 1)) d
 apart-more w d i p q r =
     fill-more (halfOf w) d (fill-more (halfOf w) d p (q ∙ low-half w i)) (r ∙ high-half w i)
@@ -65,20 +68,26 @@ apart-more w d i p q r =
 -- what holds of even and of odd numbers, and by the remainder by four
 by-two : (P : ℕ → Type 0) → ((q : ℕ) → P (2 * q)) → ((q : ℕ) → P (2 * q + 1)) → (j : ℕ) → P j
 by-two P e o j =
-    ⊎-elim (λ h. subst P (let q : 2 * (j / 2) + 1 ≡ j = omega arith in q) (o (j / 2))) (λ h. subst P (let q : 2 * (j / 2) ≡ j = omega arith in q) (e (j / 2)))
+    ⊎-elim (λ h. subst P (let q : 2 * (j / 2) + 1 ≡ j = omega arith in q) (o (j / 2)))
+    (λ h. subst P (let q : 2 * (j / 2) ≡ j = omega arith in q) (e (j / 2)))
     (let m : j % 2 ≤ 1 = omega arith in eq-or-lt-of-le m)
 
-by-four : (P : ℕ → Type 0) → ((q : ℕ) → P (4 * q)) → ((q : ℕ) → P (4 * q + 1)) → ((q : ℕ) → P (4 * q + 2)) → ((q : ℕ) → P (4 * q + 3)) → (j : ℕ) → P j
+by-four : (P : ℕ → Type 0) → ((q : ℕ) → P (4 * q)) → ((q : ℕ) → P (4 * q + 1)) → ((q : ℕ) → P (4 * q + 2)) → ((q : ℕ) → P (4 * q + 3))
+    → (j : ℕ) → P j
 by-four P a b c d =
     by-two P
-    (by-two (λ q. P (2 * q)) (λ q. subst P (let e : 4 * q ≡ 2 * (2 * q) = omega arith in e) (a q)) (λ q. subst P (let e : 4 * q + 2 ≡ 2 * (2 * q + 1) = omega arith in e) (c q)))
-    (by-two (λ q. P (2 * q + 1)) (λ q. subst P (let e : 4 * q + 1 ≡ 2 * (2 * q) + 1 = omega arith in e) (b q)) (λ q. subst P (let e : 4 * q + 3 ≡ 2 * (2 * q + 1) + 1 = omega arith in e) (d q)))
+    (by-two (λ q. P (2 * q)) (λ q. subst P (let e : 4 * q ≡ 2 * (2 * q) = omega arith in e) (a q))
+    (λ q. subst P (let e : 4 * q + 2 ≡ 2 * (2 * q + 1) = omega arith in e) (c q)))
+    (by-two (λ q. P (2 * q + 1)) (λ q. subst P (let e : 4 * q + 1 ≡ 2 * (2 * q) + 1 = omega arith in e) (b q))
+    (λ q. subst P (let e : 4 * q + 3 ≡ 2 * (2 * q + 1) + 1 = omega arith in e) (d q)))
 
 -- the bytes of a number of four, and one number more of them
 pub word-more : (f : ℕ → ℕ) (d : List ℕ) (i : ℕ) {e : List ℕ} {v : ℕ} → e ≡ fill (byteOf 4 f) (4 * i) d → v ≡ f i
-    → set (set (set (set e (4 * i) (v % 256)) (4 * i + 1) (byte1 v)) (4 * i + 2) (byte2 v)) (4 * i + 3) (byte3 v) ≡ fill (byteOf 4 f) (4 * (i + 1)) d
+    → set (set (set (set e (4 * i) (v % 256)) (4 * i + 1) (byte1 v)) (4 * i + 2) (byte2 v)) (4 * i + 3) (byte3 v)
+    ≡ fill (byteOf 4 f) (4 * (i + 1)) d
 word-more f d i {e} {v} p q =
-    next 3 (next 2 (next 1 (fill-more g d p (ap (λ (x : ℕ). x % 256) (q ∙ sym (div-one (f i))) ∙ byte 0 (omega arith) ∙ ap g (let w : 4 * i + 0 ≡ 4 * i = omega arith in w))) (ap byte1 q ∙ byte 1 (omega arith)))
+    next 3 (next 2 (next 1 (fill-more g d p (ap (λ (x : ℕ). x % 256) (q ∙ sym (div-one (f i))) ∙ byte 0 (omega arith)
+    ∙ ap g (let w : 4 * i + 0 ≡ 4 * i = omega arith in w))) (ap byte1 q ∙ byte 1 (omega arith)))
     (ap byte2 q ∙ byte 2 (omega arith)))
     (ap byte3 q ∙ byte 3 (omega arith))
     ∙ ap (λ (k : ℕ). fill g k d) (let w : 4 * i + 4 ≡ 4 * (i + 1) = omega arith in w)
@@ -130,12 +139,14 @@ module _ (s : List ℕ) (count : ℕ) (w₀ : List ℕ) (room : count ≤ length
     first q h =
         let e = pair-at q (omega arith) in
         ap wordByte (let r : 4 * q ≡ 4 * q + 0 = omega arith in r) ∙ word q 0 (omega arith)
-        ∙ (let r : getD w q 0 / 1 % 256 ≡ getD s (2 * q) 0 / 1 % 256 = omega arith in r) ∙ half (2 * q) 0 (4 * q) (omega arith) (omega arith)
+        ∙ (let r : getD w q 0 / 1 % 256 ≡ getD s (2 * q) 0 / 1 % 256 = omega arith in r)
+        ∙ half (2 * q) 0 (4 * q) (omega arith) (omega arith)
 
     second : (q : ℕ) → 4 * q + 1 < 4 * count → wordByte (4 * q + 1) ≡ sampleByte (4 * q + 1)
     second q h =
         let e = pair-at q (omega arith) in
-        word q 1 (omega arith) ∙ (let r : getD w q 0 / 256 % 256 ≡ getD s (2 * q) 0 / 256 % 256 = omega arith in r) ∙ half (2 * q) 1 (4 * q + 1) (omega arith) (omega arith)
+        word q 1 (omega arith) ∙ (let r : getD w q 0 / 256 % 256 ≡ getD s (2 * q) 0 / 256 % 256 = omega arith in r)
+        ∙ half (2 * q) 1 (4 * q + 1) (omega arith) (omega arith)
 
     third : (q : ℕ) → 4 * q + 2 < 4 * count → wordByte (4 * q + 2) ≡ sampleByte (4 * q + 2)
     third q h =

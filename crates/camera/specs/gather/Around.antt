@@ -36,7 +36,8 @@ rest-more v k i d {e} h p =
     ap (λ (j : ℕ). set e j v) (let q : i ≡ k + (i - k) = omega arith in q) ∙ run-more (λ j. v) k d p refl
     ∙ ap (λ (j : ℕ). run (λ (m : ℕ). v) k j d) (let q : i - k + 1 ≡ i + 1 - k = omega arith in q)
 
-pub edge-read : (plane : List ℕ) (e : Border) (n : ℕ) (d : List ℕ) {k i : ℕ} {x y : List ℕ} → k ≡ e .have → i ≡ 2 * n + 1 → x ≡ fill (onEdge plane (e .at) (e .step)) k d
+pub edge-read : (plane : List ℕ) (e : Border) (n : ℕ) (d : List ℕ) {k i : ℕ} {x y : List ℕ} → k ≡ e .have → i ≡ 2 * n + 1 → x
+    ≡ fill (onEdge plane (e .at) (e .step)) k d
     → y ≡ run (λ j. e .rest) k (i - k) x → y ≡ readEdge plane e n d
 edge-read plane e n d {k} {i} ek ei ex ey =
     ey ∙ ap (run (λ (j : ℕ). e .rest) k (i - k)) ex
@@ -60,9 +61,15 @@ aroundOf plane s r =
     }
 
 -- it is made of three values
-pub around-made : (plane : List ℕ) (s : Spot) (r : Reach) {start corner rest : ℕ} {a : Around} → start ≡ startOf r (cornerOn plane s) (aboveOn plane s) (leftOn plane s)
+pub around-made : (plane : List ℕ) (s : Spot) (r : Reach) {start corner rest : ℕ} {a : Around} → start
+    ≡ startOf r (cornerOn plane s) (aboveOn plane s) (leftOn plane s)
     → corner ≡ cornerOf r (cornerOn plane s) (leftOn plane s) start → rest ≡ restOf r (aboveOn plane s) corner
-    → a ≡ record { corner = corner; above = record { at = s .above; step = 1; have = r .above; rest = rest }; left = record { at = s .left; step = s .width; have = r .left; rest = start } }
+    → a ≡ record {
+      corner = corner;
+      above = record { at = s .above; step = 1; have = r .above; rest = rest };
+      left = record
+          { at = s .left; step = s .width; have = r .left; rest = start };
+    }
     → a ≡ aroundOf plane s r
 unfolding aroundOf
 around-made plane s r es ec er ea =
@@ -85,22 +92,28 @@ module _ (plane : List ℕ) (s : Spot) (r : Reach) (n : ℕ) {a : Around} (ea : 
   pub around-kept : {len : ℕ} → Reads r s len n → Kept (a .above) len n × Kept (a .left) len n
   unfolding aroundOf
   around-kept {len} y =
-      subst (λ (b : Around). Kept (b .above) len n × Kept (b .left) len n) (sym ea)
-      (record { side = y .few .side; few = y .few .above-few; inside = y .above-in }, record { side = y .few .side; few = y .few .left-few; inside = y .left-in })
+      subst (λ (b : Around). Kept (b .above) len n × Kept (b .left) len n) (sym ea) (
+        record { side = y .few .side; few = y .few .above-few; inside = y .above-in },
+        record
+            { side = y .few .side; few = y .few .left-few; inside = y .left-in },
+      )
 
   pub around-rows : (neutral : ℕ) → anyBy (r .corner) (r .above) (r .left) ≡ true → rowsOf plane n a ≡ planeRows plane s r n neutral
   unfolding aroundOf fromReach
   around-rows neutral any =
-      if-yes (anyBy (r .corner) (r .above) (r .left)) (reached r (cornerOn plane s) (aboveOn plane s) (leftOn plane s) n) (levelRows neutral) (rowsOf plane n a) any
+      if-yes (anyBy (r .corner) (r .above) (r .left)) (reached r (cornerOn plane s) (aboveOn plane s) (leftOn plane s) n)
+      (levelRows neutral) (rowsOf plane n a) any
       (ap (rowsOf plane n) ea)
 
   -- from both edges as they are read into rows of zeros
   pub around-read : (neutral : ℕ) → anyBy (r .corner) (r .above) (r .left) ≡ true → Reads r s (length plane) n → {x y : List ℕ} {v : Rows}
-      → x ≡ readEdge plane (a .above) n (replicate 65 0) → y ≡ readEdge plane (a .left) n (replicate 65 0) → v ≡ record { corner = a .corner; above = x; left = y }
+      → x ≡ readEdge plane (a .above) n (replicate 65 0) → y ≡ readEdge plane (a .left) n (replicate 65 0) → v
+      ≡ record { corner = a .corner; above = x; left = y }
       → v ≡ planeRows plane s r n neutral
   around-read neutral any reads ex ey ev =
       let k = around-kept reads in
-      ev ∙ ap₂ (λ (u w : List ℕ). record { corner = a .corner; above = u; left = w }) (ex ∙ read-edge (a .above) (k .0 .few)) (ey ∙ read-edge (a .left) (k .1 .few))
+      ev ∙ ap₂ (λ (u w : List ℕ). record { corner = a .corner; above = u; left = w }) (ex ∙ read-edge (a .above) (k .0 .few))
+      (ey ∙ read-edge (a .left) (k .1 .few))
       ∙ around-rows neutral any
     where
       read-edge : (e : Border) → e .have ≤ 2 * n + 1 → readEdge plane e n (replicate 65 0) ≡ edgeIn plane e n

@@ -1,4 +1,5 @@
--- Document 01, 'use from C': the gathers over planes of bytes, two a sample. Number 5 counts bytes, and the rows are those of the samples that the bytes spell. Assumes nothing.
+-- Document 01, 'use from C': the gathers over planes of bytes, two a sample. Number 5 counts bytes, and the rows are those of the
+-- samples that the bytes spell. Assumes nothing.
 use Prim.Native.Nat.{ℕ, _*_}
 use mathlib.Core.Bool.{_&&_}
 use mathlib.Core.List.{List}

@@ -24,4 +24,5 @@ chromaEntryNo cb cr out g = chromaNumber (eqb cb (2 * chromaLength g) && eqb cr 
 -- Cb first, then Cr
 unfoldable pub chromaEntry : List ℕ → List ℕ → ChromaRefGeometry → List ℕ → Written
 chromaEntry cb cr g d =
-    entry (chromaEntryNo (length cb) (length cr) (length d) g) (rowsAt 262 (chromaRows (samplesOf cr) g) (rowsAt 0 (chromaRows (samplesOf cb) g) d)) d
+    entry (chromaEntryNo (length cb) (length cr) (length d) g)
+    (rowsAt 262 (chromaRows (samplesOf cr) g) (rowsAt 0 (chromaRows (samplesOf cb) g) d)) d

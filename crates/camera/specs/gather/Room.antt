@@ -19,7 +19,8 @@ use Rattle.camera.specs.gather.Door.{lumaBytesNo, chromaBytesNo}
 use Rattle.camera.specs.gather.Entry.{lumaEntryNo, chromaEntryNo}
 
 -- depth, size, picture, plane, place; the buffer
-room-number : (d s p w q r : Bool) → cond d (cond s (cond p (cond (w && r) (cond q 0 6) 5) 4) 2) 1 ≡ roomNo r (cond d (cond s (cond p (cond w (cond q 0 6) 5) 4) 2) 1)
+room-number : (d s p w q r : Bool) → cond d (cond s (cond p (cond (w && r) (cond q 0 6) 5) 4) 2) 1
+    ≡ roomNo r (cond d (cond s (cond p (cond w (cond q 0 6) 5) 4) 2) 1)
 room-number false s p w q r = refl
 room-number true false p w q r = refl
 room-number true true false w q r = refl
@@ -45,7 +46,8 @@ module _ (plane out : ℕ) (g : LumaRefGeometry) {j k : ℕ} (e : j ≡ lumaByte
   unfolding lumaBytesNo
   luma-entry-no =
       ek ∙ ap (roomNo (leb 262 out)) e
-      ∙ sym (room-number (depthOk (g .bits)) (sizeOk (g .n)) (pictureOk (g .picture)) (eqb plane (2 * lumaLength g)) (lumaPlaceOk (lumaBlock g)) (leb 262 out))
+      ∙ sym (room-number (depthOk (g .bits)) (sizeOk (g .n)) (pictureOk (g .picture)) (eqb plane (2 * lumaLength g))
+      (lumaPlaceOk (lumaBlock g)) (leb 262 out))
 
   pub luma-entry-fine : k ≡ 0 → (262 ≤ out) × (lumaBytesNo plane g ≡ 0)
   luma-entry-fine z = let f = room-fine (leb 262 out) j (sym ek ∙ z) in (leb-true 262 out (f .0), sym e ∙ f .1)

@@ -18,7 +18,8 @@ use Rattle.camera.specs.gather.Line.{rowsAt}
 use Rattle.camera.specs.Written.{wrote, entry}
 use Rattle.refs.specs.declared.LumaRefGeometry.{LumaRefGeometry}
 use Rattle.refs.specs.declared.ChromaRefGeometry.{ChromaRefGeometry}
-use Rattle.refs.specs.Door.{lumaBlock, lumaLength, lumaNumber, lumaNo, lumaRows, getReferenceSamples, chromaBlock, chromaLength, chromaNumber, chromaNo, chromaRows, getReferenceSamplesChromaPair}
+use Rattle.refs.specs.Door.{lumaBlock, lumaLength, lumaNumber, lumaNo, lumaRows, getReferenceSamples, chromaBlock, chromaLength}
+use Rattle.refs.specs.Door.{chromaNumber, chromaNo, chromaRows, getReferenceSamplesChromaPair}
 use Rattle.camera.specs.gather.Door.{lumaBytesNo, lumaBytesDoor, chromaBytesNo}
 use Rattle.camera.specs.gather.Entry.{lumaEntry, chromaEntry}
 use Rattle.refs.specs.substitution.Line.{told}
@@ -49,7 +50,8 @@ module _ (b : List ℕ) (g : LumaRefGeometry) (m : ℕ) (even : length b ≡ 2 *
   luma-spelt = ap (λ (k : ℕ). gathered k (served k (lumaRows (samplesOf b) g) (levelRows 0))) same-no
 
 -- a call that is not refused has whole samples, and is not refused over these
-pub luma-spelt-fine : (b : List ℕ) (g : LumaRefGeometry) → lumaBytesNo (length b) g ≡ 0 → (length b ≡ 2 * lumaLength g) × (lumaNo (length (samplesOf b)) g ≡ 0)
+pub luma-spelt-fine : (b : List ℕ) (g : LumaRefGeometry) → lumaBytesNo (length b) g ≡ 0 → (length b ≡ 2 * lumaLength g)
+    × (lumaNo (length (samplesOf b)) g ≡ 0)
 unfolding lumaBytesNo
 luma-spelt-fine b g e =
     let w = eqb (length b) (2 * lumaLength g) in
@@ -74,7 +76,8 @@ chroma-spelt-fine cb cr g e =
     let q = eqb-true (length cr) n (t .1) in
     (p, q, sym (same-pair-no cb cr g (chromaLength g) (chromaLength g) p q) ∙ e)
 
--- The entries do what the doors do on the samples that the bytes spell: with room in the buffer, the door's number, and the door's rows as bytes.
+-- The entries do what the doors do on the samples that the bytes spell: with room in the buffer, the door's number, and the door's
+-- rows as bytes.
 with-room : (whole roomy : Bool) → roomy ≡ true → (whole && roomy) ≡ whole
 with-room true roomy e = e
 with-room false roomy e = refl
@@ -93,19 +96,24 @@ pub luma-entry-door : (b : List ℕ) (g : LumaRefGeometry) (d : List ℕ) (m : �
 unfolding lumaEntry getReferenceSamples lumaBytesNo
 luma-entry-door b g d m even room =
     ap (λ (k : ℕ). entry k (rowsAt 0 (lumaRows (samplesOf b) g) d) d)
-    (ap (λ (w : Bool). lumaNumber w g) (with-room (eqb (length b) (2 * lumaLength g)) (leb 262 (length d)) (le-leb 262 (length d) room)) ∙ same-no b g m even)
+    (ap (λ (w : Bool). lumaNumber w g) (with-room (eqb (length b) (2 * lumaLength g)) (leb 262 (length d)) (le-leb 262 (length d) room))
+    ∙ same-no b g m even)
     ∙ unwritten (λ (r : Rows). rowsAt 0 r d) (lumaNo (length (samplesOf b)) g) (lumaRows (samplesOf b) g) (levelRows 0) d
 
 -- Cb's rows, then Cr's, out of a pair
 abbrev pub pairAt : List Rows → List ℕ → List ℕ
 pairAt pair d = rowsAt 262 (getD pair 1 zeroRows) (rowsAt 0 (getD pair 0 zeroRows) d)
 
-pub chroma-entry-door : (cb cr : List ℕ) (g : ChromaRefGeometry) (d : List ℕ) (m k : ℕ) → length cb ≡ 2 * m → length cr ≡ 2 * k → 524 ≤ length d
-    → let door = getReferenceSamplesChromaPair (samplesOf cb) (samplesOf cr) g in chromaEntry cb cr g d ≡ entry (door .no) (pairAt (door .planes) d) d
+pub chroma-entry-door : (cb cr : List ℕ) (g : ChromaRefGeometry) (d : List ℕ) (m k : ℕ) → length cb ≡ 2 * m → length cr ≡ 2 * k
+    → 524 ≤ length d
+    → let door = getReferenceSamplesChromaPair (samplesOf cb) (samplesOf cr) g in chromaEntry cb cr g d
+    ≡ entry (door .no) (pairAt (door .planes) d) d
 unfolding chromaEntry getReferenceSamplesChromaPair chromaBytesNo
 chroma-entry-door cb cr g d m k even even′ room =
     let n = 2 * chromaLength g in
     let pair = chromaRows (samplesOf cb) g ∷ chromaRows (samplesOf cr) g ∷ [] in
     ap (λ (j : ℕ). entry j (pairAt pair d) d)
-    (ap (λ (w : Bool). chromaNumber w g) (with-room (eqb (length cb) n && eqb (length cr) n) (leb 524 (length d)) (le-leb 524 (length d) room)) ∙ same-pair-no cb cr g m k even even′)
-    ∙ unwritten (λ (l : List Rows). pairAt l d) (chromaNo (length (samplesOf cb)) (length (samplesOf cr)) g) pair (levelRows 0 ∷ levelRows 0 ∷ []) d
+    (ap (λ (w : Bool). chromaNumber w g) (with-room (eqb (length cb) n && eqb (length cr) n) (leb 524 (length d))
+    (le-leb 524 (length d) room)) ∙ same-pair-no cb cr g m k even even′)
+    ∙ unwritten (λ (l : List Rows). pairAt l d) (chromaNo (length (samplesOf cb)) (length (samplesOf cr)) g) pair
+    (levelRows 0 ∷ levelRows 0 ∷ []) d

@@ -34,7 +34,8 @@ module _ (n have rest at : ℕ) (on : ℕ → ℕ) (d : List ℕ) (side : n ≤ 
 
   within : (i : ℕ) → i < 2 * n + 1 → line i ≡ cond (ltb i have) (on i) rest
   unfolding paddedEdge
-  within i h = fill-at (λ k. cond (ltb k have) (on k) rest) (2 * n + 1) (replicate 65 0) i 0 h (omega (arith, length-replicate {A = ℕ} 65 0))
+  within i h = fill-at (λ k. cond (ltb k have) (on k) rest) (2 * n + 1) (replicate 65 0) i 0 h
+      (omega (arith, length-replicate {A = ℕ} 65 0))
 
   there : (i : ℕ) → i < have → on i ≡ line i
   there i h = sym (within i (omega arith) ∙ ap (λ (b : Bool). cond b (on i) rest) (lt-ltb i have h))
@@ -44,16 +45,19 @@ module _ (n have rest at : ℕ) (on : ℕ → ℕ) (d : List ℕ) (side : n ≤ 
 
   past : (i : ℕ) → i < 65 - (2 * n + 1) → 0 ≡ line (2 * n + 1 + i)
   unfolding paddedEdge
-  past i h = sym (fill-past (λ k. cond (ltb k have) (on k) rest) (2 * n + 1) (replicate 65 0) (2 * n + 1 + i) 0 (omega arith) ∙ getD-replicate 65 (2 * n + 1 + i) 0 0 (omega arith))
+  past i h = sym (fill-past (λ k. cond (ltb k have) (on k) rest) (2 * n + 1) (replicate 65 0) (2 * n + 1 + i) 0 (omega arith)
+      ∙ getD-replicate 65 (2 * n + 1 + i) 0 0 (omega arith))
 
   pub edge-stored : {x y z : List ℕ} → x ≡ run (byteOf 2 on) (2 * at) (2 * have) d
       → y ≡ run (byteOf 2 (λ i. rest)) (2 * (at + have)) (2 * (2 * n + 1 - have)) x
       → z ≡ run (byteOf 2 (λ i. 0)) (2 * (at + (2 * n + 1))) (2 * (65 - (2 * n + 1))) y → z ≡ run (sampleByte row) (2 * at) (2 * 65) d
   edge-stored p q w =
       let one = p ∙ samples-same on line at have d there in
-      let two = q ∙ ap (run (byteOf 2 (λ (i : ℕ). rest)) (2 * (at + have)) (2 * (2 * n + 1 - have))) one ∙ samples-more line (λ i. rest) at have (2 * n + 1 - have) d after
+      let two = q ∙ ap (run (byteOf 2 (λ (i : ℕ). rest)) (2 * (at + have)) (2 * (2 * n + 1 - have))) one
+      ∙ samples-more line (λ i. rest) at have (2 * n + 1 - have) d after
       ∙ ap (λ (k : ℕ). run (byteOf 2 line) (2 * at) (2 * k) d) (let e : have + (2 * n + 1 - have) ≡ 2 * n + 1 = omega arith in e) in
-      w ∙ ap (run (byteOf 2 (λ (i : ℕ). 0)) (2 * (at + (2 * n + 1))) (2 * (65 - (2 * n + 1)))) two ∙ samples-more line (λ i. 0) at (2 * n + 1) (65 - (2 * n + 1)) d past
+      w ∙ ap (run (byteOf 2 (λ (i : ℕ). 0)) (2 * (at + (2 * n + 1))) (2 * (65 - (2 * n + 1)))) two
+      ∙ samples-more line (λ i. 0) at (2 * n + 1) (65 - (2 * n + 1)) d past
       ∙ ap (λ (k : ℕ). run (byteOf 2 line) (2 * at) (2 * k) d) (let e : 2 * n + 1 + (65 - (2 * n + 1)) ≡ 65 = omega arith in e)
 
 -- one value in all 131 samples
@@ -68,7 +72,8 @@ module _ (plane : List ℕ) (s : Spot) (r : Reach) (n neutral at : ℕ) (d : Lis
   none-stored gone e = e ∙ level-stored neutral at d ∙ ap (λ (v : Rows). rowsAt (2 * at) v d) (finish-none plane s r n neutral gone)
 
   pub some-stored : {a : Around} → a ≡ aroundOf plane s r → anyBy (r .corner) (r .above) (r .left) ≡ true → {x y z : List ℕ}
-      → x ≡ set (set d (2 * at) (a .corner % 256)) (2 * at + 1) (byte1 (a .corner)) → y ≡ run (sampleByte (edgeIn plane (a .above) n)) (2 * (at + 1)) (2 * 65) x
+      → x ≡ set (set d (2 * at) (a .corner % 256)) (2 * at + 1) (byte1 (a .corner)) → y
+      ≡ run (sampleByte (edgeIn plane (a .above) n)) (2 * (at + 1)) (2 * 65) x
       → z ≡ run (sampleByte (edgeIn plane (a .left) n)) (2 * (at + 66)) (2 * 65) y → z ≡ rowsAt (2 * at) (planeRows plane s r n neutral) d
   unfolding paddedEdge
   some-stored {a} ea any p q w =

@@ -1,4 +1,5 @@
--- A block that a predictor made of rows in bytes, and that was stored as bytes; and which block each entry asks for. Rests on the laws of the modes.
+-- A block that a predictor made of rows in bytes, and that was stored as bytes; and which block each entry asks for. Rests on the
+-- laws of the modes.
 use mathlib.Core.Path.{_≡_, refl, sym, ap, _∙_}
 use mathlib.Core.Bool.{Bool, true, false}
 use mathlib.Core.List.{List}
@@ -38,7 +39,15 @@ module _ {bits n mode a l p : ℕ} (b : Predictable bits n mode) (h : SampleRoom
 
   pub angular-serves : 2 ≤ mode → angularNo bits n mode (withScratch a l p) ≡ 0
   angular-serves low =
-      rw (b .depth, b .size, both-same (le-leb 2 mode low) (b .inside), le-leb 65 a (h .above-long), le-leb 65 l (h .left-long), le-leb (n * n) p (h .block-long))
+      rw (
+        b .depth,
+        b .size,
+        both-same (le-leb 2 mode low) (b .inside),
+        le-leb 65 a (h .above-long),
+        le-leb 65 l (h .left-long),
+        le-leb
+            (n * n) p (h .block-long),
+      )
 
 -- what a call with number 0 left behind is its work
 pub did : {A : Type 0} (k : ℕ) (work kept : A) {out : A} → k ≡ 0 → out ≡ served k work kept → out ≡ work
@@ -58,7 +67,8 @@ stored g n k p d e few hp hd {pred} {out} made put =
     (ap (λ (m : List ℕ). getD m (j / 2) 0) made ∙ fill-at (λ i. g (i / n) (i % n)) (n * n) p (j / 2) 0 (omega arith) (omega arith)))
 
 -- a row as it was read, and as the definitions have it, as far as a side reads
-alike : (n : ℕ) (b : List ℕ) → n ≤ 32 → 130 ≤ length b → {a : List ℕ} → a ≡ readInto n b (replicate 65 0) → (i : ℕ) → i < 2 * n → getD a i 0 ≡ getD (rowIn b) i 0
+alike : (n : ℕ) (b : List ℕ) → n ≤ 32 → 130 ≤ length b → {a : List ℕ} → a ≡ readInto n b (replicate 65 0) → (i : ℕ) → i < 2 * n
+    → getD a i 0 ≡ getD (rowIn b) i 0
 alike n b most long e i h =
     let q = length-replicate {A = ℕ} 65 0 in
     ap (λ (l : List ℕ). getD l i 0) (e ∙ read-done n b (replicate 65 0) most (omega arith) (omega arith))
@@ -66,9 +76,11 @@ alike n b most long e i h =
     ∙ sym (fill-at (λ j. getD (samplesOf b) j 0) 65 (replicate 65 0) i 0 (omega arith) (omega arith))
 
 -- a block made of rows that were read is the one of the rows in bytes
-pub read-block : (bits n mode corner : ℕ) (edge : Bool) (above left p : List ℕ) → Predictable bits n mode → 130 ≤ length above → 130 ≤ length left
+pub read-block : (bits n mode corner : ℕ) (edge : Bool) (above left p : List ℕ) → Predictable bits n mode → 130 ≤ length above
+    → 130 ≤ length left
     → {a l : List ℕ} → a ≡ readInto n above (replicate 65 0) → l ≡ readInto n left (replicate 65 0)
-    → block (λ (y x : ℕ). byMode bits edge edge n mode (fromRows corner a l) x y) n p ≡ block (λ (y x : ℕ). byMode bits edge edge n mode (neighboursIn corner above left) x y) n p
+    → block (λ (y x : ℕ). byMode bits edge edge n mode (fromRows corner a l) x y) n p
+    ≡ block (λ (y x : ℕ). byMode bits edge edge n mode (neighboursIn corner above left) x y) n p
 read-block bits n mode corner edge above left p b ha hl ea el =
     let m = size-small n (side b) in
     rows-same _ _ n n p
@@ -79,23 +91,27 @@ read-block bits n mode corner edge above left p b ha hl ea el =
 
 -- which block an entry asks for
 module _ (n : ℕ) (above left d : List ℕ) where
-  pub planar-asked : (bits corner : ℕ) → blockIn (λ (y x : ℕ). byMode bits false false n 0 (neighboursIn corner above left) x y) n d ≡ blockIn (planarIn n above left) n d
+  pub planar-asked : (bits corner : ℕ) → blockIn (λ (y x : ℕ). byMode bits false false n 0 (neighboursIn corner above left) x y) n d
+      ≡ blockIn (planarIn n above left) n d
   unfolding byMode planar
   planar-asked bits corner = refl
 
-  pub dc-asked : (bits corner : ℕ) (edge : Bool) → blockIn (λ (y x : ℕ). byMode bits edge edge n 1 (neighboursIn corner above left) x y) n d ≡ blockIn (dcIn edge n above left) n d
+  pub dc-asked : (bits corner : ℕ) (edge : Bool) → blockIn (λ (y x : ℕ). byMode bits edge edge n 1 (neighboursIn corner above left) x y) n
+      d ≡ blockIn (dcIn edge n above left) n d
   unfolding byMode dc dcVal
   dc-asked bits corner edge = refl
 
   module _ (bits mode corner : ℕ) where
     pub angular-asked : (edge : Bool) → 2 ≤ mode
-        → blockIn (λ (y x : ℕ). byMode bits edge edge n mode (neighboursIn corner above left) x y) n d ≡ blockIn (angularIn bits edge n mode corner above left) n d
+        → blockIn (λ (y x : ℕ). byMode bits edge edge n mode (neighboursIn corner above left) x y) n d
+        ≡ blockIn (angularIn bits edge n mode corner above left) n d
     unfolding byMode
     angular-asked edge h =
         rw (ne-eqb mode 0 (λ q. let t : mode ≡ 0 = q in omega arith), ne-eqb mode 1 (λ q. let t : mode ≡ 1 = q in omega arith))
 
     -- a chroma block is its mode's, with nothing filtered
-    pub chroma-asked : blockIn (λ (y x : ℕ). byMode bits false false n mode (neighboursIn corner above left) x y) n d ≡ blockIn (chromaIn bits n mode corner above left) n d
+    pub chroma-asked : blockIn (λ (y x : ℕ). byMode bits false false n mode (neighboursIn corner above left) x y) n d
+        ≡ blockIn (chromaIn bits n mode corner above left) n d
     unfolding blockIn
     chroma-asked =
         fill-same _ _ (2 * (n * n)) d

@@ -31,7 +31,8 @@ flat-fit n above left out e bits mode d m =
     (record { depth = d; size = s .0; inside = m }, fit n above left out (passed (hasRoom n above left out) 0 5 (omega arith) (s .1) .0))
 
 -- angular and the chroma block, whichever modes they take
-pub mode-fit : (bits n mode above left out : ℕ) (taken : Bool) → (taken ≡ true → modeOk mode ≡ true) → modeEntryNo bits n taken above left out ≡ 0
+pub mode-fit : (bits n mode above left out : ℕ) (taken : Bool) → (taken ≡ true → modeOk mode ≡ true)
+    → modeEntryNo bits n taken above left out ≡ 0
     → Predictable bits n mode × (HasRoom n above left out × (taken ≡ true))
 unfolding modeEntryNo
 mode-fit bits n mode above left out taken h e =

@@ -43,14 +43,17 @@ unfolding run
 below-run g a zero d h k = k
 below-run g a (suc n) d h k = below-set (run g a n d) (a + n) (g n) (h n) (below-run g a n d h k)
 
-below-paint : (base stride n : ℕ) (g : ℕ → ℕ → ℕ) (m : ℕ) (d : List ℕ) → ((r c : ℕ) → g r c < 65536) → Below d → Below (paint base stride n g m d)
+below-paint : (base stride n : ℕ) (g : ℕ → ℕ → ℕ) (m : ℕ) (d : List ℕ) → ((r c : ℕ) → g r c < 65536) → Below d
+    → Below (paint base stride n g m d)
 unfolding paint
 below-paint base stride n g zero d h k = k
-below-paint base stride n g (suc m) d h k = below-run (g m) (base + m * stride) n (paint base stride n g m d) (h m) (below-paint base stride n g m d h k)
+below-paint base stride n g (suc m) d h k = below-run (g m) (base + m * stride) n (paint base stride n g m d) (h m)
+    (below-paint base stride n g m d h k)
 
 -- a rebuilt block's samples are
 pub below-rebuilt : (s : Still) → Depth (s .bits) → (b : Block) (at : ℕ) (v : List ℤ) (w : List ℕ) → Below w → Below (rebuilt s b at v w)
 unfolding rebuilt
 below-rebuilt s depth b at v w h =
     let most : largestIn s < 65536 = at-depth (λ (b : ℕ). 2 ^ b - 1 < 65536) (omega arith) (omega arith) (omega arith) (s .bits) depth in
-    below-paint _ _ _ _ (b .side) w (λ r c. let q = clip-most (largestIn s) (pos (predictedAt s b w r c) +ℤ getD v (at + r * b .side + c) (pos 0)) in omega (arith, q, most)) h
+    below-paint _ _ _ _ (b .side) w (λ r c. let q = clip-most (largestIn s)
+    (pos (predictedAt s b w r c) +ℤ getD v (at + r * b .side + c) (pos 0)) in omega (arith, q, most)) h

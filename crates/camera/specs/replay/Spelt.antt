@@ -1,4 +1,5 @@
--- What the replay on bytes leaves spells what the replay of the spelt samples leaves. Rests on the verdict's being the same, and on samples of 16 bits.
+-- What the replay on bytes leaves spells what the replay of the spelt samples leaves. Rests on the verdict's being the same, and on
+-- samples of 16 bits.
 use mathlib.Core.Path.{_≡_, refl, sym, ap, _∙_}
 use mathlib.Core.Bool.{true}
 use mathlib.Core.List.{List}
@@ -43,21 +44,27 @@ module _ (s : Still) (depth : Depth (s .bits)) (plan : ℕ → Block) (v : List 
   length-units i (suc k) w = length-units (suc i) k (replayUnit s plan v i w) ∙ rebuilt-length s (plan i) (place plan i) v w
 
 -- a call on a plane of bytes that all fit
-module _ (s : Still) (done : ℕ) (l : Lent) (grant : ℕ) (plane : List ℕ) (same : l .plane ≡ length plane) (fit : bytesFit s l ≡ true) (bytes : AreBytes plane) where
+module _ (s : Still) (done : ℕ) (l : Lent) (grant : ℕ) (plane : List ℕ) (same : l .plane ≡ length plane) (fit : bytesFit s l ≡ true)
+    (bytes : AreBytes plane) where
   abbrev work : List ℕ
-  work = units (replayUnit s (recordsOf (l .plan) .block) (residualsOf (l .residuals))) done (doingOf (recordsOf (l .plan) .count) done grant) (samplesOf plane)
+  work = units (replayUnit s (recordsOf (l .plan) .block) (residualsOf (l .residuals))) done
+      (doingOf (recordsOf (l .plan) .count) done grant) (samplesOf plane)
 
   -- its verdict is that on what the bytes spell
-  pub spelt-verdict : byteVerdict s done l ≡ replayVerdict s (recordsOf (l .plan)) scratchTables done (length (samplesOf plane)) (residualsOf (l .residuals))
+  pub spelt-verdict : byteVerdict s done l ≡ replayVerdict s (recordsOf (l .plan)) scratchTables done (length (samplesOf plane))
+      (residualsOf (l .residuals))
   spelt-verdict =
       verdict-alike s done l fit
-      ∙ ap (λ (k : ℕ). replayVerdict s (recordsOf (l .plan)) scratchTables done k (residualsOf (l .residuals))) (ap (λ (k : ℕ). k / 2) same ∙ sym (length-samples plane))
+      ∙ ap (λ (k : ℕ). replayVerdict s (recordsOf (l .plan)) scratchTables done k (residualsOf (l .residuals)))
+      (ap (λ (k : ℕ). k / 2) same ∙ sym (length-samples plane))
 
-  number : byteVerdict s done l .no ≡ replayVerdict s (recordsOf (l .plan)) scratchTables done (length (samplesOf plane)) (residualsOf (l .residuals)) .no
+  number : byteVerdict s done l .no ≡ replayVerdict s (recordsOf (l .plan)) scratchTables done (length (samplesOf plane))
+      (residualsOf (l .residuals)) .no
   number = ap (λ (v : Verdict). v .no) spelt-verdict
 
   pub record Left : Type 0 where
-    pub spells : samplesOf (planeAfter s done l grant plane) ≡ replayAfter s (recordsOf (l .plan)) scratchTables done grant (residualsOf (l .residuals)) (samplesOf plane)
+    pub spells : samplesOf (planeAfter s done l grant plane)
+        ≡ replayAfter s (recordsOf (l .plan)) scratchTables done grant (residualsOf (l .residuals)) (samplesOf plane)
     pub are : AreBytes (planeAfter s done l grant plane)
     pub long : length (planeAfter s done l grant plane) ≡ length plane
 
@@ -69,10 +76,13 @@ module _ (s : Still) (done : ℕ) (l : Lent) (grant : ℕ) (plane : List ℕ) (s
       go : Dec (byteVerdict s done l .no ≡ 0) → Left
       go (yes z) =
           let a = worked (byteVerdict s done l .no) (bytesOf work) plane z in
-          let b = worked (replayVerdict s (recordsOf (l .plan)) scratchTables done (length (samplesOf plane)) (residualsOf (l .residuals)) .no) work (samplesOf plane) (sym number ∙ z) in
+          let b = worked (replayVerdict s (recordsOf (l .plan)) scratchTables done (length (samplesOf plane))
+          (residualsOf (l .residuals)) .no) work (samplesOf plane) (sym number ∙ z) in
           let q = served-sound s done l z .0 in
-          let small = below-units s (q .depth) (recordsOf (l .plan) .block) (residualsOf (l .residuals)) done (doingOf (recordsOf (l .plan) .count) done grant) (samplesOf plane) (samples-below plane bytes) in
-          let n = length-units s (q .depth) (recordsOf (l .plan) .block) (residualsOf (l .residuals)) done (doingOf (recordsOf (l .plan) .count) done grant) (samplesOf plane) in
+          let small = below-units s (q .depth) (recordsOf (l .plan) .block) (residualsOf (l .residuals)) done
+          (doingOf (recordsOf (l .plan) .count) done grant) (samplesOf plane) (samples-below plane bytes) in
+          let n = length-units s (q .depth) (recordsOf (l .plan) .block) (residualsOf (l .residuals)) done
+          (doingOf (recordsOf (l .plan) .count) done grant) (samplesOf plane) in
           let f = fitting s l fit .plane in
           record {
             spells = ap samplesOf (sym a) ∙ samples-back work small ∙ b;
@@ -81,5 +91,6 @@ module _ (s : Still) (done : ℕ) (l : Lent) (grant : ℕ) (plane : List ℕ) (s
           }
       go (no z) =
           let a = unserved (byteVerdict s done l .no) (bytesOf work) plane z in
-          let b = unserved (replayVerdict s (recordsOf (l .plan)) scratchTables done (length (samplesOf plane)) (residualsOf (l .residuals)) .no) work (samplesOf plane) (λ e. z (number ∙ e)) in
+          let b = unserved (replayVerdict s (recordsOf (l .plan)) scratchTables done (length (samplesOf plane))
+          (residualsOf (l .residuals)) .no) work (samplesOf plane) (λ e. z (number ∙ e)) in
           record { spells = ap samplesOf (sym a) ∙ b; are = λ i. rw (sym a) (bytes i); long = ap length (sym a) }

@@ -1,4 +1,5 @@
--- Document 01, 'use from C': what a call of the replay on bytes refuses, by the plan and the residuals that the bytes spell, and how it answers. Assumes nothing.
+-- Document 01, 'use from C': what a call of the replay on bytes refuses, by the plan and the residuals that the bytes spell, and how
+-- it answers. Assumes nothing.
 use Prim.Native.Nat.{ℕ, _*_}
 use mathlib.Core.Bool.{Bool, cond, _&&_}
 use mathlib.Core.List.{List, [], _∷_}

@@ -59,7 +59,8 @@ abbrev pub byteNo : Still → Lent → ℕ
 byteNo s l = callNo s (bytesFit s l) 8 (every residualOk (residualsOf (l .residuals)))
 
 -- the verdict, from the number of the checks before the plan's
-verdict-from : (s : Still) (done : ℕ) (l : Lent) (v : Verdict) (early : ℕ) → early ≡ byteNo s l → v ≡ verdictOf s (recordsOf (l .plan)) done early → v ≡ byteVerdict s done l
+verdict-from : (s : Still) (done : ℕ) (l : Lent) (v : Verdict) (early : ℕ) → early ≡ byteNo s l → v
+    ≡ verdictOf s (recordsOf (l .plan)) done early → v ≡ byteVerdict s done l
 unfolding byteVerdict
 verdict-from s done l v early e q = q ∙ ap (verdictOf s (recordsOf (l .plan)) done) e
 
@@ -71,7 +72,8 @@ early-good s l z =
     (b .0, fitting s l (passed (bytesFit s l) _ 5 (omega arith) (b .1) .0) .records)
 
 -- the verdict, from the plan's on its bytes
-pub settled-bytes : (s : Still) (done : ℕ) (l : Lent) (found v : Verdict) (early : ℕ) → early ≡ byteNo s l → found ≡ planVerdict (s .frame) (recordsOf (l .plan))
+pub settled-bytes : (s : Still) (done : ℕ) (l : Lent) (found v : Verdict) (early : ℕ) → early ≡ byteNo s l → found
+    ≡ planVerdict (s .frame) (recordsOf (l .plan))
     → v ≡ settle found (length (l .plan) / 6) done early → v ≡ byteVerdict s done l
 settled-bytes s done l found v early e f q =
     verdict-from s done l v early e (q ∙ settle-is s (recordsOf (l .plan)) done early found (λ _. f) (λ z. early-good s l (sym e ∙ z)))

@@ -32,7 +32,8 @@ nonneg (pos k) e = tt
 nonneg (negsuc k) e = absurd (true≢false e)
 
 -- which the machine casts to an unsigned number
-pub unsigned : (z : ℤ) → SFits w32 z → ltZ (toZ w32 (ofZ w32 z)) (pos 0) ≡ false → T (nonNeg (toZ w32 (ofZ w32 z))) × Fits w32 (natAbs (toZ w32 (ofZ w32 z)))
+pub unsigned : (z : ℤ) → SFits w32 z → ltZ (toZ w32 (ofZ w32 z)) (pos 0) ≡ false → T (nonNeg (toZ w32 (ofZ w32 z)))
+    × Fits w32 (natAbs (toZ w32 (ofZ w32 z)))
 unsigned z f e = let b = toZ-ofZ {w = w32} f in rw b (nonneg z (rw b at e), fits-natAbs {w = w32} tt f)
 
 -- a number below 0, taken from -1, is its magnitude, one short of its absolute value

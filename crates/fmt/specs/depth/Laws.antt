@@ -1,4 +1,5 @@
--- A depth's figures by its bits: all ones, half of the range; and what the figures of a number are that is a depth. Rests on the domain's depths.
+-- A depth's figures by its bits: all ones, half of the range; and what the figures of a number are that is a depth. Rests on the
+-- domain's depths.
 use mathlib.Core.Path.{_≡_, refl, ap}
 use mathlib.Core.Bool.{Bool, false, true, cond, _||_, true≢false}
 use Prim.Native.Nat.{ℕ, _-_, _^_}

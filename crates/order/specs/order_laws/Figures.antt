@@ -13,6 +13,7 @@ abbrev sixteen : Picture
 sixteen = record { width = 32; height = 24; ctu = 16; unit = 8 }
 
 -- block (0, 4), neighbour (0, 3), in one cell of 8: available to the standard, not to document 01
-pub parts : _≡_ {A = List Bool} (available (gridOf sixteen) 4 0 (pos 3) (pos 0) ∷ availableTo sixteen (record { 0 = 0 }) (record { 0 = 4 }) (pos 0) (pos 3) ∷ []) (true ∷ false ∷ [])
+pub parts : _≡_ {A = List Bool} (available (gridOf sixteen) 4 0 (pos 3) (pos 0)
+    ∷ availableTo sixteen (record { 0 = 0 }) (record { 0 = 4 }) (pos 0) (pos 3) ∷ []) (true ∷ false ∷ [])
 unfolding available before numberAt minTbAddrZs zScan interleaved halvings
 parts = refl

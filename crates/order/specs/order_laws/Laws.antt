@@ -3,7 +3,8 @@ use mathlib.Core.Path.{_≡_, refl, sym, ap, ap₂, _∙_}
 use mathlib.Core.Bool.{Bool, true, false, not, _&&_}
 use mathlib.Core.Logic.{_⊎_, inr, ⊎-elim}
 use Prim.Native.Nat.{ℕ, _+_, _-_, _*_, _/_, _%_, _^_, _≤_, _<_}
-use native.Mathlib.Nat.{le-trans, le-div-iff-mul-le, div-mul-le-self, div-div-eq-div-mul, div-eq-of-eq-mul-left, div-add-mod', div-lt-iff-lt-mul, mod-lt, mul-comm}
+use native.Mathlib.Nat.{le-trans, le-div-iff-mul-le, div-mul-le-self, div-div-eq-div-mul, div-eq-of-eq-mul-left, div-add-mod'}
+use native.Mathlib.Nat.{div-lt-iff-lt-mul, mod-lt, mul-comm}
 use native.Mathlib.Omega.{arith}
 use native.Mathlib.Decide.{decLt}
 use lib.Arith.{digits-div, mod-mul}
@@ -72,32 +73,57 @@ module _ {p : Picture} (g : Good p) where
   -- so over samples it never falls
   pub row-rises : (col : ℕ) {row row′ : ℕ} → row ≤ row′ → numberAt p row col ≤ numberAt p row′ col
   row-rises col {row} {row′} h =
-      omega (arith, number-cell g row col, number-cell g row′ col, weak (λ (y : ℕ). cellNo (levels p) (ctusIn p) y (col / p .unit)) (row / p .unit) (row′ / p .unit) (row-lt (levels p) (ctusIn p) (col / p .unit) (ctus-cover g .2)) (div-mono (p .unit) unit-pos h))
+      omega (
+        arith,
+        number-cell g row col,
+        number-cell g row′ col,
+        weak (λ (y : ℕ). cellNo (levels p) (ctusIn p) y (col / p .unit))
+            (row / p .unit) (row′ / p .unit) (row-lt (levels p) (ctusIn p) (col / p .unit) (ctus-cover g .2)) (div-mono (p .unit) unit-pos h),
+      )
 
   pub col-rises : (row : ℕ) {col col′ : ℕ} → col ≤ col′ → numberAt p row col ≤ numberAt p row col′
   col-rises row {col} {col′} h =
-      omega (arith, number-cell g row col, number-cell g row col′, weak (cellNo (levels p) (ctusIn p) (row / p .unit)) (col / p .unit) (col′ / p .unit) (col-lt (levels p) (ctusIn p) (row / p .unit)) (div-mono (p .unit) unit-pos h))
+      omega (
+        arith,
+        number-cell g row col,
+        number-cell g row col′,
+        weak (cellNo (levels p) (ctusIn p) (row / p .unit)) (col / p .unit)
+            (col′ / p .unit) (col-lt (levels p) (ctusIn p) (row / p .unit)) (div-mono (p .unit) unit-pos h),
+      )
 
   -- two cells of the picture have different numbers
-  pub same-cell : (row col row′ col′ : ℕ) → col < p .width → col′ < p .width → numberAt p row col ≡ numberAt p row′ col′ → (row / p .unit ≡ row′ / p .unit) × (col / p .unit ≡ col′ / p .unit)
+  pub same-cell : (row col row′ col′ : ℕ) → col < p .width → col′ < p .width → numberAt p row col ≡ numberAt p row′ col′
+      → (row / p .unit ≡ row′ / p .unit) × (col / p .unit ≡ col′ / p .unit)
   same-cell row col row′ col′ h h′ e =
       let low : 0 < p .height = omega (arith, g .tall .low) in
       cell-inj (levels p) (ctusIn p) (cell-in g low h .1) (cell-in g low h′ .1) (sym (number-cell g row col) ∙ e ∙ number-cell g row′ col′)
 
   -- availability is closed toward the picture's origin, in a column and in a row
-  pub before-up : (limit col row row′ : ℕ) → row ≤ row′ → before p limit (pos row′) (pos col) ≡ true → before p limit (pos row) (pos col) ≡ true
+  pub before-up : (limit col row row′ : ℕ) → row ≤ row′ → before p limit (pos row′) (pos col) ≡ true → before p limit (pos row) (pos col)
+      ≡ true
   unfolding before
   before-up limit col row row′ h e =
       let a = both-true (ltb row′ (p .height) && ltb col (p .width)) (ltb (numberAt p row′ col) limit) e in
       let b = both-true (ltb row′ (p .height)) (ltb col (p .width)) (a .0) in
-      simp (lt-ltb row (p .height) (omega (arith, ltb-true row′ (p .height) (b .0))), b .1, lt-ltb (numberAt p row col) limit (omega (arith, ltb-true (numberAt p row′ col) limit (a .1), row-rises col h)))
+      simp (
+        lt-ltb row (p .height) (omega (arith, ltb-true row′ (p .height) (b .0))),
+        b .1,
+        lt-ltb (numberAt p row col) limit
+            (omega (arith, ltb-true (numberAt p row′ col) limit (a .1), row-rises col h)),
+      )
 
-  pub before-left : (limit row col col′ : ℕ) → col ≤ col′ → before p limit (pos row) (pos col′) ≡ true → before p limit (pos row) (pos col) ≡ true
+  pub before-left : (limit row col col′ : ℕ) → col ≤ col′ → before p limit (pos row) (pos col′) ≡ true
+      → before p limit (pos row) (pos col) ≡ true
   unfolding before
   before-left limit row col col′ h e =
       let a = both-true (ltb row (p .height) && ltb col′ (p .width)) (ltb (numberAt p row col′) limit) e in
       let b = both-true (ltb row (p .height)) (ltb col′ (p .width)) (a .0) in
-      simp (b .0, lt-ltb col (p .width) (omega (arith, ltb-true col′ (p .width) (b .1))), lt-ltb (numberAt p row col) limit (omega (arith, ltb-true (numberAt p row col′) limit (a .1), col-rises row h)))
+      simp (
+        b .0,
+        lt-ltb col (p .width) (omega (arith, ltb-true col′ (p .width) (b .1))),
+        lt-ltb (numberAt p row col) limit
+            (omega (arith, ltb-true (numberAt p row col′) limit (a .1), col-rises row h)),
+      )
 
   -- document 01's words: the CTU's number in raster order times the cells of a CTU, plus the Morton number of the cell inside it
   outer : (k v : ℕ) → p .unit * 2 ^ k ≡ p .ctu → v / p .unit / 2 ^ k ≡ v / p .ctu
@@ -106,13 +132,15 @@ module _ {p : Picture} (g : Good p) where
   inner : (k v : ℕ) → p .unit * 2 ^ k ≡ p .ctu → v % p .ctu / p .unit ≡ v / p .unit % 2 ^ k
   inner k v e =
       let m = mod-mul v {m = 2 ^ k} {c = p .unit} (pow-pos k) unit-pos in
-      ap (λ (c : ℕ). v % c / p .unit) (sym e ∙ mul-comm (p .unit) (2 ^ k)) ∙ ap (λ (u : ℕ). u / p .unit) m ∙ digits-div (v / p .unit % 2 ^ k) (mod-lt v unit-pos)
+      ap (λ (c : ℕ). v % c / p .unit) (sym e ∙ mul-comm (p .unit) (2 ^ k)) ∙ ap (λ (u : ℕ). u / p .unit) m
+      ∙ digits-div (v / p .unit % 2 ^ k) (mod-lt v unit-pos)
 
   low-bits : (k x y : ℕ) → interleaved k (x % 2 ^ k) (y % 2 ^ k) ≡ interleaved k x y
   low-bits k x y = rw (interleaved-spread k (x % 2 ^ k) (y % 2 ^ k), spread-mod k x, spread-mod k y) (sym (interleaved-spread k x y))
 
   pub as-01 : (row col : ℕ) → numberAt p row col
-      ≡ (row / p .ctu * ((p .width + p .ctu - 1) / p .ctu) + col / p .ctu) * 4 ^ levels p + interleaved (levels p) (col % p .ctu / p .unit) (row % p .ctu / p .unit)
+      ≡ (row / p .ctu * ((p .width + p .ctu - 1) / p .ctu) + col / p .ctu) * 4 ^ levels p + interleaved (levels p)
+      (col % p .ctu / p .unit) (row % p .ctu / p .unit)
   as-01 row col =
       let k = levels p in
       let s = sized g .split in
@@ -128,39 +156,45 @@ module _ {p : Picture} (g : Good p) where
       text k x y = unfold zScan in ap (λ (m : ℕ). (m + x / 2 ^ k) * 4 ^ k + interleaved k x y) (mul-comm (ctusIn p) (y / 2 ^ k))
 
   -- a block of side n at a multiple of n has exactly a run of 4^j numbers, from its own on; 2^j cells lie along it
-  module _ (n j m row col r c : ℕ) (side : p .unit * 2 ^ j ≡ n) (deep : j + m ≡ levels p) (row-at : row % n ≡ 0) (col-at : col % n ≡ 0) where
-    first-cell : (v : ℕ) → v % n ≡ 0 → v / p .unit ≡ v / n * 2 ^ j
-    first-cell v e = div-eq-of-eq-mul-left unit-pos (omega (arith, div-add-mod' v n, ap (λ (u : ℕ). v / n * u) side))
+  module _ (n j m row col r c : ℕ) (side : p .unit * 2 ^ j ≡ n) (deep : j + m ≡ levels p) (row-at : row % n ≡ 0) (col-at : col % n ≡ 0)
+    where
+      first-cell : (v : ℕ) → v % n ≡ 0 → v / p .unit ≡ v / n * 2 ^ j
+      first-cell v e = div-eq-of-eq-mul-left unit-pos (omega (arith, div-add-mod' v n, ap (λ (u : ℕ). v / n * u) side))
 
-    over : (v : ℕ) → v / p .unit / 2 ^ j ≡ v / n
-    over v = div-div-eq-div-mul v (p .unit) (2 ^ j) ∙ ap (λ (u : ℕ). v / u) side
+      over : (v : ℕ) → v / p .unit / 2 ^ j ≡ v / n
+      over v = div-div-eq-div-mul v (p .unit) (2 ^ j) ∙ ap (λ (u : ℕ). v / u) side
 
-    own : numberAt p row col ≡ cellNo (j + m) (ctusIn p) (row / n * 2 ^ j) (col / n * 2 ^ j)
-    own = number-cell g row col ∙ ap₂ (cellNo (levels p) (ctusIn p)) (first-cell row row-at) (first-cell col col-at) ∙ ap (λ (k : ℕ). cellNo k (ctusIn p) (row / n * 2 ^ j) (col / n * 2 ^ j)) (sym deep)
+      own : numberAt p row col ≡ cellNo (j + m) (ctusIn p) (row / n * 2 ^ j) (col / n * 2 ^ j)
+      own = number-cell g row col ∙ ap₂ (cellNo (levels p) (ctusIn p)) (first-cell row row-at) (first-cell col col-at)
+          ∙ ap (λ (k : ℕ). cellNo k (ctusIn p) (row / n * 2 ^ j) (col / n * 2 ^ j)) (sym deep)
 
-    other : numberAt p r c ≡ cellNo (j + m) (ctusIn p) (r / p .unit) (c / p .unit)
-    other = number-cell g r c ∙ ap (λ (k : ℕ). cellNo k (ctusIn p) (r / p .unit) (c / p .unit)) (sym deep)
+      other : numberAt p r c ≡ cellNo (j + m) (ctusIn p) (r / p .unit) (c / p .unit)
+      other = number-cell g r c ∙ ap (λ (k : ℕ). cellNo k (ctusIn p) (r / p .unit) (c / p .unit)) (sym deep)
 
-    pub block-in : r / n ≡ row / n → c / n ≡ col / n → (numberAt p row col ≤ numberAt p r c) × (numberAt p r c < numberAt p row col + 4 ^ j)
-    block-in a b =
-        let i = run-in j m (ctusIn p) (row / n) (col / n) (r / p .unit) (c / p .unit) (over r ∙ a) (over c ∙ b) in
-        omega (arith, own, other)
+      pub block-in : r / n ≡ row / n → c / n ≡ col / n → (numberAt p row col ≤ numberAt p r c) × (numberAt p r c < numberAt p row col + 4 ^ j)
+      block-in a b =
+          let i = run-in j m (ctusIn p) (row / n) (col / n) (r / p .unit) (c / p .unit) (over r ∙ a) (over c ∙ b) in
+          omega (arith, own, other)
 
-    pub block-only : col / n < ctusIn p * 2 ^ m → c / n < ctusIn p * 2 ^ m → numberAt p row col ≤ numberAt p r c → numberAt p r c < numberAt p row col + 4 ^ j
-        → (r / n ≡ row / n) × (c / n ≡ col / n)
-    block-only hX hx low high =
-        let u = over c in
-        let i = run-only j m (ctusIn p) (row / n) (col / n) (r / p .unit) (c / p .unit) hX (omega arith) (omega (arith, own, other)) (omega (arith, own, other)) in
-        (sym (over r) ∙ i .0, sym u ∙ i .1)
+      pub block-only : col / n < ctusIn p * 2 ^ m → c / n < ctusIn p * 2 ^ m → numberAt p row col ≤ numberAt p r c
+          → numberAt p r c < numberAt p row col + 4 ^ j
+          → (r / n ≡ row / n) × (c / n ≡ col / n)
+      block-only hX hx low high =
+          let u = over c in
+          let i = run-only j m (ctusIn p) (row / n) (col / n) (r / p .unit) (c / p .unit) hX (omega arith) (omega (arith, own, other))
+          (omega (arith, own, other)) in
+          (sym (over r) ∙ i .0, sym u ∙ i .1)
 
   -- 6.4.1 has 'not greater', document 01 'less': they part on the block's own cell alone
   pub standard-agrees : (row : LumaRow) (col : LumaCol) (nr nc : ℕ) → (numberAt p nr nc ≡ numberAt p (row .0) (col .0) → ⊥)
       → available (gridOf p) (col .0) (row .0) (pos nc) (pos nr) ≡ availableTo p row col (pos nr) (pos nc)
   unfolding available before numberAt
-  standard-agrees row col nr nc apart = ap₂ (λ (a b : Bool). a && b) (swapped (ltb nc (p .width)) (ltb nr (p .height))) (not-greater (numberAt p nr nc) (numberAt p (row .0) (col .0)) apart)
+  standard-agrees row col nr nc apart = ap₂ (λ (a b : Bool). a && b) (swapped (ltb nc (p .width)) (ltb nr (p .height)))
+      (not-greater (numberAt p nr nc) (numberAt p (row .0) (col .0)) apart)
 
   -- a luma gather never meets that cell: its block is at a multiple of the unit, and its neighbours are above or left of it
-  pub own-cell-apart : (row col nr nc : ℕ) → row % p .unit ≡ 0 → col % p .unit ≡ 0 → col < p .width → nc < p .width → (nr < row) ⊎ (nc < col) → numberAt p nr nc ≡ numberAt p row col → ⊥
+  pub own-cell-apart : (row col nr nc : ℕ) → row % p .unit ≡ 0 → col % p .unit ≡ 0 → col < p .width → nc < p .width → (nr < row)
+      ⊎ (nc < col) → numberAt p nr nc ≡ numberAt p row col → ⊥
   own-cell-apart row col nr nc hr hc inside near side e =
       let s = same-cell nr nc row col near inside e in
       ⊎-elim (λ l. apart nr row hr l (s .0)) (λ l. apart nc col hc l (s .1)) side

@@ -1,4 +1,5 @@
--- Document 01: a block of a plan of bytes, a record of six, little-endian: row and column of two bytes each, side and mode of one. Assumes nothing.
+-- Document 01: a block of a plan of bytes, a record of six, little-endian: row and column of two bytes each, side and mode of one.
+-- Assumes nothing.
 use Prim.Native.Nat.{ℕ, _+_, _*_, _/_}
 use mathlib.Core.Bool.{cond}
 use mathlib.Core.List.{List}

@@ -112,7 +112,8 @@ module _ {f : Frame} (g : Good (pictureOf f)) where
       let z = of-cell k w {y = Y} {x = X} (w-pos) h in
       rw (z .0, z .1) (go (decLt (4 * Y) (f .height)) (decLt (4 * X) (f .width)))
     where
-      go : Dec (4 * Y < f .height) → Dec (4 * X < f .width) → cond (ltb (4 * Y) (f .height) && ltb (4 * X) (f .width)) 1 0 + 0 ≡ part 1 H Y * part 1 W X
+      go : Dec (4 * Y < f .height) → Dec (4 * X < f .width) → cond (ltb (4 * Y) (f .height) && ltb (4 * X) (f .width)) 1 0 + 0
+          ≡ part 1 H Y * part 1 W X
       go (yes l) (yes m) =
           let y : part 1 H Y ≡ 1 = omega (arith, g .tall .whole) in
           let x : part 1 W X ≡ 1 = omega (arith, g .wide .whole) in
@@ -131,10 +132,13 @@ module _ {f : Frame} (g : Good (pictureOf f)) where
       subst (λ (u : ℕ). X < w * 2 ^ u → cnt p (cellNo u w Y X * 1) 1 ≡ part 1 H Y * part 1 W X) (sym z) (λ l. rw mul-one (one-cell Y X l)) h
   block-cells (suc j) m Y X e h =
       let q = cellNo m w Y X in
-      let at : (a b : ℕ) → a < 2 → b < 2 → cnt p ((4 * q + (2 * a + b)) * 4 ^ j) (4 ^ j) ≡ part (2 ^ j) H (2 * Y + a) * part (2 ^ j) W (2 * X + b)
-      = λ a b ha hb. ap (λ (u : ℕ). cnt p (u * 4 ^ j) (4 ^ j)) (sym (quarter m w Y X a b ha hb)) ∙ block-cells j (suc m) (2 * Y + a) (2 * X + b) (omega arith) (omega (arith, dbl w m)) in
+      let at : (a b : ℕ) → a < 2 → b < 2 → cnt p ((4 * q + (2 * a + b)) * 4 ^ j) (4 ^ j)
+      ≡ part (2 ^ j) H (2 * Y + a) * part (2 ^ j) W (2 * X + b)
+      = λ a b ha hb. ap (λ (u : ℕ). cnt p (u * 4 ^ j) (4 ^ j)) (sym (quarter m w Y X a b ha hb))
+      ∙ block-cells j (suc m) (2 * Y + a) (2 * X + b) (omega arith) (omega (arith, dbl w m)) in
       glue _ _ _ _ _ _ _ _ _ _ _ (four p q (4 ^ j) (4 ^ suc j) (omega (arith, quad 1 j)))
-      (at 0 0 (omega arith) (omega arith)) (at 0 1 (omega arith) (omega arith)) (at 1 0 (omega arith) (omega arith)) (at 1 1 (omega arith) (omega arith))
+      (at 0 0 (omega arith) (omega arith)) (at 0 1 (omega arith) (omega arith)) (at 1 0 (omega arith) (omega arith))
+      (at 1 1 (omega arith) (omega arith))
       (halves (2 ^ j) (2 ^ suc j) H Y (omega (arith, dbl 1 j))) (halves (2 ^ j) (2 ^ suc j) W X (omega (arith, dbl 1 j)))
 
   -- the CTUs of a row up to X, and the rows of CTUs up to Y
@@ -143,8 +147,10 @@ module _ {f : Frame} (g : Good (pictureOf f)) where
       let z : min (0 * 2 ^ k) W ≡ 0 = omega arith in
       cnt-zero p (Y * w * 4 ^ k) (0 * 4 ^ k) (omega arith) ∙ sym (ap (λ (u : ℕ). part (2 ^ k) H Y * u) z ∙ omega arith)
   row-cells Y (suc X) h =
-      let more = ap (cnt p (Y * w * 4 ^ k)) (let e : suc X * 4 ^ k ≡ X * 4 ^ k + 4 ^ k = omega arith in e) ∙ cnt-add p (Y * w * 4 ^ k) (X * 4 ^ k) (4 ^ k) in
-      let at = ap (λ (u : ℕ). cnt p u (4 ^ k)) (let e : Y * w * 4 ^ k + X * 4 ^ k ≡ cellNo 0 w Y X * 4 ^ k = omega (arith, ap (λ (u : ℕ). u * 4 ^ k) (cell-top w Y X)) in e) in
+      let more = ap (cnt p (Y * w * 4 ^ k)) (let e : suc X * 4 ^ k ≡ X * 4 ^ k + 4 ^ k = omega arith in e)
+      ∙ cnt-add p (Y * w * 4 ^ k) (X * 4 ^ k) (4 ^ k) in
+      let at = ap (λ (u : ℕ). cnt p u (4 ^ k)) (let e : Y * w * 4 ^ k + X * 4 ^ k
+      ≡ cellNo 0 w Y X * 4 ^ k = omega (arith, ap (λ (u : ℕ). u * 4 ^ k) (cell-top w Y X)) in e) in
       two _ _ _ (part (2 ^ k) H Y) (min (X * 2 ^ k) W) (part (2 ^ k) W X) _ more
       (row-cells Y X (omega arith)) (at ∙ block-cells k 0 Y X (omega arith) (omega arith)) (omega arith)
 
@@ -153,9 +159,11 @@ module _ {f : Frame} (g : Good (pictureOf f)) where
       let z : min (0 * 2 ^ k) H ≡ 0 = omega arith in
       cnt-zero p 0 (0 * w * 4 ^ k) (omega arith) ∙ sym (ap (λ (u : ℕ). W * u) z ∙ omega arith)
   all-cells (suc Y) =
-      let more = ap (cnt p 0) (let e : suc Y * w * 4 ^ k ≡ Y * w * 4 ^ k + w * 4 ^ k = omega arith in e) ∙ cnt-add p 0 (Y * w * 4 ^ k) (w * 4 ^ k) in
+      let more = ap (cnt p 0) (let e : suc Y * w * 4 ^ k ≡ Y * w * 4 ^ k + w * 4 ^ k = omega arith in e)
+      ∙ cnt-add p 0 (Y * w * 4 ^ k) (w * 4 ^ k) in
       let wide : min (w * 2 ^ k) W ≡ W = omega (arith, ctus-cover g .0, ap (λ (u : ℕ). w * u) (sized g .split)) in
-      let row = ap (λ (u : ℕ). cnt p u (w * 4 ^ k)) (zero-add (Y * w * 4 ^ k)) ∙ row-cells Y w (omega arith) ∙ ap (λ (u : ℕ). part (2 ^ k) H Y * u) wide ∙ mul-comm (part (2 ^ k) H Y) W in
+      let row = ap (λ (u : ℕ). cnt p u (w * 4 ^ k)) (zero-add (Y * w * 4 ^ k)) ∙ row-cells Y w (omega arith)
+      ∙ ap (λ (u : ℕ). part (2 ^ k) H Y * u) wide ∙ mul-comm (part (2 ^ k) H Y) W in
       two _ _ _ W (min (Y * 2 ^ k) H) (part (2 ^ k) H Y) _ more (all-cells Y) row (omega arith)
 
   pub picture-area : f .height * f .width ≡ 16 * cnt p 0 (numbers f)
@@ -190,16 +198,19 @@ module _ {f : Frame} (g : Good (pictureOf f)) where
     S = 2 ^ j
 
     at : (a b : ℕ) → a < 2 → b < 2 → cnt p ((4 * q + (2 * a + b)) * 4 ^ j) (4 ^ j) ≡ part S H (2 * Y + a) * part S W (2 * X + b)
-    at a b ha hb = ap (λ (u : ℕ). cnt p (u * 4 ^ j) (4 ^ j)) (sym (quarter m w Y X a b ha hb)) ∙ block-cells j (suc m) (2 * Y + a) (2 * X + b) e (omega (arith, dbl w m))
+    at a b ha hb = ap (λ (u : ℕ). cnt p (u * 4 ^ j) (4 ^ j)) (sym (quarter m w Y X a b ha hb))
+        ∙ block-cells j (suc m) (2 * Y + a) (2 * X + b) e (omega (arith, dbl w m))
 
     next : (c : ℕ) → cnt p 0 ((4 * q + (c + 1)) * 4 ^ j) ≡ cnt p 0 ((4 * q + c) * 4 ^ j) + cnt p ((4 * q + c) * 4 ^ j) (4 ^ j)
-    next c = ap (cnt p 0) (let z : (4 * q + (c + 1)) * 4 ^ j ≡ (4 * q + c) * 4 ^ j + 4 ^ j = omega arith in z) ∙ from-start p ((4 * q + c) * 4 ^ j) (4 ^ j)
+    next c = ap (cnt p 0) (let z : (4 * q + (c + 1)) * 4 ^ j ≡ (4 * q + c) * 4 ^ j + 4 ^ j = omega arith in z)
+        ∙ from-start p ((4 * q + c) * 4 ^ j) (4 ^ j)
 
     start : cnt p 0 ((4 * q + 0) * 4 ^ j) ≡ cnt p 0 (q * 4 ^ suc j)
     start = ap (cnt p 0) (omega (arith, quad q j))
 
     abbrev Goal : ℕ → ℕ → Type 0
-    Goal a b = cnt p 0 ((4 * q + (2 * a + b)) * 4 ^ j) ≡ cnt p 0 (q * 4 ^ suc j) + (b * (S * part S H (2 * Y + a)) + a * (S * part (2 * S) W X))
+    Goal a b = cnt p 0 ((4 * q + (2 * a + b)) * 4 ^ j)
+        ≡ cnt p 0 (q * 4 ^ suc j) + (b * (S * part S H (2 * Y + a)) + a * (S * part (2 * S) W X))
 
     full-left : (2 * X + 1) * S < W → part S W (2 * X + 0) ≡ S
     full-left l = omega arith
@@ -218,36 +229,48 @@ module _ {f : Frame} (g : Good (pictureOf f)) where
 
     quarters : (a b : ℕ) → a < 2 → b < 2 → (2 * Y + a) * S < H → (2 * X + b) * S < W → Goal a b
     quarters zero zero ha hb ly lx = start ∙ omega arith
-    quarters zero (suc zero) ha hb ly lx = sum01 _ _ _ S _ _ (next 0 ∙ ap (λ (u : ℕ). u + cnt p ((4 * q + 0) * 4 ^ j) (4 ^ j)) start) (left lx 0 (omega arith))
+    quarters zero (suc zero) ha hb ly lx = sum01 _ _ _ S _ _ (next 0 ∙ ap (λ (u : ℕ). u + cnt p ((4 * q + 0) * 4 ^ j) (4 ^ j)) start)
+        (left lx 0 (omega arith))
     quarters (suc zero) zero ha hb ly lx =
         sum10 _ _ _ _ S _ _ _ _ (omega (arith, next 1, next 0, start)) (top ly 0 (omega arith)) (top ly 1 (omega arith)) wide
     quarters (suc zero) (suc zero) ha hb ly lx =
-        sum11 _ _ _ _ _ S _ _ _ _ (omega (arith, next 2, next 1, next 0, start)) (top ly 0 (omega arith)) (top ly 1 (omega arith)) (left lx 1 (omega arith)) wide
+        sum11 _ _ _ _ _ S _ _ _ _ (omega (arith, next 2, next 1, next 0, start)) (top ly 0 (omega arith)) (top ly 1 (omega arith))
+        (left lx 1 (omega arith)) wide
     quarters (suc (suc a)) b ha hb ly lx = absurd (omega arith)
     quarters zero (suc (suc b)) ha hb ly lx = absurd (omega arith)
     quarters (suc zero) (suc (suc b)) ha hb ly lx = absurd (omega arith)
 
-  ctus : (Y X : ℕ) → X ≤ w → Y * 2 ^ k < H → X * 2 ^ k < W → Y * 2 ^ k * W + X * (2 ^ k * min (2 ^ k) (H - Y * 2 ^ k)) ≡ cnt p 0 (cellNo 0 w Y X * 4 ^ k)
+  ctus : (Y X : ℕ) → X ≤ w → Y * 2 ^ k < H → X * 2 ^ k < W → Y * 2 ^ k * W + X * (2 ^ k * min (2 ^ k) (H - Y * 2 ^ k))
+      ≡ cnt p 0 (cellNo 0 w Y X * 4 ^ k)
   ctus Y X h ly lx =
       let y : min (Y * 2 ^ k) H ≡ Y * 2 ^ k = omega arith in
       let x : min (X * 2 ^ k) W ≡ X * 2 ^ k = omega arith in
-      let split = ap (cnt p 0) (let z : cellNo 0 w Y X * 4 ^ k ≡ Y * w * 4 ^ k + X * 4 ^ k = omega (arith, ap (λ (u : ℕ). u * 4 ^ k) (cell-top w Y X)) in z) ∙ from-start p (Y * w * 4 ^ k) (X * 4 ^ k) in
-      sum-rows _ _ _ (Y * 2 ^ k) X (2 ^ k) W _ split (all-cells Y ∙ ap (λ (u : ℕ). W * u) y) (row-cells Y X h ∙ ap (λ (u : ℕ). part (2 ^ k) H Y * u) x)
+      let split = ap (cnt p 0) (let z : cellNo 0 w Y X * 4 ^ k
+      ≡ Y * w * 4 ^ k + X * 4 ^ k = omega (arith, ap (λ (u : ℕ). u * 4 ^ k) (cell-top w Y X)) in z)
+      ∙ from-start p (Y * w * 4 ^ k) (X * 4 ^ k) in
+      sum-rows _ _ _ (Y * 2 ^ k) X (2 ^ k) W _ split (all-cells Y ∙ ap (λ (u : ℕ). W * u) y)
+      (row-cells Y X h ∙ ap (λ (u : ℕ). part (2 ^ k) H Y * u) x)
 
-  ahead-cnt : (m j Y X : ℕ) → j + m ≡ k → Y * 2 ^ j < H → X * 2 ^ j < W → X < w * 2 ^ m → aheadBy H W m (2 ^ j) Y X ≡ cnt p 0 (cellNo m w Y X * 4 ^ j)
+  ahead-cnt : (m j Y X : ℕ) → j + m ≡ k → Y * 2 ^ j < H → X * 2 ^ j < W → X < w * 2 ^ m → aheadBy H W m (2 ^ j) Y X
+      ≡ cnt p 0 (cellNo m w Y X * 4 ^ j)
   unfolding aheadBy cellNo
   ahead-cnt zero j Y X e ly lx h =
       let z : j ≡ k = omega arith in
-      subst (λ (u : ℕ). Y * 2 ^ u < H → X * 2 ^ u < W → Y * 2 ^ u * W + X * (2 ^ u * min (2 ^ u) (H - Y * 2 ^ u)) ≡ cnt p 0 (cellNo 0 w Y X * 4 ^ u)) (sym z) (ctus Y X (omega arith)) ly lx
+      subst (λ (u : ℕ). Y * 2 ^ u < H → X * 2 ^ u < W → Y * 2 ^ u * W + X * (2 ^ u * min (2 ^ u) (H - Y * 2 ^ u))
+      ≡ cnt p 0 (cellNo 0 w Y X * 4 ^ u)) (sym z) (ctus Y X (omega arith)) ly lx
   ahead-cnt (suc m) j Y X e ly lx h =
       let y : 2 * (Y / 2) + Y % 2 ≡ Y = omega arith in
       let x : 2 * (X / 2) + X % 2 ≡ X = omega arith in
       let hx : X / 2 < w * 2 ^ m = omega (arith, dbl w m) in
       let parent = ap (λ (u : ℕ). aheadBy H W m u (Y / 2) (X / 2)) (let d : 2 * 2 ^ j ≡ 2 ^ suc j = omega (arith, dbl 1 j) in d)
-      ∙ ahead-cnt m (suc j) (Y / 2) (X / 2) (omega arith) (omega (arith, dbl (Y / 2) j, ap (λ (u : ℕ). u * 2 ^ j) y)) (omega (arith, dbl (X / 2) j, ap (λ (u : ℕ). u * 2 ^ j) x)) hx in
-      let here = quarters j m (Y / 2) (X / 2) e hx (Y % 2) (X % 2) (omega arith) (omega arith) (omega (arith, ap (λ (u : ℕ). u * 2 ^ j) y)) (omega (arith, ap (λ (u : ℕ). u * 2 ^ j) x)) in
-      ap (λ (u : ℕ). u + (X % 2 * (2 ^ j * min (2 ^ j) (H - Y * 2 ^ j)) + Y % 2 * (2 ^ j * min (2 * 2 ^ j) (W - X / 2 * (2 * 2 ^ j))))) parent
-      ∙ ap (λ (u : ℕ). cnt p 0 (cellNo m w (Y / 2) (X / 2) * 4 ^ suc j) + (X % 2 * (2 ^ j * min (2 ^ j) (H - u * 2 ^ j)) + Y % 2 * (2 ^ j * min (2 * 2 ^ j) (W - X / 2 * (2 * 2 ^ j))))) (sym y)
+      ∙ ahead-cnt m (suc j) (Y / 2) (X / 2) (omega arith) (omega (arith, dbl (Y / 2) j, ap (λ (u : ℕ). u * 2 ^ j) y))
+      (omega (arith, dbl (X / 2) j, ap (λ (u : ℕ). u * 2 ^ j) x)) hx in
+      let here = quarters j m (Y / 2) (X / 2) e hx (Y % 2) (X % 2) (omega arith) (omega arith)
+      (omega (arith, ap (λ (u : ℕ). u * 2 ^ j) y)) (omega (arith, ap (λ (u : ℕ). u * 2 ^ j) x)) in
+      ap (λ (u : ℕ). u + (X % 2 * (2 ^ j * min (2 ^ j) (H - Y * 2 ^ j)) + Y % 2 * (2 ^ j * min (2 * 2 ^ j) (W - X / 2 * (2 * 2 ^ j)))))
+      parent
+      ∙ ap (λ (u : ℕ). cnt p 0 (cellNo m w (Y / 2) (X / 2) * 4 ^ suc j) +
+      (X % 2 * (2 ^ j * min (2 ^ j) (H - u * 2 ^ j)) + Y % 2 * (2 ^ j * min (2 * 2 ^ j) (W - X / 2 * (2 * 2 ^ j))))) (sym y)
       ∙ sym here
 
   two-levels : deep f ≡ log2 (f .ctu) - 2
@@ -258,6 +281,7 @@ module _ {f : Frame} (g : Good (pictureOf f)) where
   pub ahead-is : (r c : ℕ) → In f r c → ahead f r c ≡ 16 * cnt p 0 (cellAt f r c)
   unfolding ahead
   ahead-is r c i =
-      let a = ahead-cnt k 0 (r / 4) (c / 4) (omega arith) (omega (arith, g .tall .whole)) (omega (arith, g .wide .whole)) (cell-in g (i .0) (i .1) .1) in
+      let a = ahead-cnt k 0 (r / 4) (c / 4) (omega arith) (omega (arith, g .tall .whole)) (omega (arith, g .wide .whole))
+      (cell-in g (i .0) (i .1) .1) in
       ap (λ (m : ℕ). 16 * aheadBy H W m 1 (r / 4) (c / 4)) (sym two-levels)
       ∙ ap (λ (u : ℕ). 16 * u) (a ∙ ap (cnt p 0) (mul-one (cellNo k w (r / 4) (c / 4)) ∙ sym (number-cell g r c)))

@@ -25,10 +25,12 @@ ahead f r c = 16 * aheadBy (f .height / 4) (f .width / 4) (log2 (f .ctu) - 2) 1 
 -- number 6: at a multiple of its side, wholly in the picture, no larger than a CTU
 abbrev pub placedOk : Frame → Block → Bool
 placedOk f b =
-    eqb (b .row % b .side) 0 && eqb (b .col % b .side) 0 && leb (b .row + b .side) (f .height) && leb (b .col + b .side) (f .width) && leb (b .side) (f .ctu)
+    eqb (b .row % b .side) 0 && eqb (b .col % b .side) 0 && leb (b .row + b .side) (f .height) && leb (b .col + b .side) (f .width)
+    && leb (b .side) (f .ctu)
 
 -- a block's number, where `covered` samples lie before it in the plan
 unfoldable pub blockNo : Frame → Block → ℕ → ℕ
 blockNo f b covered =
     firstFail
-    ((2 unless sizeOk (b .side)) ∷ (3 unless modeOk (b .mode)) ∷ (6 unless placedOk f b) ∷ (9 unless eqb (ahead f (b .row) (b .col)) covered) ∷ [])
+    ((2 unless sizeOk (b .side)) ∷ (3 unless modeOk (b .mode)) ∷ (6 unless placedOk f b)
+    ∷ (9 unless eqb (ahead f (b .row) (b .col)) covered) ∷ [])

@@ -19,7 +19,8 @@ use Rattle.plan.specs.tiling.Tiling.{pictureOf, In, cellAt, Of, Covered,
 use Rattle.plan.specs.tiling.Check.{ahead}
 use Rattle.plan.specs.tiling.Cell.{cellRow, cellCol, col-of-lt}
 use Rattle.plan.specs.tiling.Count.{cnt, cnt-all, cnt-mono, cnt-up, cnt-meets, from-start}
-use Rattle.plan.specs.tiling.Area.{deep, across, inside, numbers, w-pos, num-inside, num-lt, is-num, inside-num, picture-area, cnt-most, ahead-is}
+use Rattle.plan.specs.tiling.Area.{deep, across, inside, numbers, w-pos, num-inside, num-lt, is-num, inside-num, picture-area}
+use Rattle.plan.specs.tiling.Area.{cnt-most, ahead-is}
 
 -- the cells of a block of side n
 abbrev cells : ℕ → ℕ
@@ -64,7 +65,8 @@ place-up plan i (suc k) h =
 -- a block's samples are a run of numbers, and so of counts
 module _ {f : Frame} (g : Good (pictureOf f)) (b : Block) (p : Placed f b) where
   v : Level (deep f) (b .side)
-  v = at-size (λ (n : ℕ). n ≤ 4 * 2 ^ deep f → Level (deep f) n) (at 0 4 refl refl refl) (at 1 8 refl refl refl) (at 2 16 refl refl refl) (at 3 32 refl refl refl) (b .side) (p .size) (omega (arith, p .small, sized g .split))
+  v = at-size (λ (n : ℕ). n ≤ 4 * 2 ^ deep f → Level (deep f) n) (at 0 4 refl refl refl) (at 1 8 refl refl refl) (at 2 16 refl refl refl)
+      (at 3 32 refl refl refl) (b .side) (p .size) (omega (arith, p .small, sized g .split))
     where
       at : (j n : ℕ) → 4 * 2 ^ j ≡ n → 4 ^ j ≡ cells n → n * n ≡ 16 * cells n → n ≤ 4 * 2 ^ deep f → Level (deep f) n
       at j n s r a h =
@@ -81,7 +83,14 @@ module _ {f : Frame} (g : Good (pictureOf f)) (b : Block) (p : Placed f b) where
   first-in = let s = side-pos in (omega (arith, p .row-in), omega (arith, p .col-in))
 
   ctu-is : 2 ^ v .rest * b .side ≡ f .ctu
-  ctu-is = omega (arith, sized g .split, pow-add 2 (v .j) (v .rest), ap (λ (u : ℕ). 2 ^ v .rest * u) (v .side), ap (λ (u : ℕ). 2 ^ u) (v .whole))
+  ctu-is = omega (
+    arith,
+    sized g .split,
+    pow-add 2 (v .j) (v .rest),
+    ap (λ (u : ℕ). 2 ^ v .rest * u) (v .side),
+    ap (λ (u : ℕ). 2 ^ u)
+        (v .whole),
+  )
 
   -- a sample of the block has a number of the run
   of-run : (r c : ℕ) → Of b r c → (first ≤ cellAt f r c) × (cellAt f r c < first + cells (b .side))
@@ -109,7 +118,8 @@ module _ {f : Frame} (g : Good (pictureOf f)) (b : Block) (p : Placed f b) where
       let r = 4 * cellRow (deep f) (across f) m in
       let c = 4 * cellCol (deep f) (across f) m in
       let e : cellAt f r c ≡ m = is-num g m in
-      let o = run-of r c (omega (arith, col-of-lt (deep f) (across f) m (w-pos g), ap (λ (u : ℕ). across f * u) (sized g .split))) (omega arith) (omega arith) in
+      let o = run-of r c (omega (arith, col-of-lt (deep f) (across f) m (w-pos g), ap (λ (u : ℕ). across f * u) (sized g .split)))
+      (omega arith) (omega arith) in
       simp (lt-ltb r (f .height) (omega (arith, o .bottom, p .row-in)), lt-ltb c (f .width) (omega (arith, o .right, p .col-in)))
 
   -- each of the run is counted
@@ -139,18 +149,49 @@ module _ {f : Frame} (g : Good (pictureOf f)) (b : Block) (p : Placed f b) where
       go (yes l) _ = absurd (omega (arith, start-is, ahead-is g r c i, cnt-up (inside f) (cellAt f r c) first (num-inside g r c i) l))
       go (no l) (yes m) = run-of r c (omega (arith, i .1, ctus-cover g .0)) (omega arith) m
       go (no l) (no m) =
-          absurd (omega (arith, start-is, v .area, ahead-is g r c i, counted (cells (b .side)) (omega arith), cnt-mono (inside f) (first + cells (b .side)) (cellAt f r c) (omega arith)))
+          absurd (omega (
+            arith,
+            start-is,
+            v .area,
+            ahead-is g r c i,
+            counted (cells (b .side)) (omega arith),
+            cnt-mono (inside f)
+                (first + cells (b .side)) (cellAt f r c) (omega arith),
+          ))
 
   pub block-area : (b .side * b .side % 16 ≡ 0) × (start + b .side * b .side ≤ f .height * f .width)
-  block-area = (omega (arith, v .area), omega (arith, start-is, v .area, picture-area g, counted (cells (b .side)) (omega arith), cnt-most g (first + cells (b .side))))
+  block-area = (
+    omega (arith, v .area),
+    omega (
+      arith,
+      start-is,
+      v .area,
+      picture-area g,
+      counted (cells (b .side)) (omega arith),
+      cnt-most
+          g (first + cells (b .side)),
+    ),
+  )
 
 module _ {f : Frame} (g : Good (pictureOf f)) where
   -- the count goes as the number, stays below the picture's area, and meets each whole number of cells below that
   ahead-up : (r c r′ c′ : ℕ) → In f r c → In f r′ c′ → cellAt f r c < cellAt f r′ c′ → ahead f r c < ahead f r′ c′
-  ahead-up r c r′ c′ i j l = omega (arith, ahead-is g r c i, ahead-is g r′ c′ j, cnt-up (inside f) (cellAt f r c) (cellAt f r′ c′) (num-inside g r c i) l)
+  ahead-up r c r′ c′ i j l = omega (
+    arith,
+    ahead-is g r c i,
+    ahead-is g r′ c′ j,
+    cnt-up (inside f) (cellAt f r c) (cellAt f r′ c′)
+        (num-inside g r c i) l,
+  )
 
   pub ahead-lt : (r c : ℕ) → In f r c → ahead f r c < f .height * f .width
-  ahead-lt r c i = omega (arith, ahead-is g r c i, picture-area g, cnt-up (inside f) (cellAt f r c) (numbers f) (num-inside g r c i) (num-lt g r c i))
+  ahead-lt r c i = omega (
+    arith,
+    ahead-is g r c i,
+    picture-area g,
+    cnt-up (inside f) (cellAt f r c) (numbers f) (num-inside g r c i)
+        (num-lt g r c i),
+  )
 
   ahead-meets : (a : ℕ) → a % 16 ≡ 0 → a < f .height * f .width → (r : ℕ) × (c : ℕ) × In f r c × (ahead f r c ≡ a)
   ahead-meets a e h =
@@ -175,7 +216,12 @@ module _ {f : Frame} (g : Good (pictureOf f)) where
     covered-below zero h r c s = absurd (omega (arith, s .1))
     covered-below (suc n) h r c s =
         ⊎-elim
-        (λ e. omega (arith, of-ahead g (plan n) (h n (omega arith) .0) r c (subst (λ (i : ℕ). Of (plan i) r c) e (s .2)), h n (omega arith) .1))
+        (λ e. omega (
+          arith,
+          of-ahead g (plan n) (h n (omega arith) .0) r c (subst (λ (i : ℕ). Of (plan i) r c) e (s .2)),
+          h n
+              (omega arith) .1,
+        ))
         (λ l. omega (arith, covered-below n (λ i m. h i (omega arith)) r c (s .0, l, s .2)))
         (eq-or-lt-of-le (le-of-suc-le-suc (s .1)))
 
@@ -185,7 +231,8 @@ module _ {f : Frame} (g : Good (pictureOf f)) where
     below-covered (suc n) h r c i l =
         step (below-covered n (λ j m. h j (omega arith)) r c i) (h n (omega arith)) (decLt (ahead f r c) (place plan n))
       where
-        step : (ahead f r c < place plan n → Covered plan n r c) → Placed f (plan n) × (before n ≡ place plan n) → Dec (ahead f r c < place plan n) → Covered plan (suc n) r c
+        step : (ahead f r c < place plan n → Covered plan n r c) → Placed f (plan n) × (before n ≡ place plan n)
+            → Dec (ahead f r c < place plan n) → Covered plan (suc n) r c
         step ih p (yes d) = let s = ih d in (s .0, omega (arith, s .1), s .2)
         step ih p (no d) = (n, omega arith, ahead-of g (plan n) (p .0) r c i (omega (arith, p .1)) (omega (arith, p .1)))
 
@@ -224,7 +271,14 @@ module _ {f : Frame} (g : Good (pictureOf f)) where
                 lower : Dec (cellAt f (s .0) (s .1) < cellAt f (plan n .row) (plan n .col)) → ⊥
                 lower (yes t) = omega (arith, s .3, covered-below n h (s .0) (s .1) (x .least (s .0) (s .1) (s .2) t))
                 lower (no t) =
-                    omega (arith, s .3, ahead-is g (s .0) (s .1) (s .2), ahead-is g (plan n .row) (plan n .col) i, cnt-mono (inside f) (cellAt f (plan n .row) (plan n .col)) (cellAt f (s .0) (s .1)) (omega arith))
+                    omega (
+                      arith,
+                      s .3,
+                      ahead-is g (s .0) (s .1) (s .2),
+                      ahead-is g (plan n .row) (plan n .col) i,
+                      cnt-mono (inside f)
+                          (cellAt f (plan n .row) (plan n .col)) (cellAt f (s .0) (s .1)) (omega arith),
+                    )
             go (no l) (no m) = omega arith
 
     -- refusal 10 is exact: where the blocks do not hold as many samples as the picture, one is uncovered
@@ -239,7 +293,11 @@ module _ {f : Frame} (g : Good (pictureOf f)) where
         less l (no m) = absurd (e (omega arith))
 
     pub refusal-10 : (n : ℕ) → Checked n → (place plan n ≡ f .height * f .width) ↔ All n
-    refusal-10 n h = (λ e r c i. below-covered n h r c i (omega (arith, ahead-lt r c i)), λ v. from v (ℕ-discrete (place plan n) (f .height * f .width)))
+    refusal-10 n h = (
+      λ e r c i. below-covered n h r c i (omega (arith, ahead-lt r c i)),
+      λ v. from v
+          (ℕ-discrete (place plan n) (f .height * f .width)),
+    )
       where
         from : All n → Dec (place plan n ≡ f .height * f .width) → place plan n ≡ f .height * f .width
         from v (yes e) = e
@@ -270,7 +328,8 @@ module _ {f : Frame} (g : Good (pictureOf f)) where
         from x = let c = checked count (λ k l. (x .placed k l, x .next k l)) in (c, refusal-10 count c .1 (x .all))
 
     -- of a good plan: a sample of the picture whose cell has a lower number than block k lies in an earlier block
-    pub earlier : (count k : ℕ) → GoodPlan f plan count → k < count → (r c : ℕ) → In f r c → cellAt f r c < cellAt f (plan k .row) (plan k .col) → Covered plan k r c
+    pub earlier : (count k : ℕ) → GoodPlan f plan count → k < count → (r c : ℕ) → In f r c
+        → cellAt f r c < cellAt f (plan k .row) (plan k .col) → Covered plan k r c
     earlier count k x l = x .next k l .least
 
     -- no two blocks share a sample

@@ -19,8 +19,9 @@ at row col side mode = record { row = row; col = col; side = side; mode = mode }
 abbrev gives : ℕ → ℕ → Verdict
 gives n k = record { no = n; block = k }
 
--- good; one alone; exchanged; the first twice; then a block outside, a mode above 34, a side of 5, a block of 32 in CTUs of 16, sides of 12;
--- 24 by 16, where of the second CTU there is the left half alone, and its cells come after all of the first; the good one again as numbers, and with a mode that is missing, where sides of 12 come first
+-- good; one alone; exchanged; the first twice; then a block outside, a mode above 34, a side of 5, a block of 32 in CTUs of 16,
+-- sides of 12; 24 by 16, where of the second CTU there is the left half alone, and its cells come after all of the first; the good
+-- one again as numbers, and with a mode that is missing, where sides of 12 come first
 pub figures : _≡_ {A = List Verdict}
     (planVerdict (still 16 8) (listed (at 0 0 8 1 ∷ at 0 8 8 1 ∷ []))
     ∷ planVerdict (still 16 8) (listed (at 0 0 8 1 ∷ []))
@@ -37,6 +38,7 @@ pub figures : _≡_ {A = List Verdict}
     ∷ planVerdict (still 16 8) (planOf (0 ∷ 0 ∷ []) (0 ∷ 8 ∷ []) (8 ∷ 8 ∷ []) (1 ∷ []))
     ∷ planVerdict (still 12 8) (planOf (0 ∷ 0 ∷ []) (0 ∷ 8 ∷ []) (8 ∷ 8 ∷ []) (1 ∷ []))
     ∷ [])
-    (gives 0 0 ∷ gives 10 0 ∷ gives 9 0 ∷ gives 9 1 ∷ gives 6 2 ∷ gives 3 1 ∷ gives 2 0 ∷ gives 6 0 ∷ gives 4 0 ∷ gives 0 0 ∷ gives 9 2 ∷ gives 0 0 ∷ gives 5 0 ∷ gives 4 0 ∷ [])
+    (gives 0 0 ∷ gives 10 0 ∷ gives 9 0 ∷ gives 9 1 ∷ gives 6 2 ∷ gives 3 1 ∷ gives 2 0 ∷ gives 6 0 ∷ gives 4 0 ∷ gives 0 0 ∷ gives 9 2
+    ∷ gives 0 0 ∷ gives 5 0 ∷ gives 4 0 ∷ [])
 unfolding planVerdict verdictFrom blockNo ahead aheadBy halvings
 figures = refl

@@ -29,7 +29,8 @@ covered-or-not plan (suc k) r c = go (covered-or-not plan k r c) (of-or-not (pla
     go (yes s) _ = yes (s .0, omega (arith, s .1), s .2)
     go (no n) (yes o) = yes (k, omega arith, o)
     go (no n) (no o) =
-        no (λ s. ⊎-elim (λ e. o (subst (λ (i : ℕ). Of (plan i) r c) e (s .2))) (λ l. n (s .0, l, s .2)) (eq-or-lt-of-le (le-of-suc-le-suc (s .1))))
+        no (λ s. ⊎-elim (λ e. o (subst (λ (i : ℕ). Of (plan i) r c) e (s .2))) (λ l. n (s .0, l, s .2))
+        (eq-or-lt-of-le (le-of-suc-le-suc (s .1))))
 
 -- its first sample is uncovered, and no uncovered sample of the picture has a lower number
 abbrev pub Least : Frame → (ℕ → Block) → ℕ → Type 0
@@ -43,7 +44,8 @@ next-least f plan k = (to, from)
     to : Next f plan k → Least f plan k
     to x = (x .free, λ r c i n. go r c i n (decLt (cellAt f r c) (cellAt f (plan k .row) (plan k .col))))
       where
-        go : (r c : ℕ) → In f r c → (Covered plan k r c → ⊥) → Dec (cellAt f r c < cellAt f (plan k .row) (plan k .col)) → cellAt f (plan k .row) (plan k .col) ≤ cellAt f r c
+        go : (r c : ℕ) → In f r c → (Covered plan k r c → ⊥) → Dec (cellAt f r c < cellAt f (plan k .row) (plan k .col))
+            → cellAt f (plan k .row) (plan k .col) ≤ cellAt f r c
         go r c i n (yes l) = absurd (n (x .least r c i l))
         go r c i n (no l) = omega arith
 

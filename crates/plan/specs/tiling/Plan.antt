@@ -12,8 +12,8 @@ pub record Plan : Type 0 where
   pub count : ℕ
   pub block : ℕ → Block
 
--- a plan as lent numbers: the blocks' rows, columns, sides and modes. Lists of different lengths make no whole records; such a plan is refused, so
--- that its count, which is that of the rows, does not matter
+-- a plan as lent numbers: the blocks' rows, columns, sides and modes. Lists of different lengths make no whole records; such a plan
+-- is refused, so that its count, which is that of the rows, does not matter
 abbrev pub planOf : List ℕ → List ℕ → List ℕ → List ℕ → Plan
 planOf rows cols sides modes =
     record {

@@ -1,5 +1,5 @@
--- Document 01: the plan check, 4, 5, then each block in list order by 2, 3, 6, 9, then 10, which goes by the count of samples covered; that this decides
--- 'covers all' exactly is proved in tiling's Cover and in Verdict. Assumes nothing.
+-- Document 01: the plan check, 4, 5, then each block in list order by 2, 3, 6, 9, then 10, which goes by the count of samples
+-- covered; that this decides 'covers all' exactly is proved in tiling's Cover and in Verdict. Assumes nothing.
 use Prim.Native.Nat.{ℕ, zero, suc, _+_, _*_}
 use mathlib.Core.Path.{_≡_}
 use mathlib.Core.Bool.{true, cond}

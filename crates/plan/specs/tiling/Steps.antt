@@ -26,7 +26,13 @@ pub record Running (f : Frame) (plan : ℕ → Block) (v : Verdict) (count i cov
   pub same : verdictFrom f plan (count - i) i covered ≡ v
 
 pub running-none : (f : Frame) (plan : ℕ → Block) (count : ℕ) → Running f plan (verdictFrom f plan count 0 0) count 0 0
-running-none f plan count = record { within = omega arith; few = omega arith; fits = omega arith; same = ap (λ (m : ℕ). verdictFrom f plan m 0 0) (let e : count - 0 ≡ count = omega arith in e) }
+running-none f plan count = record {
+  within = omega arith;
+  few = omega arith;
+  fits = omega arith;
+  same = ap
+      (λ (m : ℕ). verdictFrom f plan m 0 0) (let e : count - 0 ≡ count = omega arith in e);
+}
 
 pub running-end : {f : Frame} {plan : ℕ → Block} {v : Verdict} {count i covered : ℕ} → Running f plan v count i covered → count ≤ i
     → (b : Bool) → eqb covered (f .height * f .width) ≡ b → record { no = cond b 0 10; block = 0 } ≡ v
@@ -40,7 +46,8 @@ pub block-fits : {f : Frame} → Good (pictureOf f) → (b : Block) (covered : �
     → (b .side * b .side ≤ 1024) × ((16 ≤ b .side * b .side) × (covered + b .side * b .side ≤ f .height * f .width))
 block-fits {f} g b covered z = go (numbered f b covered)
   where
-    go : BlockNumbered f b covered (blockNo f b covered) → (b .side * b .side ≤ 1024) × ((16 ≤ b .side * b .side) × (covered + b .side * b .side ≤ f .height * f .width))
+    go : BlockNumbered f b covered (blockNo f b covered) → (b .side * b .side ≤ 1024)
+        × ((16 ≤ b .side * b .side) × (covered + b .side * b .side ≤ f .height * f .width))
     go (is-fine x p m a) =
         let s = size-small (b .side) (p .size) in
         (mul-le-mul (s .1) (s .1), (mul-le-mul (s .0) (s .0), omega (arith, a, block-area g b p .1)))
@@ -50,7 +57,8 @@ block-fits {f} g b covered z = go (numbered f b covered)
     go (not-next x p m a) = absurd (omega (arith, x, z))
 
 -- a turn: b is block i, and n its number
-module _ {f : Frame} (g : Good (pictureOf f)) {plan : ℕ → Block} {v : Verdict} {count i covered : ℕ} (h : Running f plan v count i covered) (l : i < count)
+module _ {f : Frame} (g : Good (pictureOf f)) {plan : ℕ → Block} {v : Verdict} {count i covered : ℕ}
+    (h : Running f plan v count i covered) (l : i < count)
     (b : Block) (q : b ≡ plan i) (n : ℕ) (e : n ≡ blockNo f b covered) where
   abbrev after : ℕ
   after = covered + b .side * b .side
@@ -61,7 +69,8 @@ module _ {f : Frame} (g : Good (pictureOf f)) {plan : ℕ → Block} {v : Verdic
       let a : suc (count - (i + 1)) ≡ count - i = omega arith in
       let z : i + 1 ≡ suc i = omega arith in
       ap₂ (λ (x y : ℕ). cond (eqb x 0) (verdictFrom f plan (count - (i + 1)) y after) (record { no = x; block = i })) e z
-      ∙ ap (λ (u : Block). cond (eqb (blockNo f u covered) 0) (verdictFrom f plan (count - (i + 1)) (suc i) (covered + u .side * u .side)) (record { no = blockNo f u covered; block = i })) q
+      ∙ ap (λ (u : Block). cond (eqb (blockNo f u covered) 0) (verdictFrom f plan (count - (i + 1)) (suc i) (covered + u .side * u .side))
+      (record { no = blockNo f u covered; block = i })) q
       ∙ ap (λ (m : ℕ). verdictFrom f plan m i covered) a ∙ h .same
 
   -- a block that is refused ends it

@@ -35,7 +35,15 @@ pub placed-of : (f : Frame) (b : Block) → Size (b .side) → placedOk f b ≡ 
 placed-of f b s e =
     let m = both-true (inPlane (f .height) (f .width) (b .row) (b .col) (b .side)) (leb (b .side) (f .ctu)) e in
     let q = in-plane (f .height) (f .width) (b .row) (b .col) (b .side) (m .0) in
-    record { size = s; small = leb-true (b .side) (f .ctu) (m .1); row-at = q .row-at; col-at = q .col-at; row-in = q .row-in; col-in = q .col-in }
+    record {
+      size = s;
+      small = leb-true (b .side) (f .ctu) (m .1);
+      row-at = q .row-at;
+      col-at = q .col-at;
+      row-in = q .row-in;
+      col-in =
+          q .col-in;
+    }
 
 pub of-placed : (f : Frame) (b : Block) → Placed f b → placedOk f b ≡ true
 of-placed f b p =
@@ -61,11 +69,15 @@ numbered f b covered = go (sizeOk (b .side)) (modeOk (b .mode)) (placedOk f b) (
   where
     go : (s m p a : Bool) → sizeOk (b .side) ≡ s → modeOk (b .mode) ≡ m → placedOk f b ≡ p → eqb (ahead f (b .row) (b .col)) covered ≡ a
         → BlockNumbered f b covered (cond s (cond m (cond p (cond a 0 9) 6) 3) 2)
-    go true true true true es em ep ea = is-fine refl (placed-of f b (size-of (b .side) es) ep) (leb-true (b .mode) 34 em) (eqb-true (ahead f (b .row) (b .col)) covered ea)
-    go true true true false es em ep ea = not-next refl (placed-of f b (size-of (b .side) es) ep) (leb-true (b .mode) 34 em) (eqb-false (ahead f (b .row) (b .col)) covered ea)
-    go true true false a es em ep ea = not-placed refl (size-of (b .side) es) (leb-true (b .mode) 34 em) (λ p. true≢false (sym (of-placed f b p) ∙ ep))
+    go true true true true es em ep ea = is-fine refl (placed-of f b (size-of (b .side) es) ep) (leb-true (b .mode) 34 em)
+        (eqb-true (ahead f (b .row) (b .col)) covered ea)
+    go true true true false es em ep ea = not-next refl (placed-of f b (size-of (b .side) es) ep) (leb-true (b .mode) 34 em)
+        (eqb-false (ahead f (b .row) (b .col)) covered ea)
+    go true true false a es em ep ea = not-placed refl (size-of (b .side) es) (leb-true (b .mode) 34 em)
+        (λ p. true≢false (sym (of-placed f b p) ∙ ep))
     go true false p a es em ep ea = not-mode refl (size-of (b .side) es) (leb-false (b .mode) 34 em)
-    go false m p a es em ep ea = not-size refl (λ s. true≢false (sym (at-size (λ (n : ℕ). sizeOk n ≡ true) refl refl refl refl (b .side) s) ∙ es))
+    go false m p a es em ep ea = not-size refl (λ s. true≢false
+        (sym (at-size (λ (n : ℕ). sizeOk n ≡ true) refl refl refl refl (b .side) s) ∙ es))
 
 -- the number, test by test
 module _ (f : Frame) (b : Block) (covered : ℕ) where
@@ -81,6 +93,8 @@ module _ (f : Frame) (b : Block) (covered : ℕ) where
   unfolding blockNo
   no-6 s m p = if-yes (sizeOk (b .side)) _ 2 6 s (if-yes (modeOk (b .mode)) _ 3 6 m (if-no (placedOk f b) _ 6 6 p refl))
 
-  pub no-last : sizeOk (b .side) ≡ true → modeOk (b .mode) ≡ true → placedOk f b ≡ true → (a : Bool) → eqb (ahead f (b .row) (b .col)) covered ≡ a → cond a 0 9 ≡ blockNo f b covered
+  pub no-last : sizeOk (b .side) ≡ true → modeOk (b .mode) ≡ true → placedOk f b ≡ true → (a : Bool)
+      → eqb (ahead f (b .row) (b .col)) covered ≡ a → cond a 0 9 ≡ blockNo f b covered
   unfolding blockNo
-  no-last s m p a e = if-yes (sizeOk (b .side)) _ 2 _ s (if-yes (modeOk (b .mode)) _ 3 _ m (if-yes (placedOk f b) _ 6 _ p (ap (λ (x : Bool). cond x 0 9) (sym e))))
+  no-last s m p a e = if-yes (sizeOk (b .side)) _ 2 _ s
+      (if-yes (modeOk (b .mode)) _ 3 _ m (if-yes (placedOk f b) _ 6 _ p (ap (λ (x : Bool). cond x 0 9) (sym e))))

@@ -20,7 +20,8 @@ use Rattle.plan.specs.tiling.Tiling.{pictureOf, In, Covered, Placed, Nex
 use Rattle.plan.specs.tiling.Plan.{Plan}
 use Rattle.plan.specs.tiling.Check.{ahead, blockNo}
 use Rattle.plan.specs.tiling.PlanCheck.{verdictFrom, planVerdict}
-use Rattle.plan.specs.tiling.Tests.{picture-good, good-picture, BlockNumbered, is-fine, not-size, not-mode, not-placed, not-next, numbered}
+use Rattle.plan.specs.tiling.Tests.{picture-good, good-picture, BlockNumbered, is-fine, not-size, not-mode, not-placed, not-next}
+use Rattle.plan.specs.tiling.Tests.{numbered}
 use Rattle.plan.specs.tiling.Cover.{Checked, refusal-9, gap, good-plan}
 
 -- the modes of the first n blocks are modes
@@ -62,7 +63,8 @@ pub data Told (f : Frame) (l : Plan) (v : Verdict) : Type 0 where
   is-good : v ≡ record { no = 0; block = 0 } → l .whole ≡ true → Accepted f (l .block) (l .count) → Told f l v
   bad-picture : v ≡ record { no = 4; block = 0 } → (Good (pictureOf f) → ⊥) → Told f l v
   not-whole : v ≡ record { no = 5; block = 0 } → Good (pictureOf f) → l .whole ≡ false → Told f l v
-  bad-block : (n k : ℕ) → v ≡ record { no = n; block = k } → Good (pictureOf f) → l .whole ≡ true → FirstBroken f (l .block) (l .count) n k → Told f l v
+  bad-block : (n k : ℕ) → v ≡ record { no = n; block = k } → Good (pictureOf f) → l .whole ≡ true
+      → FirstBroken f (l .block) (l .count) n k → Told f l v
   bad-cover : v ≡ record { no = 10; block = 0 } → Good (pictureOf f) → l .whole ≡ true → Gap f (l .block) (l .count) → Told f l v
 
 module _ (f : Frame) (l : Plan) (g : Good (pictureOf f)) (w : l .whole ≡ true) where
@@ -81,15 +83,18 @@ module _ (f : Frame) (l : Plan) (g : Good (pictureOf f)) (w : l .whole ≡ true)
 
   more : (k : ℕ) → Found k → Placed f (plan k) → plan k .mode ≤ 34 → ahead f (plan k .row) (plan k .col) ≡ place plan k → Found (suc k)
   more k h p m e = (
-    λ i l. ⊎-elim (λ q. subst (λ (j : ℕ). Placed f (plan j) × (ahead f (plan j .row) (plan j .col) ≡ place plan j)) (sym q) (p, e)) (h .0 i) (eq-or-lt-of-le (le-of-suc-le-suc l)),
+    λ i l. ⊎-elim (λ q. subst (λ (j : ℕ). Placed f (plan j) × (ahead f (plan j .row) (plan j .col) ≡ place plan j)) (sym q) (p, e))
+        (h .0 i) (eq-or-lt-of-le (le-of-suc-le-suc l)),
     λ i l. ⊎-elim (λ q. subst (λ (j : ℕ). plan j .mode ≤ 34) (sym q) m) (h .1 i) (eq-or-lt-of-le (le-of-suc-le-suc l)),
   )
 
   -- block k has number x, which is n and not 0
-  stops : (k n x : ℕ) → k < count → Found k → Broken f plan k n → 0 < n → (v : Verdict) → x ≡ n → Told f l (cond (eqb x 0) v (record { no = x; block = k }))
+  stops : (k n x : ℕ) → k < count → Found k → Broken f plan k n → 0 < n → (v : Verdict) → x ≡ n
+      → Told f l (cond (eqb x 0) v (record { no = x; block = k }))
   stops k n x m h b pos v e =
       subst (λ (u : ℕ). Told f l (cond (eqb u 0) v (record { no = u; block = k }))) (sym e)
-      (bad-block n k (sym (if-no (eqb n 0) v at at (ne-eqb n 0 (λ z. omega (arith, z))) refl)) g w (record { listed = m; before = fine k h; broken = b }))
+      (bad-block n k (sym (if-no (eqb n 0) v at at (ne-eqb n 0 (λ z. omega (arith, z))) refl)) g w
+      (record { listed = m; before = fine k h; broken = b }))
     where
       at : Verdict
       at = record { no = n; block = k }
@@ -102,10 +107,16 @@ module _ (f : Frame) (l : Plan) (g : Good (pictureOf f)) (w : l .whole ≡ true)
       q : k ≡ count
       q = omega arith
 
-      go : Dec (place plan k ≡ f .height * f .width) → Told f l (record { no = cond (eqb (place plan k) (f .height * f .width)) 0 10; block = 0 })
+      go : Dec (place plan k ≡ f .height * f .width) → Told f l
+          (record { no = cond (eqb (place plan k) (f .height * f .width)) 0 10; block = 0 })
       go (yes a) =
           is-good (ap (λ (b : Bool). record { no = cond b 0 10; block = 0 }) (eq-eqb (place plan k) (f .height * f .width) a)) w
-          (record { picture = g; plan-good = subst (GoodPlan f plan) q (good-plan g plan k .0 (h .0, a)); modes = subst (Modes plan) q (h .1) })
+          (record {
+            picture = g;
+            plan-good = subst (GoodPlan f plan) q (good-plan g plan k .0 (h .0, a));
+            modes = subst (Modes plan) q
+                (h .1);
+          })
       go (no a) =
           let s = gap g plan k (h .0) a in
           bad-cover (ap (λ (b : Bool). record { no = cond b 0 10; block = 0 }) (ne-eqb (place plan k) (f .height * f .width) a)) g w
@@ -137,7 +148,8 @@ told f l = go (pictureOk (pictureOf f)) (l .whole) refl refl
   where
     go : (b w : Bool) → pictureOk (pictureOf f) ≡ b → l .whole ≡ w
         → Told f l (cond b (cond w (verdictFrom f (l .block) (l .count) 0 0) (record { no = 5; block = 0 })) (record { no = 4; block = 0 }))
-    go true true e q = told-from f l (picture-good f e) q (l .count) 0 (omega arith) (λ i m. absurd (omega arith), λ i m. absurd (omega arith))
+    go true true e q = told-from f l (picture-good f e) q (l .count) 0 (omega arith)
+        (λ i m. absurd (omega arith), λ i m. absurd (omega arith))
     go true false e q = not-whole refl (picture-good f e) q
     go false w e q = bad-picture refl (λ g. true≢false (sym (good-picture f g) ∙ e))
 
@@ -195,7 +207,8 @@ module _ (f : Frame) (l : Plan) where
       go (bad-cover q g w a) = absurd (a .bare (x .plan-good .all (a .row) (a .col) (a .inside)))
 
   -- every number but 0, 4, 5 and 10 is about the block it names, and 10 about a sample
-  pub verdict-block : (v .no ≡ 0 → ⊥) → (v .no ≡ 4 → ⊥) → (v .no ≡ 5 → ⊥) → (v .no ≡ 10 → ⊥) → FirstBroken f (l .block) (l .count) (v .no) (v .block)
+  pub verdict-block : (v .no ≡ 0 → ⊥) → (v .no ≡ 4 → ⊥) → (v .no ≡ 5 → ⊥) → (v .no ≡ 10 → ⊥)
+      → FirstBroken f (l .block) (l .count) (v .no) (v .block)
   verdict-block good picture whole cover = go (told f l)
     where
       go : Told f l v → FirstBroken f (l .block) (l .count) (v .no) (v .block)

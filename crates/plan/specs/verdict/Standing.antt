@@ -39,14 +39,16 @@ checkStep f t b i = cond (eqb (t .no) 0) (checkBlock f (t .covered) b i) t
 
 -- number 10 comes after them
 unfoldable pub checkEnd : Frame → Checking → Verdict
-checkEnd f t = cond (eqb (t .no) 0) (record { no = cond (eqb (t .covered) (f .height * f .width)) 0 10; block = 0 }) (record { no = t .no; block = t .block })
+checkEnd f t = cond (eqb (t .no) 0) (record { no = cond (eqb (t .covered) (f .height * f .width)) 0 10; block = 0 })
+    (record { no = t .no; block = t .block })
 
 -- what a step asks: where nothing is refused yet, the picture is good, and the block's list number has room in 32 bits
 abbrev pub Unrefused : Frame → Checking → ℕ → Type 0
 Unrefused f t i = t .no ≡ 0 → Good (pictureOf f) × (i < 4294967296)
 
 -- the samples that a block adds, which the code's numbers have room for
-pub step-fits : {f : Frame} → Good (pictureOf f) → (b : Block) (covered : ℕ) → blockNo f b covered ≡ 0 → (b .side * b .side ≤ 1024) × (covered + b .side * b .side ≤ 16777216)
+pub step-fits : {f : Frame} → Good (pictureOf f) → (b : Block) (covered : ℕ) → blockNo f b covered ≡ 0 → (b .side * b .side ≤ 1024)
+    × (covered + b .side * b .side ≤ 16777216)
 step-fits g b covered e =
     let s = block-fits g b covered e in
     (s .0, omega (arith, s .1 .1, area-small g))
@@ -65,13 +67,20 @@ pub standing-none : (f : Frame) (plan : Plan) → Standing f plan 0 (checkStart 
 unfolding checkStart planVerdict
 standing-none f plan = go (pictureOk (pictureOf f)) (plan .whole) refl refl
   where
-    go : (b w : Bool) → pictureOk (pictureOf f) ≡ b → plan .whole ≡ w → Standing f plan 0 (record { no = firstFail ((4 unless b) ∷ (5 unless w) ∷ []); block = 0; covered = 0 })
-    go true true e q = record { good = λ _. picture-good f e; runs = λ _. rw (e, q) (running-none f (plan .block) (plan .count)); told = λ n. absurd (n refl) }
+    go : (b w : Bool) → pictureOk (pictureOf f) ≡ b → plan .whole ≡ w
+        → Standing f plan 0 (record { no = firstFail ((4 unless b) ∷ (5 unless w) ∷ []); block = 0; covered = 0 })
+    go true true e q = record {
+      good = λ _. picture-good f e;
+      runs = λ _. rw (e, q) (running-none f (plan .block) (plan .count));
+      told =
+          λ n. absurd (n refl);
+    }
     go true false e q = record { good = λ z. absurd (omega (arith, z)); runs = λ z. absurd (omega (arith, z)); told = λ _. rw (e, q) }
     go false w e q = record { good = λ z. absurd (omega (arith, z)); runs = λ z. absurd (omega (arith, z)); told = λ _. rw e }
 
 -- a block that is not refused adds its samples
-pub standing-more : {f : Frame} {plan : Plan} {i : ℕ} {t : Checking} → Standing f plan i t → i < plan .count → (b : Block) → b ≡ plan .block i
+pub standing-more : {f : Frame} {plan : Plan} {i : ℕ} {t : Checking} → Standing f plan i t → i < plan .count → (b : Block) → b
+    ≡ plan .block i
     → Standing f plan (i + 1) (checkStep f t b i)
 unfolding checkStep checkBlock
 standing-more {f} {plan} {i} {t} s l b q = go (ℕ-discrete (t .no) 0)
@@ -95,7 +104,8 @@ standing-more {f} {plan} {i} {t} s l b q = go (ℕ-discrete (t .no) 0)
               told = λ _. running-stops (s .good z) (s .runs z) l b q n refl d;
             })
 
-pub standing-end : {f : Frame} {plan : Plan} {i : ℕ} {t : Checking} → Standing f plan i t → plan .count ≤ i → checkEnd f t ≡ planVerdict f plan
+pub standing-end : {f : Frame} {plan : Plan} {i : ℕ} {t : Checking} → Standing f plan i t → plan .count ≤ i → checkEnd f t
+    ≡ planVerdict f plan
 unfolding checkEnd
 standing-end {f} {plan} {i} {t} s l = go (ℕ-discrete (t .no) 0)
   where

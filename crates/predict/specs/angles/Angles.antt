@@ -1,4 +1,5 @@
--- H.265 8.4.4.2.6, tables 8-4 and 8-5, by how far a mode is from 18: the angle plus 32, and the inverse angle turned positive. Assumes nothing.
+-- H.265 8.4.4.2.6, tables 8-4 and 8-5, by how far a mode is from 18: the angle plus 32, and the inverse angle turned positive.
+-- Assumes nothing.
 use mathlib.Core.Path.{_≡_, sym}
 use mathlib.Core.Logic.{⊎-elim}
 use mathlib.Core.List.{List, [], _∷_}

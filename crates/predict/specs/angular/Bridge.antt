@@ -61,21 +61,37 @@ place e r c k h =
     (sub-eq (c + (r + 1) * e / 32 + (k + 1)) (0 + (r + 1) + 0) (refStart e r + c + k) 64 (omega arith))
 
 -- the neighbours as the text reads them, straight or mirrored: main is above, side is left
-module _ (p : ℤ → ℤ → ℕ) (nb : Neighbours) (atMain : (i : ℕ) → p (pos i) (negsuc 0) ≡ nb .above i) (atSide : (i : ℕ) → p (negsuc 0) (pos i) ≡ nb .left i) (atCorner : p (negsuc 0) (negsuc 0) ≡ nb .corner) where
+module _ (p : ℤ → ℤ → ℕ) (nb : Neighbours) (atMain : (i : ℕ) → p (pos i) (negsuc 0) ≡ nb .above i)
+    (atSide : (i : ℕ) → p (negsuc 0) (pos i) ≡ nb .left i) (atCorner : p (negsuc 0) (negsuc 0) ≡ nb .corner) where
   step-side : (s : ℕ) → p (negsuc 0) (negsuc 0 +ℤ pos s) ≡ cond (eqb s 0) (nb .corner) (nb .left (s - 1))
   step-side zero = atCorner
-  step-side (suc s) = rw (ne-eqb (suc s) 0 (λ q. let z : suc s ≡ 0 = q in omega arith)) (ap (p (negsuc 0)) (sub-pos (suc s) 1 (omega arith)) ∙ atSide (suc s - 1))
+  step-side (suc s) = rw (ne-eqb (suc s) 0 (λ q. let z : suc s ≡ 0 = q in omega arith))
+      (ap (p (negsuc 0)) (sub-pos (suc s) 1 (omega arith)) ∙ atSide (suc s - 1))
 
   -- after the corner
-  ref-main : (n e inv j : ℕ) → 64 < j → (j ≤ 64 + n) ⊎ ((32 ≤ e) × (j ≤ 64 + 2 * n)) → ref p n (subℕ e 32) (negℤ (pos inv)) (subℕ j 64) ≡ refAt nb inv j
+  ref-main : (n e inv j : ℕ) → 64 < j → (j ≤ 64 + n) ⊎ ((32 ≤ e) × (j ≤ 64 + 2 * n)) → ref p n (subℕ e 32) (negℤ (pos inv)) (subℕ j 64)
+      ≡ refAt nb inv j
   unfolding ref refAt
   ref-main n e inv j h d =
-      let m : nb .above (j - 65) ≡ cond (ltb 64 j) (nb .above (j - 65)) (cond (eqb (sideOf inv j) 0) (nb .corner) (nb .left (sideOf inv j - 1))) = rw (lt-ltb 64 j h) in
-      let q : p (negsuc 0 +ℤ pos (j - 64)) (negsuc 0) ≡ nb .above (j - 65) = ap (λ (z : ℤ). p z (negsuc 0)) (sub-pos (j - 64) 1 (omega arith)) ∙ atMain (j - 64 - 1) ∙ ap (nb .above) (omega arith) in
+      let m : nb .above (j - 65) ≡ cond (ltb 64 j) (nb .above (j - 65))
+      (cond (eqb (sideOf inv j) 0) (nb .corner) (nb .left (sideOf inv j - 1))) = rw (lt-ltb 64 j h) in
+      let q : p (negsuc 0 +ℤ pos (j - 64)) (negsuc 0)
+      ≡ nb .above (j - 65) = ap (λ (z : ℤ). p z (negsuc 0)) (sub-pos (j - 64) 1 (omega arith)) ∙ atMain (j - 64 - 1)
+      ∙ ap (nb .above) (omega arith) in
       ⊎-elim
       (λ l. rw (sub-pos j 64 (omega arith), le-leb 0 (j - 64) (omega arith), le-leb (j - 64) n (omega arith)) (q ∙ m))
       (λ k. ⊎-elim
-      (λ l. rw (sub-pos j 64 (omega arith), le-leb 0 (j - 64) (omega arith), lt-leb (j - 64) n (omega arith), sub-pos e 32 (k .0), le-ltb (e - 32) 0 (omega arith), le-leb 0 (e - 32) (omega arith), lt-ltb n (j - 64) l, le-leb (j - 64) (2 * n) (omega arith)) (q ∙ m))
+      (λ l. rw (
+        sub-pos j 64 (omega arith),
+        le-leb 0 (j - 64) (omega arith),
+        lt-leb (j - 64) n (omega arith),
+        sub-pos e 32 (k .0),
+        le-ltb
+            (e - 32) 0 (omega arith),
+        le-leb 0 (e - 32) (omega arith),
+        lt-ltb n (j - 64) l,
+        le-leb (j - 64) (2 * n) (omega arith),
+      ) (q ∙ m))
       (λ l. rw (sub-pos j 64 (omega arith), le-leb 0 (j - 64) (omega arith), le-leb (j - 64) n l) (q ∙ m))
       (order n (j - 64)))
       d
@@ -101,7 +117,8 @@ module _ (p : ℤ → ℤ → ℕ) (nb : Neighbours) (atMain : (i : ℕ) → p (
   unfolding ref refAt
   ref-corner n e inv = rw (le-leb 0 n (omega arith), zero-mul inv) atCorner
 
-  ref-of : (n e inv j : ℕ) → (j < 64 → (e < 32) × (n * e / 32 + 65 ≤ j + n)) → (64 < j → (j ≤ 64 + n) ⊎ ((32 ≤ e) × (j ≤ 64 + 2 * n))) → ref p n (subℕ e 32) (negℤ (pos inv)) (subℕ j 64) ≡ refAt nb inv j
+  ref-of : (n e inv j : ℕ) → (j < 64 → (e < 32) × (n * e / 32 + 65 ≤ j + n)) → (64 < j → (j ≤ 64 + n) ⊎ ((32 ≤ e) × (j ≤ 64 + 2 * n)))
+      → ref p n (subℕ e 32) (negℤ (pos inv)) (subℕ j 64) ≡ refAt nb inv j
   ref-of n e inv j low high =
       ⊎-elim (λ h. ref-side n e inv j h (low h .0) (low h .1))
       (λ h. ⊎-elim (λ k. ref-main n e inv j k (high k)) (λ k. let q : j ≡ 64 = omega arith in rw q (ref-corner n e inv)) (order 64 j))
@@ -120,7 +137,8 @@ module _ (p : ℤ → ℤ → ℕ) (nb : Neighbours) (atMain : (i : ℕ) → p (
         let y : (r + 1) * e ≤ (r + 1) * 64 = mul-le-mul-left (r + 1) t in
         ⊎-elim
         (λ l. let y : (r + 1) * e ≤ (r + 1) * 31 = mul-le-mul-left (r + 1) (omega arith) in inl (omega arith))
-        (λ l. ⊎-elim (λ p. inr (l, omega arith)) (λ p. let q : fractionOf e r ≡ 0 = omega arith in let w = z q in inr (l, omega arith)) (order 0 (fractionOf e r)))
+        (λ l. ⊎-elim (λ p. inr (l, omega arith)) (λ p. let q : fractionOf e r ≡ 0 = omega arith in let w = z q in inr (l, omega arith))
+        (order 0 (fractionOf e r)))
         (order e 32)
 
     projected : project (ref p n (subℕ e 32) (negℤ (pos inv))) (subℕ e 32) c r ≡ verticalAt nb e inv r c
@@ -131,9 +149,11 @@ module _ (p : ℤ → ℤ → ℕ) (nb : Neighbours) (atMain : (i : ℕ) → p (
         let f = fact-of e r in
         let first : ref p n (subℕ e 32) (negℤ (pos inv)) (pos c +ℤ (pos (r + 1) *ℤ subℕ e 32 >> 5) +ℤ pos 1) ≡ refAt nb inv j =
         ap (λ (z : ℤ). ref p n (subℕ e 32) (negℤ (pos inv)) (pos c +ℤ z +ℤ pos 1)) i
-        ∙ ap (ref p n (subℕ e 32) (negℤ (pos inv))) (place e r c 0 (omega arith) ∙ ap (λ (k : ℕ). subℕ k 64) (let q : j + 0 ≡ j = omega arith in q))
+        ∙ ap (ref p n (subℕ e 32) (negℤ (pos inv))) (place e r c 0 (omega arith)
+        ∙ ap (λ (k : ℕ). subℕ k 64) (let q : j + 0 ≡ j = omega arith in q))
         ∙ ref-of n e inv j (low j (omega arith)) (λ h. high j (omega arith) (λ z. omega arith)) in
-        let second : 0 < fractionOf e r → ref p n (subℕ e 32) (negℤ (pos inv)) (pos c +ℤ (pos (r + 1) *ℤ subℕ e 32 >> 5) +ℤ pos 2) ≡ refAt nb inv (j + 1) =
+        let second : 0 < fractionOf e r → ref p n (subℕ e 32) (negℤ (pos inv)) (pos c +ℤ (pos (r + 1) *ℤ subℕ e 32 >> 5) +ℤ pos 2)
+        ≡ refAt nb inv (j + 1) =
         λ g.
         ap (λ (z : ℤ). ref p n (subℕ e 32) (negℤ (pos inv)) (pos c +ℤ z +ℤ pos 2)) i
         ∙ ap (ref p n (subℕ e 32) (negℤ (pos inv))) (place e r c 1 (omega arith))
@@ -144,7 +164,8 @@ module _ (p : ℤ → ℤ → ℕ) (nb : Neighbours) (atMain : (i : ℕ) → p (
         (order 0 (fractionOf e r))
 
 -- the text's sample is the one with no number below 0
-pub angular-same : (bits n mode : ℕ) (edge : Bool) (nb : Neighbours) (x y : ℕ) → n ≤ 32 → mode < 35 → x < n → y < n → angular bits edge n mode nb x y ≡ angularAt bits edge n mode nb x y
+pub angular-same : (bits n mode : ℕ) (edge : Bool) (nb : Neighbours) (x y : ℕ) → n ≤ 32 → mode < 35 → x < n → y < n
+    → angular bits edge n mode nb x y ≡ angularAt bits edge n mode nb x y
 unfolding angular angularAt
 angular-same bits n mode edge nb x y s m hx hy =
     let e = getD angles mode 0 in

@@ -23,7 +23,8 @@ pub record Fit (bits n mode : ℕ) (l : Lengths) : Type 0 where
 
 -- a row that is long enough has the 2n entries that prediction reads
 long : (n k : ℕ) → Size n → predictorRow n ≤ k → 2 * n ≤ k
-long n k s = at-size (λ (m : ℕ). predictorRow m ≤ k → 2 * m ≤ k) (λ h. omega arith) (λ h. omega arith) (λ h. omega arith) (λ h. omega arith) n s
+long n k s = at-size (λ (m : ℕ). predictorRow m ≤ k → 2 * m ≤ k) (λ h. omega arith) (λ h. omega arith) (λ h. omega arith)
+    (λ h. omega arith) n s
 
 pub fit : (bits n mode : ℕ) (l : Lengths) → angularNo bits n mode l ≡ 0 → Fit bits n mode l
 fit bits n mode l e =

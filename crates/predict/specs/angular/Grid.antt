@@ -4,7 +4,8 @@ use mathlib.Core.Logic.{_⊎_, ⊎-elim, inl, inr}
 use mathlib.Core.Bool.{cond}
 use mathlib.Core.List.{List}
 use Prim.Native.Nat.{ℕ, zero, suc, _+_, _*_, _/_, _%_, _≤_, _<_}
-use native.Mathlib.Nat.{eq-or-lt-of-le, le-of-suc-le-suc, not-suc-le-zero, mod-lt, div-lt-iff-lt-mul, div-add-mod', mul-le-mul-right, zero-mul}
+use native.Mathlib.Nat.{eq-or-lt-of-le, le-of-suc-le-suc, not-suc-le-zero, mod-lt, div-lt-iff-lt-mul, div-add-mod', mul-le-mul-right}
+use native.Mathlib.Nat.{zero-mul}
 use native.Mathlib.Numerals.{add-one}
 use native.Mathlib.Omega.{arith}
 use lib.Dec.{eqb}
@@ -32,7 +33,8 @@ module _ {A : Type 0} where
   unfolding column
   column-none g a n d = refl
 
-  pub column-more : (g : ℕ → A) (a n : ℕ) (d : List A) {i : ℕ} {e : List A} {v : A} → e ≡ column g a n i d → v ≡ g i → set e (i * n + a) v ≡ column g a n (i + 1) d
+  pub column-more : (g : ℕ → A) (a n : ℕ) (d : List A) {i : ℕ} {e : List A} {v : A} → e ≡ column g a n i d → v ≡ g i → set e (i * n + a) v
+      ≡ column g a n (i + 1) d
   unfolding column
   column-more g a n d p q = rw (add-one, p, q)
 
@@ -43,7 +45,8 @@ module _ {A : Type 0} where
   unfolding columns
   columns-none g n d = refl
 
-  pub columns-more : (g : ℕ → ℕ → A) (n : ℕ) (d : List A) (k : ℕ) {e : List A} → e ≡ columns g n k d → column (λ (r : ℕ). g r k) k n n e ≡ columns g n (k + 1) d
+  pub columns-more : (g : ℕ → ℕ → A) (n : ℕ) (d : List A) (k : ℕ) {e : List A} → e ≡ columns g n k d → column (λ (r : ℕ). g r k) k n n e
+      ≡ columns g n (k + 1) d
   unfolding columns
   columns-more g n d k p = rw (add-one, p)
 
@@ -61,22 +64,27 @@ module _ {A : Type 0} where
   length-columns g n (suc k) d = length-column _ k n n (columns g n k d) ∙ length-columns g n k d
 
   -- a column leaves every other place as it was
-  column-off : (g : ℕ → A) (a n k : ℕ) (d : List A) (i : ℕ) (z : A) → ((r : ℕ) → r < k → i ≡ r * n + a → ⊥) → getD (column g a n k d) i z ≡ getD d i z
+  column-off : (g : ℕ → A) (a n k : ℕ) (d : List A) (i : ℕ) (z : A) → ((r : ℕ) → r < k → i ≡ r * n + a → ⊥) → getD (column g a n k d) i z
+      ≡ getD d i z
   unfolding column
   column-off g a n zero d i z h = refl
   column-off g a n (suc k) d i z h =
       getD-set-other (column g a n k d) (k * n + a) i (g k) z (h k (omega arith)) ∙ column-off g a n k d i z (λ r l. h r (omega arith))
 
-  column-on : (g : ℕ → A) (a n k : ℕ) (d : List A) (r : ℕ) (z : A) → a < n → r < k → r * n + a < length d → getD (column g a n k d) (r * n + a) z ≡ g r
+  column-on : (g : ℕ → A) (a n k : ℕ) (d : List A) (r : ℕ) (z : A) → a < n → r < k → r * n + a < length d
+      → getD (column g a n k d) (r * n + a) z ≡ g r
   unfolding column
   column-on g a n zero d r z l h m = absurd (not-suc-le-zero h)
   column-on g a n (suc k) d r z l h m =
       ⊎-elim (λ e. rw e (getD-set-same (column g a n k d) (k * n + a) (g k) z (rw length-column (rw e at m))))
-      (λ lt. getD-set-other (column g a n k d) (k * n + a) (r * n + a) (g k) z (λ e. let q : r ≡ k = sym (digits-div r l) ∙ ap (λ (i : ℕ). i / n) e ∙ digits-div k l in omega arith) ∙ column-on g a n k d r z l lt m)
+      (λ lt. getD-set-other (column g a n k d) (k * n + a) (r * n + a) (g k) z
+      (λ e. let q : r ≡ k = sym (digits-div r l) ∙ ap (λ (i : ℕ). i / n) e ∙ digits-div k l in omega arith)
+      ∙ column-on g a n k d r z l lt m)
       (eq-or-lt-of-le (le-of-suc-le-suc h))
 
   -- a list with a block's entries is that block
-  block-ext : (g : ℕ → ℕ → A) (n : ℕ) (d e : List A) (z : A) → zero < n → n * n ≤ length d → length e ≡ length d → ((r c : ℕ) → r < n → c < n → getD e (r * n + c) z ≡ g r c) → ((i : ℕ) → n * n ≤ i → getD e i z ≡ getD d i z) → e ≡ rows g n n d
+  block-ext : (g : ℕ → ℕ → A) (n : ℕ) (d e : List A) (z : A) → zero < n → n * n ≤ length d → length e ≡ length d
+      → ((r c : ℕ) → r < n → c < n → getD e (r * n + c) z ≡ g r c) → ((i : ℕ) → n * n ≤ i → getD e i z ≡ getD d i z) → e ≡ rows g n n d
   block-ext g n d e z p l s h k =
       ext-getD z e (rows g n n d) (s ∙ sym (length-rows g n n d))
       (λ i b.
@@ -92,11 +100,14 @@ module _ {A : Type 0} where
   column-past : (g : ℕ → A) (a n : ℕ) (d : List A) (i : ℕ) (z : A) → a < n → n * n ≤ i → getD (column g a n n d) i z ≡ getD d i z
   column-past g a n d i z l h = column-off g a n n d i z (λ r b e. let q = digits-lt {q = r} {m = n} {r = a} {c = n} b l in omega arith)
 
-  column-beside : (g : ℕ → A) (a n : ℕ) (d : List A) (r c : ℕ) (z : A) → a < n → c < n → (c ≡ a → ⊥) → getD (column g a n n d) (r * n + c) z ≡ getD d (r * n + c) z
-  column-beside g a n d r c z l m f = column-off g a n n d (r * n + c) z (λ k b e. f (sym (digits-mod r m) ∙ ap (λ (i : ℕ). i % n) e ∙ digits-mod k l))
+  column-beside : (g : ℕ → A) (a n : ℕ) (d : List A) (r c : ℕ) (z : A) → a < n → c < n → (c ≡ a → ⊥)
+      → getD (column g a n n d) (r * n + c) z ≡ getD d (r * n + c) z
+  column-beside g a n d r c z l m f = column-off g a n n d (r * n + c) z
+      (λ k b e. f (sym (digits-mod r m) ∙ ap (λ (i : ℕ). i % n) e ∙ digits-mod k l))
 
   -- a block whose column a is written anew
-  pub column-block : (f : ℕ → A) (g : ℕ → ℕ → A) (a n : ℕ) (d : List A) (z : A) → a < n → n * n ≤ length d → column f a n n (rows g n n d) ≡ rows (λ (r c : ℕ). cond (eqb c a) (f r) (g r c)) n n d
+  pub column-block : (f : ℕ → A) (g : ℕ → ℕ → A) (a n : ℕ) (d : List A) (z : A) → a < n → n * n ≤ length d → column f a n n (rows g n n d)
+      ≡ rows (λ (r c : ℕ). cond (eqb c a) (f r) (g r c)) n n d
   column-block f g a n d z l m =
       block-ext _ n d (column f a n n (rows g n n d)) z (omega arith) m (length-column f a n n (rows g n n d) ∙ length-rows g n n d)
       (λ r c hr hc.
@@ -109,15 +120,18 @@ module _ {A : Type 0} where
       (λ i h. column-past f a n (rows g n n d) i z l h ∙ rows-past g n n d i z h)
     where
       apart : (c a : ℕ) → (c ≡ a → ⊥) ⊎ (c ≡ a)
-      apart c a = ⊎-elim (λ h. inl (λ e. let q : c ≡ a = e in omega arith)) (λ h. ⊎-elim (λ k. inl (λ e. let q : c ≡ a = e in omega arith)) (λ k. inr (omega arith)) (order a c)) (order c a)
+      apart c a = ⊎-elim (λ h. inl (λ e. let q : c ≡ a = e in omega arith))
+          (λ h. ⊎-elim (λ k. inl (λ e. let q : c ≡ a = e in omega arith)) (λ k. inr (omega arith)) (order a c)) (order c a)
 
   -- columns in turn make the block
   columns-past : (g : ℕ → ℕ → A) (n k : ℕ) (d : List A) (i : ℕ) (z : A) → k ≤ n → n * n ≤ i → getD (columns g n k d) i z ≡ getD d i z
   unfolding columns
   columns-past g n zero d i z h l = refl
-  columns-past g n (suc k) d i z h l = column-past (λ (r : ℕ). g r k) k n (columns g n k d) i z h l ∙ columns-past g n k d i z (omega arith) l
+  columns-past g n (suc k) d i z h l = column-past (λ (r : ℕ). g r k) k n (columns g n k d) i z h l
+      ∙ columns-past g n k d i z (omega arith) l
 
-  columns-at : (g : ℕ → ℕ → A) (n k : ℕ) (d : List A) (r c : ℕ) (z : A) → k ≤ n → r < n → c < k → n * n ≤ length d → getD (columns g n k d) (r * n + c) z ≡ g r c
+  columns-at : (g : ℕ → ℕ → A) (n k : ℕ) (d : List A) (r c : ℕ) (z : A) → k ≤ n → r < n → c < k → n * n ≤ length d
+      → getD (columns g n k d) (r * n + c) z ≡ g r c
   unfolding columns
   columns-at g n zero d r c z h hr hc l = absurd (not-suc-le-zero hc)
   columns-at g n (suc k) d r c z h hr hc l =
@@ -136,14 +150,17 @@ module _ {A : Type 0} where
       (λ i h. columns-past g n n d i z (omega arith) h)
 
   -- a block whose first row is written anew
-  pub row-block : (f : ℕ → A) (g : ℕ → ℕ → A) (n : ℕ) (d : List A) (z : A) → zero < n → n * n ≤ length d → fill f n (rows g n n d) ≡ rows (λ (r c : ℕ). cond (eqb r 0) (f c) (g r c)) n n d
+  pub row-block : (f : ℕ → A) (g : ℕ → ℕ → A) (n : ℕ) (d : List A) (z : A) → zero < n → n * n ≤ length d → fill f n (rows g n n d)
+      ≡ rows (λ (r c : ℕ). cond (eqb r 0) (f c) (g r c)) n n d
   row-block f g n d z p l =
       block-ext _ n d (fill f n (rows g n n d)) z p l (length-fill f n (rows g n n d) ∙ length-rows g n n d)
       (λ r c hr hc. first r c hr hc)
       (λ i h. let q = mul-le-mul-right n p in fill-past f n (rows g n n d) i z (omega arith) ∙ rows-past g n n d i z h)
     where
       first : (r c : ℕ) → r < n → c < n → getD (fill f n (rows g n n d)) (r * n + c) z ≡ cond (eqb r 0) (f c) (g r c)
-      first zero c hr hc = rw zero-mul (fill-at f n (rows g n n d) (0 + c) z (omega arith) (rw length-rows (let q = mul-le-mul-right n p in omega arith)) ∙ ap f (let q : 0 + c ≡ c = omega arith in q))
+      first zero c hr hc = rw zero-mul (fill-at f n (rows g n n d) (0 + c) z (omega arith)
+          (rw length-rows (let q = mul-le-mul-right n p in omega arith)) ∙ ap f (let q : 0 + c ≡ c = omega arith in q))
       first (suc r) c hr hc =
           let q = mul-le-mul-right n (let s : 1 ≤ suc r = omega arith in s) in
-          rw (ne-eqb (suc r) 0 (λ e. let q : suc r ≡ 0 = e in omega arith)) (fill-past f n (rows g n n d) (suc r * n + c) z (omega arith) ∙ rows-at g n n d (suc r) c z hr hc l)
+          rw (ne-eqb (suc r) 0 (λ e. let q : suc r ≡ 0 = e in omega arith))
+          (fill-past f n (rows g n n d) (suc r * n + c) z (omega arith) ∙ rows-at g n n d (suc r) c z hr hc l)

@@ -73,12 +73,14 @@ unfolding interpOf
 whole x y = omega arith
 
 -- a row of copies
-pub copied : (refs : List ℕ) (s f a n : ℕ) (d : List ℕ) → f ≡ 0 → run (λ (c : ℕ). getD refs (s + c) 0) a n d ≡ run (λ (c : ℕ). interpOf f (getD refs (s + c) 0) (getD refs (s + c + 1) 0)) a n d
+pub copied : (refs : List ℕ) (s f a n : ℕ) (d : List ℕ) → f ≡ 0 → run (λ (c : ℕ). getD refs (s + c) 0) a n d
+    ≡ run (λ (c : ℕ). interpOf f (getD refs (s + c) 0) (getD refs (s + c + 1) 0)) a n d
 copied refs s f a n d e = rw e (run-same _ _ a n d (λ j l. whole (getD refs (s + j) 0) (getD refs (s + j + 1) 0)))
 
 -- the last arm of a match of sizes
 pub last-edge : (n : ℕ) → Size n → n < 32 → (n ≡ 4 → ⊥) → (n ≡ 8 → ⊥) → n ≡ 16
-last-edge n s l a b = ⊎-elim (λ e. absurd (a e)) (λ s. ⊎-elim (λ e. absurd (b e)) (λ s. ⊎-elim (λ e. e) (λ e. absurd (let q : n ≡ 32 = e in omega arith)) s) s) s
+last-edge n s l a b = ⊎-elim (λ e. absurd (a e)) (λ s. ⊎-elim (λ e. absurd (b e))
+    (λ s. ⊎-elim (λ e. e) (λ e. absurd (let q : n ≡ 32 = e in omega arith)) s) s) s
 
 -- the first reference of a negative angle is the corner or before it
 pub first-reach : (e n : ℕ) → e < 32 → Size n → firstOf e n ≤ 64
@@ -114,21 +116,27 @@ unfolding run fill
 run-fill g zero d = refl
 run-fill g (suc n) d = rw (zero-add n, run-fill g n d)
 
-pub fill-by-way : (g : ℕ → ℕ) (t z d : List ℕ) (n : ℕ) → n ≤ length z → t ≡ fill g n z → run (λ (c : ℕ). getD t (0 + c) 0) 0 n d ≡ fill g n d
+pub fill-by-way : (g : ℕ → ℕ) (t z d : List ℕ) (n : ℕ) → n ≤ length z → t ≡ fill g n z → run (λ (c : ℕ). getD t (0 + c) 0) 0 n d
+    ≡ fill g n d
 fill-by-way g t z d n l p =
-    rw p (run-same _ g 0 n d (λ j h. ap (λ (i : ℕ). getD (fill g n z) i 0) (zero-add j) ∙ fill-at g n z j 0 h (omega arith))) ∙ run-fill g n d
+    rw p (run-same _ g 0 n d (λ j h. ap (λ (i : ℕ). getD (fill g n z) i 0) (zero-add j) ∙ fill-at g n z j 0 h (omega arith)))
+    ∙ run-fill g n d
 
 column-same : (f g : ℕ → ℕ) (a n k : ℕ) (d : List ℕ) → ((r : ℕ) → r < k → f r ≡ g r) → column f a n k d ≡ column g a n k d
 unfolding column
 column-same f g a n zero d h = refl
 column-same f g a n (suc k) d h = rw (column-same f g a n k d (λ r l. h r (omega arith)), h k (omega arith))
 
-pub column-by-way : (g : ℕ → ℕ) (t z d : List ℕ) (a n : ℕ) → n ≤ length z → t ≡ run g 0 n z → column (λ (r : ℕ). getD t r 0) a n n d ≡ column g a n n d
-column-by-way g t z d a n l p = rw p (column-same _ _ a n n d (λ r h. ap (λ (i : ℕ). getD (run g 0 n z) i 0) (sym (zero-add r)) ∙ run-at g 0 n z r 0 h (omega arith)))
+pub column-by-way : (g : ℕ → ℕ) (t z d : List ℕ) (a n : ℕ) → n ≤ length z → t ≡ run g 0 n z → column (λ (r : ℕ). getD t r 0) a n n d
+    ≡ column g a n n d
+column-by-way g t z d a n l p = rw p (column-same _ _ a n n d
+    (λ r h. ap (λ (i : ℕ). getD (run g 0 n z) i 0) (sym (zero-add r)) ∙ run-at g 0 n z r 0 h (omega arith)))
 
-pub column-by-fill : (g : ℕ → ℕ) (t z d : List ℕ) (a n : ℕ) → n ≤ length z → t ≡ fill g n z → column (λ (r : ℕ). getD t r 0) a n n d ≡ column g a n n d
+pub column-by-fill : (g : ℕ → ℕ) (t z d : List ℕ) (a n : ℕ) → n ≤ length z → t ≡ fill g n z → column (λ (r : ℕ). getD t r 0) a n n d
+    ≡ column g a n n d
 column-by-fill g t z d a n l p = column-by-way g t z d a n l (p ∙ sym (run-fill g n z))
 
-pub block-by-way : (g : ℕ → ℕ → ℕ) (t z d : List ℕ) (n : ℕ) → n * n ≤ length z → t ≡ rows g n n z → run (λ (c : ℕ). getD t (0 + c) 0) 0 (n * n) d ≡ rows g n n d
+pub block-by-way : (g : ℕ → ℕ → ℕ) (t z d : List ℕ) (n : ℕ) → n * n ≤ length z → t ≡ rows g n n z
+    → run (λ (c : ℕ). getD t (0 + c) 0) 0 (n * n) d ≡ rows g n n d
 unfolding rows
 block-by-way g t z d n l p = fill-by-way _ t z d (n * n) l p

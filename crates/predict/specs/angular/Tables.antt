@@ -27,7 +27,8 @@ turn-low d h = let q : getD turns d 0 ≤ 31 = leb→le _ _ (at (λ k x. leb (ge
 
 pub turn-high : (d : ℕ) → 8 ≤ d → d < 17 → (32 ≤ getD turns d 0) × (getD turns d 0 ≤ 64)
 turn-high d l h = (
-  leb→le _ _ (subst (λ (b : Bool). T (cond b true (leb 32 (getD turns d 0)))) (le-ltb d 8 l) (at (λ k x. cond (ltb k 8) true (leb 32 x)) turns tt d h)),
+  leb→le _ _ (subst (λ (b : Bool). T (cond b true (leb 32 (getD turns d 0)))) (le-ltb d 8 l)
+      (at (λ k x. cond (ltb k 8) true (leb 32 x)) turns tt d h)),
   leb→le _ _ (at (λ k x. leb x 64) turns tt d h),
 )
 
@@ -45,5 +46,6 @@ pub bend-reach : (d n : ℕ) → d < 17 → Size n → sideOf (getD bends d 0) (
 bend-reach d n h s =
     let q : d ≡ 18 + d - 18 + (18 - (18 + d)) = omega arith in
     let e : getD turns d 0 ≡ getD angles (18 + d) 0 = ap (λ (k : ℕ). getD turns k 0) q ∙ turn-angle (18 + d) (omega arith) (omega arith) in
-    let i : getD bends d 0 ≡ getD inverses (18 + d) 0 = ap (λ (k : ℕ). getD bends k 0) q ∙ bend-inverse (18 + d) (omega arith) (omega arith) in
+    let i : getD bends d 0 ≡ getD inverses (18 + d) 0 = ap (λ (k : ℕ). getD bends k 0) q
+    ∙ bend-inverse (18 + d) (omega arith) (omega arith) in
     rw (e, i) (side-reach (18 + d) n (omega arith) s)

@@ -1,4 +1,5 @@
--- 8.4.4.2.6 with no number below 0: an angle stands as the angle plus 32, ref[i] at 64 + i. Bridge.antt shows that it is the standard's. Assumes nothing.
+-- 8.4.4.2.6 with no number below 0: an angle stands as the angle plus 32, ref[i] at 64 + i. Bridge.antt shows that it is the
+-- standard's. Assumes nothing.
 use Prim.Native.Nat.{ℕ, _+_, _-_, _*_, _/_, _^_}
 use mathlib.Core.Bool.{Bool, cond, _&&_}
 use mathlib.Core.List.{List, [], _∷_}
@@ -11,12 +12,14 @@ use Rattle.predict.specs.angles.Starts.{fractionOf}
 -- intraPredAngle plus 32, by mode
 abbrev pub angles : List ℕ
 angles =
-    32 ∷ 32 ∷ 64 ∷ 58 ∷ 53 ∷ 49 ∷ 45 ∷ 41 ∷ 37 ∷ 34 ∷ 32 ∷ 30 ∷ 27 ∷ 23 ∷ 19 ∷ 15 ∷ 11 ∷ 6 ∷ 0 ∷ 6 ∷ 11 ∷ 15 ∷ 19 ∷ 23 ∷ 27 ∷ 30 ∷ 32 ∷ 34 ∷ 37 ∷ 41 ∷ 45 ∷ 49 ∷ 53 ∷ 58 ∷ 64 ∷ []
+    32 ∷ 32 ∷ 64 ∷ 58 ∷ 53 ∷ 49 ∷ 45 ∷ 41 ∷ 37 ∷ 34 ∷ 32 ∷ 30 ∷ 27 ∷ 23 ∷ 19 ∷ 15 ∷ 11 ∷ 6 ∷ 0 ∷ 6 ∷ 11 ∷ 15 ∷ 19 ∷ 23 ∷ 27 ∷ 30 ∷ 32 ∷ 34
+    ∷ 37 ∷ 41 ∷ 45 ∷ 49 ∷ 53 ∷ 58 ∷ 64 ∷ []
 
 -- -invAngle, by mode
 abbrev pub inverses : List ℕ
 inverses =
-    0 ∷ 0 ∷ 0 ∷ 0 ∷ 0 ∷ 0 ∷ 0 ∷ 0 ∷ 0 ∷ 0 ∷ 0 ∷ 4096 ∷ 1638 ∷ 910 ∷ 630 ∷ 482 ∷ 390 ∷ 315 ∷ 256 ∷ 315 ∷ 390 ∷ 482 ∷ 630 ∷ 910 ∷ 1638 ∷ 4096 ∷ 0 ∷ 0 ∷ 0 ∷ 0 ∷ 0 ∷ 0 ∷ 0 ∷ 0 ∷ 0 ∷ []
+    0 ∷ 0 ∷ 0 ∷ 0 ∷ 0 ∷ 0 ∷ 0 ∷ 0 ∷ 0 ∷ 0 ∷ 0 ∷ 4096 ∷ 1638 ∷ 910 ∷ 630 ∷ 482 ∷ 390 ∷ 315 ∷ 256 ∷ 315 ∷ 390 ∷ 482 ∷ 630 ∷ 910 ∷ 1638
+    ∷ 4096 ∷ 0 ∷ 0 ∷ 0 ∷ 0 ∷ 0 ∷ 0 ∷ 0 ∷ 0 ∷ 0 ∷ []
 
 -- where row r of an angle starts among the references
 abbrev pub refStart : ℕ → ℕ → ℕ
@@ -44,5 +47,7 @@ mirror nb = record { corner = nb .corner; above = nb .left; left = nb .above }
 unfoldable pub angularAt : ℕ → Bool → ℕ → ℕ → Neighbours → ℕ → ℕ → ℕ
 angularAt bits edge n mode nb x y =
     cond (leb 18 mode)
-    (cond (eqb mode 26 && (eqb x 0 && (edge && ltb n 32))) (edgeOf (2 ^ bits - 1) (nb .above 0) (nb .left y) (nb .corner)) (verticalAt nb (getD angles mode 0) (getD inverses mode 0) y x))
-    (cond (eqb mode 10 && (eqb y 0 && (edge && ltb n 32))) (edgeOf (2 ^ bits - 1) (nb .left 0) (nb .above x) (nb .corner)) (verticalAt (mirror nb) (getD angles mode 0) (getD inverses mode 0) x y))
+    (cond (eqb mode 26 && (eqb x 0 && (edge && ltb n 32))) (edgeOf (2 ^ bits - 1) (nb .above 0) (nb .left y) (nb .corner))
+    (verticalAt nb (getD angles mode 0) (getD inverses mode 0) y x))
+    (cond (eqb mode 10 && (eqb y 0 && (edge && ltb n 32))) (edgeOf (2 ^ bits - 1) (nb .left 0) (nb .above x) (nb .corner))
+    (verticalAt (mirror nb) (getD angles mode 0) (getD inverses mode 0) x y))

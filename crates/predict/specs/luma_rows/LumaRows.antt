@@ -1,5 +1,5 @@
--- The rows that a luma block is predicted from: smoothed where the rule says so, and as they are where it does not; the doors of rule and smoothing give
--- them for a block that is served. Rests on the definitions of both doors.
+-- The rows that a luma block is predicted from: smoothed where the rule says so, and as they are where it does not; the doors of
+-- rule and smoothing give them for a block that is served. Rests on the definitions of both doors.
 use mathlib.Core.Path.{_≡_, sym, ap, _∙_}
 use mathlib.Core.Bool.{true, false, cond}
 use Prim.Native.Nat.{ℕ}

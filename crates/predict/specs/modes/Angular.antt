@@ -26,7 +26,8 @@ interp-rises : (f x y x′ y′ : ℕ) → x ≤ x′ → (0 < f → y ≤ y′)
 unfolding interpOf
 interp-rises f x y x′ y′ h k =
     let p : (32 - f) * x ≤ (32 - f) * x′ = mul-le-mul-left (32 - f) h in
-    ⊎-elim (λ l. let q : f * y ≤ f * y′ = mul-le-mul-left f (k l) in omega arith) (λ l. let z : f ≡ 0 = omega arith in rw z (omega arith)) (order 0 f)
+    ⊎-elim (λ l. let q : f * y ≤ f * y′ = mul-le-mul-left f (k l) in omega arith) (λ l. let z : f ≡ 0 = omega arith in rw z (omega arith))
+    (order 0 f)
 
 interp-flat : (f v : ℕ) → f < 32 → interpOf f v v ≡ v
 unfolding interpOf
@@ -44,7 +45,8 @@ ref-flat v inv j = one (ltb 64 j) (eqb (sideOf inv j) 0) where
 
 sample-flat : (v e inv r c : ℕ) → verticalAt (even v) e inv r c ≡ v
 unfolding verticalAt
-sample-flat v e inv r c = rw (ref-flat v inv (refStart e r + c), ref-flat v inv (refStart e r + c + 1)) (interp-flat (fractionOf e r) v (omega arith))
+sample-flat v e inv r c = rw (ref-flat v inv (refStart e r + c), ref-flat v inv (refStart e r + c + 1))
+    (interp-flat (fractionOf e r) v (omega arith))
 
 module _ (n : ℕ) (p q : Neighbours) (u : Under n p q) where
   ref-rises : (inv j : ℕ) → j ≤ 64 + 2 * n → (j ≤ 64 → sideOf inv j ≤ 2 * n) → refAt p inv j ≤ refAt q inv j
@@ -52,12 +54,14 @@ module _ (n : ℕ) (p q : Neighbours) (u : Under n p q) where
   ref-rises inv j h k =
       ⊎-elim (λ l. rw (lt-ltb 64 j l) (u .above (j - 65) (omega arith)))
       (λ l.
-      ⊎-elim (λ z. let b = k l in rw (le-ltb 64 j l, ne-eqb (sideOf inv j) 0 (λ e. let q : sideOf inv j ≡ 0 = e in omega arith)) (u .left (sideOf inv j - 1) (omega arith)))
+      ⊎-elim (λ z. let b = k l in rw (le-ltb 64 j l, ne-eqb (sideOf inv j) 0 (λ e. let q : sideOf inv j ≡ 0 = e in omega arith))
+      (u .left (sideOf inv j - 1) (omega arith)))
       (λ z. rw (le-ltb 64 j l, eq-eqb (sideOf inv j) 0 (omega arith)) (u .corner))
       (order 0 (sideOf inv j)))
       (order 64 j)
 
-  sample-rises : (e inv r k : ℕ) → e ≤ 64 → r < n → k < n → n ≤ 32 → (e < 32 → sideOf inv (firstOf e n) ≤ 2 * n) → verticalAt p e inv r k ≤ verticalAt q e inv r k
+  sample-rises : (e inv r k : ℕ) → e ≤ 64 → r < n → k < n → n ≤ 32 → (e < 32 → sideOf inv (firstOf e n) ≤ 2 * n)
+      → verticalAt p e inv r k ≤ verticalAt q e inv r k
   unfolding verticalAt
   sample-rises e inv r k t hr hk sm sd =
       let y : (r + 1) * e ≤ (r + 1) * 64 = mul-le-mul-left (r + 1) t in
@@ -94,9 +98,11 @@ module _ (n mode : ℕ) (s : Size n) (h : mode < 35) where
   }
     where
       same : (nb : Neighbours) → angular bits false n mode nb x y ≡ cond (leb 18 mode) (sample nb y x) (sample (mirror nb) x y)
-      same nb = angular-same bits n mode false nb x y (size-small n s .1) h hx hy ∙ rw (off (eqb mode 26) (eqb x 0), off (eqb mode 10) (eqb y 0))
+      same nb = angular-same bits n mode false nb x y (size-small n s .1) h hx hy
+          ∙ rw (off (eqb mode 26) (eqb x 0), off (eqb mode 10) (eqb y 0))
 
-      two : (p q : Neighbours) → Under n p q → (b : Bool) → cond b (sample p y x) (sample (mirror p) x y) ≤ cond b (sample q y x) (sample (mirror q) x y)
+      two : (p q : Neighbours) → Under n p q → (b : Bool)
+          → cond b (sample p y x) (sample (mirror p) x y) ≤ cond b (sample q y x) (sample (mirror q) x y)
       two p q u true = rises p q u y x hy hx
       two p q u false = rises (mirror p) (mirror q) (mirrored p q u) x y hx hy
 
@@ -105,10 +111,12 @@ module _ (n mode : ℕ) (s : Size n) (h : mode < 35) where
       level v false = sample-flat v _ _ x y
 
   -- with the edge on or off, neighbours that agree on the corner and entries 0 .. 2n - 1 give the same sample
-  pub angular-alone : (bits : ℕ) (edge : Bool) (x y : ℕ) → x < n → y < n → (p q : Neighbours) → Agree n p q → angular bits edge n mode p x y ≡ angular bits edge n mode q x y
+  pub angular-alone : (bits : ℕ) (edge : Bool) (x y : ℕ) → x < n → y < n → (p q : Neighbours) → Agree n p q
+      → angular bits edge n mode p x y ≡ angular bits edge n mode q x y
   unfolding angularAt
   angular-alone bits edge x y hx hy p q a =
-      angular-same bits n mode edge p x y (size-small n s .1) h hx hy ∙ one ∙ sym (angular-same bits n mode edge q x y (size-small n s .1) h hx hy)
+      angular-same bits n mode edge p x y (size-small n s .1) h hx hy ∙ one
+      ∙ sym (angular-same bits n mode edge q x y (size-small n s .1) h hx hy)
     where
       u : Under n p q × Under n q p
       u = agree-under n p q a
@@ -116,5 +124,15 @@ module _ (n mode : ℕ) (s : Size n) (h : mode < 35) where
       one : angularAt bits edge n mode p x y ≡ angularAt bits edge n mode q x y
       one =
           let straight : sample p y x ≡ sample q y x = le-antisymm (rises p q (u .0) y x hy hx) (rises q p (u .1) y x hy hx) in
-          let across : sample (mirror p) x y ≡ sample (mirror q) x y = le-antisymm (rises (mirror p) (mirror q) (mirrored p q (u .0)) x y hx hy) (rises (mirror q) (mirror p) (mirrored q p (u .1)) x y hx hy) in
-          rw (straight, across, a .corner, a .above 0 (omega arith), a .left y (omega arith), a .left 0 (omega arith), a .above x (omega arith))
+          let across : sample (mirror p) x y ≡ sample (mirror q) x y = le-antisymm
+          (rises (mirror p) (mirror q) (mirrored p q (u .0)) x y hx hy) (rises (mirror q) (mirror p) (mirrored q p (u .1)) x y hx hy) in
+          rw (
+            straight,
+            across,
+            a .corner,
+            a .above 0 (omega arith),
+            a .left y (omega arith),
+            a .left 0 (omega arith),
+            a .above x
+                (omega arith),
+          )

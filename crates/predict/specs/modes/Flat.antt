@@ -1,9 +1,10 @@
--- Planar and DC are means of their neighbours, DC with its edge too: they lie between any bounds of them, and entries from 2n on reach no sample.
--- Rests on the standard's clauses.
+-- Planar and DC are means of their neighbours, DC with its edge too: they lie between any bounds of them, and entries from 2n on
+-- reach no sample. Rests on the standard's clauses.
 use Prim.Native.Nat.{ℕ, zero, suc, _+_, _-_, _*_, _/_, _≤_, _<_}
 use mathlib.Core.Path.{_≡_, refl, sym, ap, _∙_}
 use mathlib.Core.Bool.{Bool, true, false, cond, _&&_}
-use native.Mathlib.Nat.{mul-le-mul-left, add-mul, mul-add-div, div-mul-le-self, le-div-iff-mul-le, le-trans, le-refl, div-eq-of-lt, zero-mul, suc-mul}
+use native.Mathlib.Nat.{mul-le-mul-left, add-mul, mul-add-div, div-mul-le-self, le-div-iff-mul-le, le-trans, le-refl, div-eq-of-lt}
+use native.Mathlib.Nat.{zero-mul, suc-mul}
 use native.Mathlib.Omega.{arith}
 use lib.Dec.{ltb, eqb}
 use Rattle.domain.specs.Facts.{Size, size-small}
@@ -29,7 +30,8 @@ parts n x v h = sym (ap (λ (k : ℕ). k * v) (let e : n ≡ n - 1 - x + (x + 1)
 twice : (n v : ℕ) → 2 * n * v ≡ n * v + n * v
 twice n v = ap (λ (k : ℕ). k * v) (let e : 2 * n ≡ n + n = omega arith in e) ∙ add-mul n n v
 
-mix-rises : (n y x l tr t bl l′ tr′ t′ bl′ : ℕ) → 0 < n → l ≤ l′ → tr ≤ tr′ → t ≤ t′ → bl ≤ bl′ → planarSample n y x l tr t bl ≤ planarSample n y x l′ tr′ t′ bl′
+mix-rises : (n y x l tr t bl l′ tr′ t′ bl′ : ℕ) → 0 < n → l ≤ l′ → tr ≤ tr′ → t ≤ t′ → bl ≤ bl′
+    → planarSample n y x l tr t bl ≤ planarSample n y x l′ tr′ t′ bl′
 unfolding planarSample
 mix-rises n y x l tr t bl l′ tr′ t′ bl′ h p q r s =
     let i = mul-le-mul-left (n - 1 - x) p in
@@ -44,14 +46,16 @@ mix-flat n y x v hx hy =
     let p = parts n x v hx in
     let q = parts n y v hy in
     let t = twice n v in
-    ap (λ (k : ℕ). k / (2 * n)) (let e : (n - 1 - x) * v + (x + 1) * v + ((n - 1 - y) * v + (y + 1) * v) + n ≡ 2 * n * v + n = omega arith in e)
+    ap (λ (k : ℕ). k / (2 * n)) (let e : (n - 1 - x) * v + (x + 1) * v + ((n - 1 - y) * v + (y + 1) * v) + n
+    ≡ 2 * n * v + n = omega arith in e)
     ∙ weighed (2 * n) v n (omega arith)
 
 pub mean-planar : (n x y : ℕ) → Size n → x < n → y < n → Mean n (λ (nb : Neighbours). planar n nb x y)
 mean-planar n x y s hx hy = record {
   rises = λ a b u.
       rw (← planar-mix n s a y x, ← planar-mix n s b y x)
-      (mix-rises n y x _ _ _ _ _ _ _ _ (omega arith) (u .left y (omega arith)) (u .above n (omega arith)) (u .above x (omega arith)) (u .left n (omega arith)));
+      (mix-rises n y x _ _ _ _ _ _ _ _ (omega arith) (u .left y (omega arith)) (u .above n (omega arith)) (u .above x (omega arith))
+      (u .left n (omega arith)));
   flat = λ v. rw (← planar-mix n s (even v) y x) (mix-flat n y x v hx hy);
 }
 
@@ -78,7 +82,8 @@ mean-value n s = record {
       let t = twice n v in
       let p = sum-flat v n in
       rw (← dc-quotient n s (even v) _ refl)
-      (ap (λ (k : ℕ). k / (2 * n)) (let e : sumTo (λ (i : ℕ). v) n + sumTo (λ (i : ℕ). v) n + n ≡ 2 * n * v + n = omega arith in e) ∙ weighed (2 * n) v n (omega arith));
+      (ap (λ (k : ℕ). k / (2 * n)) (let e : sumTo (λ (i : ℕ). v) n + sumTo (λ (i : ℕ). v) n + n ≡ 2 * n * v + n = omega arith in e)
+      ∙ weighed (2 * n) v n (omega arith));
 }
 
 -- the edge, by where a sample lies
@@ -86,7 +91,8 @@ module _ (e i j : Bool) where
   abbrev mixed : ℕ → ℕ → ℕ → ℕ → ℕ → ℕ
   mixed v l a ly ax = cond e (cond i (cond j (cornered l a v) (blended ly v)) (cond j (blended ax v) v)) v
 
-mixed-rises : (e i j : Bool) (v l a ly ax v′ l′ a′ ly′ ax′ : ℕ) → v ≤ v′ → l ≤ l′ → a ≤ a′ → ly ≤ ly′ → ax ≤ ax′ → mixed e i j v l a ly ax ≤ mixed e i j v′ l′ a′ ly′ ax′
+mixed-rises : (e i j : Bool) (v l a ly ax v′ l′ a′ ly′ ax′ : ℕ) → v ≤ v′ → l ≤ l′ → a ≤ a′ → ly ≤ ly′ → ax ≤ ax′
+    → mixed e i j v l a ly ax ≤ mixed e i j v′ l′ a′ ly′ ax′
 mixed-rises false i j v l a ly ax v′ l′ a′ ly′ ax′ p q r s t = p
 mixed-rises true false false v l a ly ax v′ l′ a′ ly′ ax′ p q r s t = p
 mixed-rises true false true v l a ly ax v′ l′ a′ ly′ ax′ p q r s t = omega arith
@@ -104,13 +110,16 @@ pub mean-dc : (edge : Bool) (n x y : ℕ) → Size n → x < n → y < n → Mea
 unfolding dc
 mean-dc edge n x y s hx hy = record {
   rises = λ a b u.
-      mixed-rises (edge && ltb n 32) (eqb x 0) (eqb y 0) (dcVal n a) (a .left 0) (a .above 0) (a .left y) (a .above x) (dcVal n b) (b .left 0) (b .above 0) (b .left y) (b .above x)
-      (mean-value n s .rises a b u) (u .left 0 (omega arith)) (u .above 0 (omega arith)) (u .left y (omega arith)) (u .above x (omega arith));
+      mixed-rises (edge && ltb n 32) (eqb x 0) (eqb y 0) (dcVal n a) (a .left 0) (a .above 0) (a .left y) (a .above x) (dcVal n b)
+      (b .left 0) (b .above 0) (b .left y) (b .above x)
+      (mean-value n s .rises a b u) (u .left 0 (omega arith)) (u .above 0 (omega arith)) (u .left y (omega arith))
+      (u .above x (omega arith));
   flat = λ v. rw (mean-value n s .flat v) (mixed-flat (edge && ltb n 32) (eqb x 0) (eqb y 0) v);
 }
 
 -- entries from 2n on reach no sample, and the corner reaches none
-module _ (n x y : ℕ) (s : Size n) (hx : x < n) (hy : y < n) (a b : Neighbours) (above : (i : ℕ) → i < 2 * n → a .above i ≡ b .above i) (left : (i : ℕ) → i < 2 * n → a .left i ≡ b .left i) where
+module _ (n x y : ℕ) (s : Size n) (hx : x < n) (hy : y < n) (a b : Neighbours) (above : (i : ℕ) → i < 2 * n → a .above i ≡ b .above i)
+    (left : (i : ℕ) → i < 2 * n → a .left i ≡ b .left i) where
   abbrev b′ : Neighbours
   b′ = record { corner = a .corner; above = b .above; left = b .left }
 
@@ -126,7 +135,8 @@ module _ (n x y : ℕ) (s : Size n) (hx : x < n) (hy : y < n) (a b : Neighbours)
   dc-alone edge = alone n (λ (nb : Neighbours). dc edge n nb x y) (mean-dc edge n x y s hx hy) a b′ agree
 
 -- every sample lies between any bounds of the corner and entries 0 .. 2n - 1
-module _ (n x y : ℕ) (s : Size n) (hx : x < n) (hy : y < n) (lo hi : ℕ) (nb : Neighbours) (low : Under n (even lo) nb) (high : Under n nb (even hi)) where
+module _ (n x y : ℕ) (s : Size n) (hx : x < n) (hy : y < n) (lo hi : ℕ) (nb : Neighbours) (low : Under n (even lo) nb)
+    (high : Under n nb (even hi)) where
   pub planar-between : (lo ≤ planar n nb x y) × (planar n nb x y ≤ hi)
   planar-between = between n (λ (m : Neighbours). planar n m x y) (mean-planar n x y s hx hy) lo hi nb low high
 

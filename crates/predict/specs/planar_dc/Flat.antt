@@ -1,4 +1,5 @@
--- What the loops ask of a planar or DC call, which a number of 0 tells, and one sample of planar over the samples that it mixes. Rests on the domain and on the numbers.
+-- What the loops ask of a planar or DC call, which a number of 0 tells, and one sample of planar over the samples that it mixes.
+-- Rests on the domain and on the numbers.
 use Prim.Native.Nat.{ℕ, _+_, _-_, _*_, _/_, _≤_, _<_}
 use mathlib.Core.Path.{_≡_, subst}
 use mathlib.Core.Bool.{_&&_}

@@ -53,5 +53,6 @@ ProbeReplayLent s plan p grant residuals plane refs indices fractions r =
 
 abbrev pub ProbeWalkLent : Still → Plan → Progress → ℕ → Slice → Slice → Residuals → Slice → Slice → Slice → StepAnswer → Type 0
 ProbeWalkLent s plan p grant source work residuals refs indices fractions r =
-    ProbeWalk s plan (lentTables refs indices fractions) p grant (now (source .entry)) (worldBefore work residuals) (worldAfter work residuals) r
+    ProbeWalk s plan (lentTables refs indices fractions) p grant (now (source .entry)) (worldBefore work residuals)
+    (worldAfter work residuals) r
     (Untouched refs indices fractions)

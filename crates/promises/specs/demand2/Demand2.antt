@@ -105,7 +105,8 @@ standardNeighbours plane g =
 
 abbrev pub standardBlock : List ℕ → LumaRefGeometry → ℕ → ℕ → ℕ → ℕ
 standardBlock plane g mode =
-    predicted (gridOf (g .picture)) (lumaAt (g .bits)) firstEditionStrong (g .n) mode (g .«block_col» .0) (g .«block_row» .0) (planeSample plane g)
+    predicted (gridOf (g .picture)) (lumaAt (g .bits)) firstEditionStrong (g .n) mode (g .«block_col» .0) (g .«block_row» .0)
+    (planeSample plane g)
 
 -- `clause x y` is in row y and column x of a block of side n
 abbrev pub Holds : ℕ → (ℕ → ℕ → ℕ) → List ℕ → Type 0
@@ -179,7 +180,8 @@ pub record Demand2 : Type 2 where
       n (angular bits edge n mode (inRows corner above left))
   -- predict: the block of a mode, 8.4.4.2.1; luma takes gathered rows, and smooths them where the rule says so
   pub predict-chroma-tb-slices : (κs : Lfts 6) (mode corner : ℕ) (above left : LentSlice) (n bits : ℕ)
-      → Writes {Last = LentTables} (chroma-slices.Post κs) (λ pred last. mode and corner and above and left and n and bits and pred and last)
+      → Writes {Last = LentTables} (chroma-slices.Post κs)
+      (λ pred last. mode and corner and above and left and n and bits and pred and last)
       n (chromaSamples bits n mode (inRows corner above left))
   pub predict-chroma-tb-fresh : (κs : Lfts 3) (mode corner : ℕ) (above left : LentSlice) (n bits : ℕ)
       → Writes (chroma-fresh.Post κs) (λ pred last. mode and corner and above and left and n and bits and pred and last)

@@ -41,7 +41,8 @@ use Rattle.predict.specs.planar_dc.Flat.{ready}
 use Rattle.predict.specs.angular.Door.{fit}
 use Rattle.predict.specs.by_mode.Door.{given, highest}
 use Rattle.predict.specs.modes.Modes.{pred-alone}
-use Rattle.promises.specs.demand2.Demand2.{LentSlice, LentTables, Holds, lumaSamples, standardNeighbours, standardBlock, WithScratch, Demand2}
+use Rattle.promises.specs.demand2.Demand2.{LentSlice, LentTables, Holds, lumaSamples, standardNeighbours, standardBlock}
+use Rattle.promises.specs.demand2.Demand2.{WithScratch, Demand2}
 use Rattle.promises.specs.demand2.Spelt2.{luma-size, luma-refs-spelt, planar-spelt, dc-spelt, angular-spelt, chroma-spelt}
 
 abbrev len : LentSlice → ℕ

@@ -1,4 +1,5 @@
--- A call of walk or of replay whose scratch is long enough is served exactly when its facts hold, and what it leaves has them again: the lengths stay. Rests on the plan's verdict.
+-- A call of walk or of replay whose scratch is long enough is served exactly when its facts hold, and what it leaves has them again:
+-- the lengths stay. Rests on the plan's verdict.
 use mathlib.Core.Path.{_≡_, refl, sym, ap, _∙_}
 use mathlib.Core.Bool.{Bool, true, false, cond, _&&_}
 use mathlib.Core.List.{List}
@@ -35,15 +36,18 @@ use Rattle.promises.specs.demand3.Chains.{next, Steps}
 
 -- the verdict, where the checks before the blocks, the plan's and the record's all hold
 module _ (s : Still) (plan : Plan) where
-  verdict-fine : (done early : ℕ) → early ≡ 0 → blocksVerdict (s .frame) plan .no ≡ 0 → done ≤ plan .count → verdictOf s plan done early .no ≡ 0
+  verdict-fine : (done early : ℕ) → early ≡ 0 → blocksVerdict (s .frame) plan .no ≡ 0 → done ≤ plan .count
+      → verdictOf s plan done early .no ≡ 0
   unfolding verdictOf settle
   verdict-fine done early x y z = simp (eq-eqb early 0 x, eq-eqb (blocksVerdict (s .frame) plan .no) 0 y, le-leb done (plan .count) z)
 
   blocks-fine : plan .whole ≡ true → Accepted (s .frame) (plan .block) (plan .count) → blocksVerdict (s .frame) plan .no ≡ 0
   blocks-fine w a =
-      ap (λ (v : Verdict). v .no) (sym (blocks-alone (s .frame) plan (good-picture (s .frame) (a .picture)) w) ∙ good-verdict (s .frame) plan w a)
+      ap (λ (v : Verdict). v .no) (sym (blocks-alone (s .frame) plan (good-picture (s .frame) (a .picture)) w)
+      ∙ good-verdict (s .frame) plan w a)
 
--- what every call asks for beside its scratch: the depth, the picture with its plan of whole records, and a record of no more blocks than there are
+-- what every call asks for beside its scratch: the depth, the picture with its plan of whole records, and a record of no more blocks
+-- than there are
 pub record Asked (j : Task) (done : ℕ) : Type 0 where
   pub depth : Depth (j .still .bits)
   pub records : j .plan .whole ≡ true
@@ -79,21 +83,31 @@ module _ (j : Task) where
       let v = verdict-zero s (j .plan) (x .progress .done) _ e in
       let depth = passed (depthOk (s .bits)) _ 1 (omega arith) (v .0) in
       let picture = passed (pictureOk (pictureOf (s .frame))) _ 4 (omega arith) (depth .1) in
-      let long = passed (j .plan .whole && isWhole s (length source) && isWhole s (length (x .world .work)) && isWhole s (length (x .world .residuals)) && isRoomy t) _ 5 (omega arith) (picture .1) in
+      let long = passed (j .plan .whole && isWhole s (length source) && isWhole s (length (x .world .work))
+      && isWhole s (length (x .world .residuals)) && isRoomy t) _ 5 (omega arith) (picture .1) in
       let most = passed (every (λ v. leb v (largestIn s)) source) 0 7 (omega arith) (long .1) in
-      let c = both-true (j .plan .whole && isWhole s (length source) && isWhole s (length (x .world .work)) && isWhole s (length (x .world .residuals))) (isRoomy t) (long .0) in
-      let b = both-true (j .plan .whole && isWhole s (length source) && isWhole s (length (x .world .work))) (isWhole s (length (x .world .residuals))) (c .0) in
+      let c = both-true (j .plan .whole && isWhole s (length source) && isWhole s (length (x .world .work))
+      && isWhole s (length (x .world .residuals))) (isRoomy t) (long .0) in
+      let b = both-true (j .plan .whole && isWhole s (length source) && isWhole s (length (x .world .work)))
+      (isWhole s (length (x .world .residuals))) (c .0) in
       let a = both-true (j .plan .whole && isWhole s (length source)) (isWhole s (length (x .world .work))) (b .0) in
       let p = both-true (j .plan .whole) (isWhole s (length source)) (a .0) in
       record {
-        asked = record { depth = depth-of (s .bits) (depth .0); records = p .0; plan-ok = blocks-accepted s (j .plan) (picture .0) (p .0) (v .1 .0); few = v .1 .1 };
+        asked = record {
+          depth = depth-of (s .bits) (depth .0);
+          records = p .0;
+          plan-ok = blocks-accepted s (j .plan) (picture .0) (p .0)
+              (v .1 .0);
+          few = v .1 .1;
+        };
         source-whole = eqb-true (length source) size (p .1);
         work-whole = eqb-true (length (x .world .work)) size (a .1);
         residuals-whole = eqb-true (length (x .world .residuals)) size (b .1);
         samples = most .0;
       }
 
-  pub walk-fine : (source : List ℕ) (x : Held World) (t : Tables) → Walking j source x → isRoomy t ≡ true → walkVerdictAt j source x t .no ≡ 0
+  pub walk-fine : (source : List ℕ) (x : Held World) (t : Tables) → Walking j source x → isRoomy t ≡ true → walkVerdictAt j source x t .no
+      ≡ 0
   unfolding walkVerdict
   walk-fine source x t w room =
       verdict-fine s (j .plan) (x .progress .done) _
@@ -109,25 +123,34 @@ module _ (j : Task) where
       ))
       (blocks-fine s (j .plan) (w .asked .records) (w .asked .plan-ok)) (w .asked .few)
 
-  pub replay-told : (residuals : List ℤ) (x : Held (List ℕ)) (t : Tables) → replayVerdictAt j residuals x t .no ≡ 0 → Replaying j residuals x
+  pub replay-told : (residuals : List ℤ) (x : Held (List ℕ)) (t : Tables) → replayVerdictAt j residuals x t .no ≡ 0
+      → Replaying j residuals x
   unfolding replayVerdict
   replay-told residuals x t e =
       let v = verdict-zero s (j .plan) (x .progress .done) _ e in
       let depth = passed (depthOk (s .bits)) _ 1 (omega arith) (v .0) in
       let picture = passed (pictureOk (pictureOf (s .frame))) _ 4 (omega arith) (depth .1) in
-      let long = passed (j .plan .whole && isWhole s (length (x .world)) && isWhole s (length residuals) && isRoomy t) _ 5 (omega arith) (picture .1) in
+      let long = passed (j .plan .whole && isWhole s (length (x .world)) && isWhole s (length residuals) && isRoomy t) _ 5 (omega arith)
+      (picture .1) in
       let most = passed (every residualOk residuals) 0 8 (omega arith) (long .1) in
       let b = both-true (j .plan .whole && isWhole s (length (x .world)) && isWhole s (length residuals)) (isRoomy t) (long .0) in
       let a = both-true (j .plan .whole && isWhole s (length (x .world))) (isWhole s (length residuals)) (b .0) in
       let p = both-true (j .plan .whole) (isWhole s (length (x .world))) (a .0) in
       record {
-        asked = record { depth = depth-of (s .bits) (depth .0); records = p .0; plan-ok = blocks-accepted s (j .plan) (picture .0) (p .0) (v .1 .0); few = v .1 .1 };
+        asked = record {
+          depth = depth-of (s .bits) (depth .0);
+          records = p .0;
+          plan-ok = blocks-accepted s (j .plan) (picture .0) (p .0)
+              (v .1 .0);
+          few = v .1 .1;
+        };
         plane-whole = eqb-true (length (x .world)) size (p .1);
         residuals-whole = eqb-true (length residuals) size (a .1);
         in-range = most .0;
       }
 
-  pub replay-fine : (residuals : List ℤ) (x : Held (List ℕ)) (t : Tables) → Replaying j residuals x → isRoomy t ≡ true → replayVerdictAt j residuals x t .no ≡ 0
+  pub replay-fine : (residuals : List ℤ) (x : Held (List ℕ)) (t : Tables) → Replaying j residuals x → isRoomy t ≡ true
+      → replayVerdictAt j residuals x t .no ≡ 0
   unfolding replayVerdict
   replay-fine residuals x t w room =
       verdict-fine s (j .plan) (x .progress .done) _
@@ -144,7 +167,8 @@ module _ (j : Task) where
 
   -- one call does blocks, keeps every length, and its successor is served
   joined : {W : Type 0} (b : Bool) (y z : Stepped) (w v : W)
-      → _≡_ {A = Held W} (record { progress = cond b y z .next; world = cond b w v }) (cond b (record { progress = y .next; world = w }) (record { progress = z .next; world = v }))
+      → _≡_ {A = Held W} (record { progress = cond b y z .next; world = cond b w v })
+      (cond b (record { progress = y .next; world = w }) (record { progress = z .next; world = v }))
   joined true y z w v = refl
   joined false y z w v = refl
 
@@ -152,7 +176,8 @@ module _ (j : Task) where
   further a grant = record { depth = a .depth; records = a .records; plan-ok = a .plan-ok; few = omega arith }
 
   pub walk-steps : (source : List ℕ)
-      → Steps (λ (a : Ask). a .grant) Roomy (Walking j source) (λ x a. walkVerdictAt j source x (a .tables) .no) (walkUnit s (blocks j) source) (count j) (walkCall j source)
+      → Steps (λ (a : Ask). a .grant) Roomy (Walking j source) (λ x a. walkVerdictAt j source x (a .tables) .no)
+      (walkUnit s (blocks j) source) (count j) (walkCall j source)
   unfolding walkAfter walked
   walk-steps source = record {
     call-is = λ x a. joined (eqb (walkVerdictAt j source x (a .tables) .no) 0) _ _ _ _;
@@ -162,14 +187,17 @@ module _ (j : Task) where
         record {
           asked = further (w .asked) grant;
           source-whole = w .source-whole;
-          work-whole = units-kept (walkUnit s (blocks j) source) (λ (u : World). length (u .work)) _ _ (x .world) (λ k u l m. rebuilt-length s (blocks j k) (place (blocks j) k) _ (u .work)) ∙ w .work-whole;
-          residuals-whole = units-kept (walkUnit s (blocks j) source) (λ (u : World). length (u .residuals)) _ _ (x .world) (λ k u l m. stored-length s source (blocks j k) (place (blocks j) k) (u .work) (u .residuals)) ∙ w .residuals-whole;
+          work-whole = units-kept (walkUnit s (blocks j) source) (λ (u : World). length (u .work)) _ _ (x .world)
+              (λ k u l m. rebuilt-length s (blocks j k) (place (blocks j) k) _ (u .work)) ∙ w .work-whole;
+          residuals-whole = units-kept (walkUnit s (blocks j) source) (λ (u : World). length (u .residuals)) _ _ (x .world)
+              (λ k u l m. stored-length s source (blocks j k) (place (blocks j) k) (u .work) (u .residuals)) ∙ w .residuals-whole;
           samples = w .samples;
         };
   }
 
   pub replay-steps : (residuals : List ℤ)
-      → Steps (λ (a : Ask). a .grant) Roomy (Replaying j residuals) (λ x a. replayVerdictAt j residuals x (a .tables) .no) (replayUnit s (blocks j) residuals) (count j) (replayCall j residuals)
+      → Steps (λ (a : Ask). a .grant) Roomy (Replaying j residuals) (λ x a. replayVerdictAt j residuals x (a .tables) .no)
+      (replayUnit s (blocks j) residuals) (count j) (replayCall j residuals)
   unfolding replayAfter
   replay-steps residuals = record {
     call-is = λ x a. joined (eqb (replayVerdictAt j residuals x (a .tables) .no) 0) _ _ _ _;
@@ -178,7 +206,8 @@ module _ (j : Task) where
     again = λ x grant w.
         record {
           asked = further (w .asked) grant;
-          plane-whole = units-kept (replayUnit s (blocks j) residuals) length _ _ (x .world) (λ k u l m. rebuilt-length s (blocks j k) (place (blocks j) k) residuals u) ∙ w .plane-whole;
+          plane-whole = units-kept (replayUnit s (blocks j) residuals) length _ _ (x .world)
+              (λ k u l m. rebuilt-length s (blocks j k) (place (blocks j) k) residuals u) ∙ w .plane-whole;
           residuals-whole = w .residuals-whole;
           in-range = w .in-range;
         };

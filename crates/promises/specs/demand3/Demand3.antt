@@ -36,7 +36,9 @@ use Rattle.walk.proofs.Progress.replay_numbers as replay-numbers
 use Rattle.walk.proofs.Progress.replay_numbers.Reads as replay-numbers-contract
 use Rattle.walk.proofs.Progress.walk as walk-records
 use Rattle.walk.proofs.Progress.replay as replay-records
-use Rattle.promises.specs.demand3.Calls.{Task, task, Ask, ask, Roomy, granted, Each, Held, held, Served, WalksServed, ReplaysServed, Made, blocks, count, residualAt, fresh, calls, walkVerdictAt, walkCall, replayVerdictAt, replayCall}
+use Rattle.promises.specs.demand3.Calls.{Task, task, Ask, ask, Roomy, granted, Each, Held, held, Served, WalksServed}
+use Rattle.promises.specs.demand3.Calls.{ReplaysServed, Made, blocks, count, residualAt, fresh, calls, walkVerdictAt, walkCall}
+use Rattle.promises.specs.demand3.Calls.{replayVerdictAt, replayCall}
 
 -- The whole picture is walked: the record says so, there are as many residuals as samples, each block's are the source less H.265's
 -- prediction from the source itself, and the work plane holds the source.

@@ -16,7 +16,8 @@ use Rattle.walk.specs.block.Walked.{World}
 use Rattle.walk.specs.Lent.{scratchTables}
 use Rattle.walk.specs.checks.Checks.{every, settle}
 use Rattle.walk.specs.calls.Door.{verdictOf, walkVerdict}
-use Rattle.promises.specs.demand3.Calls.{Task, Ask, Roomy, granted, Each, Served, count, fresh, calls, walkVerdictAt, walkCall, replayCall}
+use Rattle.promises.specs.demand3.Calls.{Task, Ask, Roomy, granted, Each, Served, count, fresh, calls, walkVerdictAt, walkCall}
+use Rattle.promises.specs.demand3.Calls.{replayCall}
 use Rattle.promises.specs.demand3.Chains.{sum-none, sum-more}
 use Rattle.promises.specs.demand3.Demand3.{WalksAll}
 use Rattle.promises.specs.demand3.Proof3.{demand-3}
@@ -62,6 +63,7 @@ pub walked : WalksAll two source blankWorld there
 walked = record { tables = scratchTables; served = served; room = room 0 1; enough = enough 0 1 }
 
 -- over zeros
-pub same : calls (replayCall two (calls (walkCall two source) (fresh blankWorld) there .world .residuals)) (fresh (replicate 128 0)) back .world
+pub same : calls (replayCall two (calls (walkCall two source) (fresh blankWorld) there .world .residuals)) (fresh (replicate 128 0))
+    back .world
     ≡ source
 same = demand-3 .same two source blankWorld there walked (replicate 128 0) refl back (room 7 0) (enough 7 0)

@@ -20,7 +20,8 @@ use Rattle.walk.specs.calls.Door.{replayAfter, walkAfter}
 use Rattle.walk.specs.Door.{steppedBy}
 use Rattle.walk.specs.lossless.Picture.{rebuild-out, store-out, replays, sourced, walks-plan}
 use Rattle.walk.specs.lossless.Replay.{units-kept}
-use Rattle.promises.specs.demand3.Calls.{Task, Ask, Held, held, blocks, count, residualAt, walkVerdictAt, walkCall, replayVerdictAt, replayCall}
+use Rattle.promises.specs.demand3.Calls.{Task, Ask, Held, held, blocks, count, residualAt, walkVerdictAt, walkCall}
+use Rattle.promises.specs.demand3.Calls.{replayVerdictAt, replayCall}
 use Rattle.promises.specs.demand3.Chains.{next, does, refuses}
 use Rattle.promises.specs.demand3.Accept.{Walking, Replaying, walk-told, replay-told, walk-steps, replay-steps}
 use Rattle.promises.specs.demand3.Blocks.{replay-settled, walk-settled}

@@ -23,13 +23,15 @@ use Rattle.walk.specs.block.Walked.{World, walkUnit}
 use Rattle.walk.specs.block.RebuiltLaws.{rebuilt-length}
 use Rattle.walk.specs.lossless.Picture.{Sample, OfS, Whole, look, predict, residual, less, local, rebuild-out, replays, sourced, walks-plan}
 use Rattle.walk.specs.lossless.Replay.{units-kept, replay-same, replay-source, walks}
-use Rattle.promises.specs.demand3.Calls.{Task, Ask, ask, Roomy, granted, Each, Held, Served, ReplaysServed, blocks, count, residualAt, fresh, calls, walkCall, replayVerdictAt, replayCall}
+use Rattle.promises.specs.demand3.Calls.{Task, Ask, ask, Roomy, granted, Each, Held, Served, ReplaysServed, blocks, count}
+use Rattle.promises.specs.demand3.Calls.{residualAt, fresh, calls, walkCall, replayVerdictAt, replayCall}
 use Rattle.promises.specs.demand3.Chains.{after, all-done, all-served, made-calls, split, from-fresh}
 use Rattle.promises.specs.demand3.Accept.{Walking, Replaying, walk-told, replay-told, walk-steps, replay-steps}
 use Rattle.promises.specs.demand3.Range.{predicted-most}
 use Rattle.promises.specs.demand3.Gives.{walk-done, replay-done, walk-gave, replay-gave}
 use Rattle.promises.specs.demand3.Forms.{numbers-listed}
-use Rattle.promises.specs.demand3.Spots.{at, by-samples, every-of, most-at, less-small, in-block, part-of, spot, covered-in, spot-of, spot-less, spot-predict}
+use Rattle.promises.specs.demand3.Spots.{at, by-samples, every-of, most-at, less-small, in-block, part-of, spot, covered-in}
+use Rattle.promises.specs.demand3.Spots.{spot-of, spot-less, spot-predict}
 use Rattle.promises.specs.demand3.Demand3.{LosslessWalk, Replayed, WalkDoes, ReplayDoes, Demand3}
 
 -- a walk of the whole picture
@@ -52,20 +54,25 @@ module _ (j : Task) (source : List ℕ) (w : World) (facts : Walking j source (f
   -- the residuals keep their length, the work plane holds the source, and the residuals are the source less its prediction
   told : Whole s (all .residuals)
       × ((i : ℕ) (t : Sample s) → i < count j → OfS s (blocks j) i t → look s (all .work) t ≡ look s source t)
-      × ((i : ℕ) (t : Sample s) → i < count j → OfS s (blocks j) i t → residual s (blocks j) (all .residuals) i t ≡ less (look s source t) (predict s (blocks j) i source t))
+      × ((i : ℕ) (t : Sample s) → i < count j → OfS s (blocks j) i t → residual s (blocks j) (all .residuals) i t
+      ≡ less (look s source t) (predict s (blocks j) i source t))
   told =
-      let d = walks (replays s (blocks j) (count j) ok depth) (sourced s (blocks j) (count j) ok depth source (facts .source-whole) (λ t. samples _)) (walks-plan s (blocks j) (count j) ok depth source)
+      let d = walks (replays s (blocks j) (count j) ok depth)
+      (sourced s (blocks j) (count j) ok depth source (facts .source-whole) (λ t. samples _))
+      (walks-plan s (blocks j) (count j) ok depth source)
       (count j) w (omega arith) (facts .work-whole) (facts .residuals-whole) in
       (d .resid-ok, d .holds, d .lossless)
 
   residual-is : (i r c : ℕ) → i < count j → r < blocks j i .side → c < blocks j i .side
-      → residualAt j (all .residuals) i r c ≡ less (sampleAt s source (blocks j i .row + r) (blocks j i .col + c)) (predictedAt s (blocks j i) source r c)
+      → residualAt j (all .residuals) i r c ≡ less (sampleAt s source (blocks j i .row + r) (blocks j i .col + c))
+      (predictedAt s (blocks j i) source r c)
   residual-is i r c l hr hc =
       spot-less s (blocks j) (count j) ok i r c l hr hc _ (all .residuals) source
       (told .2 i (spot s (blocks j) (count j) ok i r c l hr hc) l (spot-of s (blocks j) (count j) ok i r c l hr hc))
 
   -- grants that reach the count walk it all
-  calls-are : (asks : List Ask) → Each Roomy asks → count j ≤ granted asks → calls (walkCall j source) (fresh w) asks ≡ after (walkUnit s (blocks j) source) (count j) w
+  calls-are : (asks : List Ask) → Each Roomy asks → count j ≤ granted asks → calls (walkCall j source) (fresh w) asks
+      ≡ after (walkUnit s (blocks j) source) (count j) w
   calls-are asks room h =
       let e : min (granted asks) (count j) ≡ count j = omega arith in
       from-fresh (walk-steps j source) w asks facts room ∙ ap (λ (k : ℕ). after (walkUnit s (blocks j) source) k w) e
@@ -80,8 +87,10 @@ module _ (j : Task) (source : List ℕ) (w : World) (facts : Walking j source (f
         reconstructed = λ r c i. let v = ok .plan-good .all r c i in told .1 (v .0) (at r c i) (v .1) (v .2);
       })
 
-  alone : (other : List ℕ) → Whole s other → (k : ℕ) → k < count j → ((r c : ℕ) → Covered (blocks j) k r c → sampleAt s source r c ≡ sampleAt s other r c)
-      → (r c : ℕ) → r < blocks j k .side → c < blocks j k .side → predictedAt s (blocks j k) source r c ≡ predictedAt s (blocks j k) other r c
+  alone : (other : List ℕ) → Whole s other → (k : ℕ) → k < count j
+      → ((r c : ℕ) → Covered (blocks j) k r c → sampleAt s source r c ≡ sampleAt s other r c)
+      → (r c : ℕ) → r < blocks j k .side → c < blocks j k .side → predictedAt s (blocks j k) source r c
+      ≡ predictedAt s (blocks j k) other r c
   alone other o k l same r c hr hc =
       sym (spot-predict s (blocks j) (count j) ok k r c l hr hc source)
       ∙ local s (blocks j) (count j) ok depth k source other l (facts .source-whole) o (λ i t m q. same (t .row) (t .col) (i, m, q))
@@ -95,7 +104,8 @@ module _ (j : Task) (source : List ℕ) (w : World) (facts : Walking j source (f
       small : largestIn s ≤ 65535
       small = at-depth (λ (k : ℕ). 2 ^ k - 1 ≤ 65535) (omega arith) (omega arith) (omega arith) (s .bits) depth
 
-      one : (i r c n : ℕ) → i < count j → r < blocks j i .side → c < blocks j i .side → n ≡ place (blocks j) i + r * blocks j i .side + c → residualOk (getD (all .residuals) n (pos 0)) ≡ true
+      one : (i r c n : ℕ) → i < count j → r < blocks j i .side → c < blocks j i .side → n ≡ place (blocks j) i + r * blocks j i .side + c
+          → residualOk (getD (all .residuals) n (pos 0)) ≡ true
       one i r c n l hr hc e =
           let o = sampleAt s source (blocks j i .row + r) (blocks j i .col + c) in
           let p = predictedAt s (blocks j i) source r c in
@@ -114,7 +124,8 @@ module _ (j : Task) (source : List ℕ) (w : World) (facts : Walking j source (f
     ready : Replaying j (all .residuals) (fresh plane)
     ready = record { asked = facts .asked; plane-whole = long; residuals-whole = told .0; in-range = in-range }
 
-    out : calls (replayCall j (all .residuals)) (fresh plane) again ≡ after (replayUnit s (blocks j) (all .residuals)) (min (granted again) (count j)) plane
+    out : calls (replayCall j (all .residuals)) (fresh plane) again
+        ≡ after (replayUnit s (blocks j) (all .residuals)) (min (granted again) (count j)) plane
     out = from-fresh (replay-steps j (all .residuals)) plane again ready room
 
     replay-back : Replayed j source plane (min (granted again) (count j)) (calls (replayCall j (all .residuals)) (fresh plane) again)
@@ -125,11 +136,14 @@ module _ (j : Task) (source : List ℕ) (w : World) (facts : Walking j source (f
         (record {
           done = refl;
           source-back = λ r c v.
-              replay-source (replays s (blocks j) (count j) ok depth) (sourced s (blocks j) (count j) ok depth source (facts .source-whole) (λ t. samples _))
-              (all .residuals) k plane most long (λ i t m. told .2 i t (omega arith)) (v .0) (at r c (covered-in s (blocks j) (count j) ok k r c most v)) (v .1) (v .2);
+              replay-source (replays s (blocks j) (count j) ok depth)
+              (sourced s (blocks j) (count j) ok depth source (facts .source-whole) (λ t. samples _))
+              (all .residuals) k plane most long (λ i t m. told .2 i t (omega arith)) (v .0)
+              (at r c (covered-in s (blocks j) (count j) ok k r c most v)) (v .1) (v .2);
           others-kept = λ r c h n.
               units-kept (replayUnit s (blocks j) (all .residuals)) (λ (u : List ℕ). sampleAt s u r c) 0 k plane
-              (λ i u a b. rebuild-out s (blocks j) (count j) ok depth i (all .residuals) u (omega arith) (at r c h) (λ o. n (i, omega arith, o)));
+              (λ i u a b. rebuild-out s (blocks j) (count j) ok depth i (all .residuals) u (omega arith) (at r c h)
+              (λ o. n (i, omega arith, o)));
         })
 
     replay-same-all : count j ≤ granted again → calls (replayCall j (all .residuals)) (fresh plane) again .world ≡ source
@@ -137,30 +151,43 @@ module _ (j : Task) (source : List ℕ) (w : World) (facts : Walking j source (f
         let k = min (granted again) (count j) in
         let e : count j ≡ k = omega arith in
         let some = ok .picture .wide .low in
-        let kept = units-kept (replayUnit s (blocks j) (all .residuals)) length 0 k plane (λ i u a b. rebuilt-length s (blocks j i) (place (blocks j) i) (all .residuals) u) in
+        let kept = units-kept (replayUnit s (blocks j) (all .residuals)) length 0 k plane
+        (λ i u a b. rebuilt-length s (blocks j i) (place (blocks j) i) (all .residuals) u) in
         by-samples s _ source (omega arith) (ap (λ (x : Held (List ℕ)). length (x .world)) out ∙ kept ∙ long) (facts .source-whole)
         (λ r c i. replay-back .source-back r c (subst (λ (n : ℕ). Covered (blocks j) n r c) e (ok .plan-good .all r c i)))
 
     replay-all : (asks : List Ask) → Each Roomy asks → count j ≤ granted asks
         → let residuals = calls (walkCall j source) (fresh w) asks .world .residuals in
-        ReplaysServed j residuals (fresh plane) again × Replayed j source plane (min (granted again) (count j)) (calls (replayCall j residuals) (fresh plane) again)
+        ReplaysServed j residuals (fresh plane) again × Replayed j source plane (min (granted again) (count j))
+        (calls (replayCall j residuals) (fresh plane) again)
     replay-all asks long-enough h =
-        subst (λ (x : Held World). ReplaysServed j (x .world .residuals) (fresh plane) again × Replayed j source plane (min (granted again) (count j)) (calls (replayCall j (x .world .residuals)) (fresh plane) again))
+        subst (λ (x : Held World). ReplaysServed j (x .world .residuals) (fresh plane) again
+        × Replayed j source plane (min (granted again) (count j)) (calls (replayCall j (x .world .residuals)) (fresh plane) again))
         (sym (calls-are asks long-enough h)) (all-served (replay-steps j (all .residuals)) (fresh plane) again ready room, replay-back)
 
 -- residuals that are not the walk's
-replay-altered : (j : Task) (residuals : List ℤ) (a b : List ℕ) (asks others : List Ask) (t : Tables) → Served (replayVerdictAt j residuals (fresh a) t) → Whole (j .still) b
-    → Each Roomy asks → Each Roomy others → min (granted asks) (count j) ≡ min (granted others) (count j) → (r c : ℕ) → Covered (blocks j) (min (granted asks) (count j)) r c
-    → sampleAt (j .still) (calls (replayCall j residuals) (fresh a) asks .world) r c ≡ sampleAt (j .still) (calls (replayCall j residuals) (fresh b) others .world) r c
+replay-altered : (j : Task) (residuals : List ℤ) (a b : List ℕ) (asks others : List Ask) (t : Tables)
+    → Served (replayVerdictAt j residuals (fresh a) t) → Whole (j .still) b
+    → Each Roomy asks → Each Roomy others → min (granted asks) (count j) ≡ min (granted others) (count j) → (r c : ℕ)
+    → Covered (blocks j) (min (granted asks) (count j)) r c
+    → sampleAt (j .still) (calls (replayCall j residuals) (fresh a) asks .world) r c
+    ≡ sampleAt (j .still) (calls (replayCall j residuals) (fresh b) others .world) r c
 replay-altered j v a b asks others t served long room roomy e r c cov =
     let s = j .still in
     let f = replay-told j v (fresh a) t served in
     let ok = f .asked .plan-ok in
     let k = min (granted asks) (count j) in
     let most : k ≤ count j = omega arith in
-    let too : Replaying j v (fresh b) = record { asked = f .asked; plane-whole = long; residuals-whole = f .residuals-whole; in-range = f .in-range } in
+    let too : Replaying j v (fresh b) = record {
+      asked = f .asked;
+      plane-whole = long;
+      residuals-whole = f .residuals-whole;
+      in-range =
+          f .in-range;
+    } in
     ap (λ (x : Held (List ℕ)). sampleAt s (x .world) r c) (from-fresh (replay-steps j v) a asks f room)
-    ∙ replay-same (replays s (blocks j) (count j) ok (f .asked .depth)) v k a b most (f .plane-whole) long (cov .0) (at r c (covered-in s (blocks j) (count j) ok k r c most cov)) (cov .1) (cov .2)
+    ∙ replay-same (replays s (blocks j) (count j) ok (f .asked .depth)) v k a b most (f .plane-whole) long (cov .0)
+    (at r c (covered-in s (blocks j) (count j) ok k r c most cov)) (cov .1) (cov .2)
     ∙ ap (λ (n : ℕ). sampleAt s (units (replayUnit s (blocks j) v) 0 n b) r c) e
     ∙ sym (ap (λ (x : Held (List ℕ)). sampleAt s (x .world) r c) (from-fresh (replay-steps j v) b others too roomy))
 
@@ -170,24 +197,36 @@ demand-3 = record {
       let f = walk-told j source (fresh w) (h .tables) (h .served) in
       (all-served (walk-steps j source) (fresh w) asks f (h .room), walk-all j source w f asks (h .room) (h .enough));
   earlier-alone = λ j source other w t e. alone j source w (walk-told j source (fresh w) t e) other;
-  replay = λ j source w asks h plane long again room. replay-all j source w (walk-told j source (fresh w) (h .tables) (h .served)) plane long again room asks (h .room) (h .enough);
+  replay = λ j source w asks h plane long again room. replay-all j source w (walk-told j source (fresh w) (h .tables) (h .served)) plane
+      long again room asks (h .room) (h .enough);
   same = λ j source w asks h plane long again room k.
       let f = walk-told j source (fresh w) (h .tables) (h .served) in
-      ap (λ (x : Held World). calls (replayCall j (x .world .residuals)) (fresh plane) again .world) (calls-are j source w f asks (h .room) (h .enough))
+      ap (λ (x : Held World). calls (replayCall j (x .world .residuals)) (fresh plane) again .world)
+      (calls-are j source w f asks (h .room) (h .enough))
       ∙ replay-same-all j source w f plane long again room k;
   altered = replay-altered;
   walk-split = λ j source x asks t room long. split (walk-steps j source) x asks (ask (granted asks) t) room long refl;
   replay-split = λ j residuals x asks t room long. split (replay-steps j residuals) x asks (ask (granted asks) t) room long refl;
   walk-does = λ j source x asks t e room.
-      let f = walk-told j source x t e in
-      (all-served (walk-steps j source) x asks f room, subst (WalkDoes j source x _) (sym (all-done (walk-steps j source) x asks f room)) (walk-done j source x (granted asks) f));
+      let f = walk-told j source x t e in (
+        all-served (walk-steps j source) x asks f room,
+        subst (WalkDoes j source x _) (sym (all-done (walk-steps j source) x asks f room))
+            (walk-done j source x (granted asks) f),
+      );
   replay-does = λ j residuals x asks t e room.
-      let f = replay-told j residuals x t e in
-      (all-served (replay-steps j residuals) x asks f room, subst (ReplayDoes j residuals x _) (sym (all-done (replay-steps j residuals) x asks f room)) (replay-done j residuals x (granted asks) f));
-  by-walk-numbers = λ κs self still rows cols sides modes source work residuals refs indices fractions grant r e p. walk-gave _ _ _ _ r _ (p .0) (p .1 .0);
-  by-replay-numbers = λ κs self still rows cols sides modes residuals plane refs indices fractions grant r e p. replay-gave _ _ _ _ r _ (p .0) (p .1 .0);
-  by-walk = λ 𝓤 H A mem run κs self still plan source work residuals scratch grant r e. fact-mono 𝓤 _ _ (λ p. walk-gave _ _ _ _ r _ (p .0) (p .1 .0));
-  by-replay = λ 𝓤 H A mem run κs self still plan residuals plane scratch grant r e. fact-mono 𝓤 _ _ (λ p. replay-gave _ _ _ _ r _ (p .0) (p .1 .0));
+      let f = replay-told j residuals x t e in (
+        all-served (replay-steps j residuals) x asks f room,
+        subst (ReplayDoes j residuals x _)
+            (sym (all-done (replay-steps j residuals) x asks f room)) (replay-done j residuals x (granted asks) f),
+      );
+  by-walk-numbers = λ κs self still rows cols sides modes source work residuals refs indices fractions grant r e p. walk-gave _ _ _ _ r _
+      (p .0) (p .1 .0);
+  by-replay-numbers = λ κs self still rows cols sides modes residuals plane refs indices fractions grant r e p. replay-gave _ _ _ _ r _
+      (p .0) (p .1 .0);
+  by-walk = λ 𝓤 H A mem run κs self still plan source work residuals scratch grant r e. fact-mono 𝓤 _ _
+      (λ p. walk-gave _ _ _ _ r _ (p .0) (p .1 .0));
+  by-replay = λ 𝓤 H A mem run κs self still plan residuals plane scratch grant r e. fact-mono 𝓤 _ _
+      (λ p. replay-gave _ _ _ _ r _ (p .0) (p .1 .0));
   one-plan = numbers-listed;
   walk-made = λ j source x asks y m. made-calls (λ x a y g. g .1 .left) x asks y m;
   replay-made = λ j residuals x asks y m. made-calls (λ x a y g. g .1 .left) x asks y m;

@@ -30,7 +30,8 @@ use Rattle.camera.specs.replay.Door.{After, nextWritten, planeAfter, resultAfte
 use Rattle.camera.specs.replay.Blocks.{samples-back, are-bytes}
 use Rattle.camera.specs.replay.Laws.{served-fits}
 use Rattle.camera.specs.replay.Spelt.{spelt-verdict, left}
-use Rattle.promises.specs.demand3.Calls.{Task, Ask, ask, Roomy, Each, AllServed, ReplaysServed, Held, held, count, fresh, calls, walkCall, replayVerdictAt, replayCall}
+use Rattle.promises.specs.demand3.Calls.{Task, Ask, ask, Roomy, Each, AllServed, ReplaysServed, Held, held, count, fresh, calls}
+use Rattle.promises.specs.demand3.Calls.{walkCall, replayVerdictAt, replayCall}
 use Rattle.promises.specs.demand3.Chains.{does, made-calls}
 use Rattle.promises.specs.demand3.Accept.{walk-told, replay-told, replay-steps}
 use Rattle.promises.specs.demand3.Demand3.{Replayed, ReplayDoes, WalksAll}
@@ -38,7 +39,8 @@ use Rattle.promises.specs.demand3.Gives.{replay-done}
 use Rattle.promises.specs.demand3.Forms.{bytes-listed}
 use Rattle.promises.specs.demand3.Words.{wordsOf, length-words, words-are, residuals-back, in-words, read-back}
 use Rattle.promises.specs.demand3.Proof3.{demand-3}
-use Rattle.promises.specs.OnBytes.{ByteJob, ByteAsk, speltTask, speltAsk, bytesGranted, spelt, recordIn, byteAfter, byteCall, EachServed, InType, Fits, Long, ByteGave, OnBytes}
+use Rattle.promises.specs.OnBytes.{ByteJob, ByteAsk, speltTask, speltAsk, bytesGranted, spelt, recordIn, byteAfter, byteCall}
+use Rattle.promises.specs.OnBytes.{EachServed, InType, Fits, Long, ByteGave, OnBytes}
 
 -- the scratch that a call makes for itself is long enough
 own-room : (asks : List ByteAsk) → Each Roomy (map speltAsk asks)

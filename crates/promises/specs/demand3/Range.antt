@@ -1,4 +1,5 @@
--- A prediction from samples of the depth is a sample of the depth, so the residuals of such a source are in replay's range. Rests on the predictors' being means.
+-- A prediction from samples of the depth is a sample of the depth, so the residuals of such a source are in replay's range. Rests on
+-- the predictors' being means.
 use mathlib.Core.Path.{_≡_, ap, _∙_}
 use mathlib.Core.Bool.{Bool, true, false, cond, _&&_}
 use mathlib.Core.List.{List}
@@ -51,7 +52,8 @@ module _ (m : ℕ) where
   settled-most marked value found h zero = h (cond (marked 0) 0 found)
   settled-most marked value found h (suc k) = either (marked (suc k)) (h (suc k)) (settled-most marked value found h k)
 
-  places-most : (bits n : ℕ) (marked : ℕ → Bool) (value : ℕ → ℕ) → ((k : ℕ) → value k ≤ m) → 2 ^ (bits - 1) ≤ m → Most m (fromPlaces n (substitutedAt bits n marked value))
+  places-most : (bits n : ℕ) (marked : ℕ → Bool) (value : ℕ → ℕ) → ((k : ℕ) → value k ≤ m) → 2 ^ (bits - 1) ≤ m
+      → Most m (fromPlaces n (substitutedAt bits n marked value))
   unfolding substitutedAt
   places-most bits n marked value h l = record { corner = at (2 * n); above = λ i. at (2 * n + 1 + i); left = λ i. at (2 * n - 1 - i) }
     where
@@ -87,7 +89,8 @@ module _ (m : ℕ) where
         go (yes l) =
             let p = mul-le-mul-left (63 - x) (a .corner) in
             let q = mul-le-mul-left (x + 1) h in
-            let e : 64 * m ≡ (63 - x) * m + (x + 1) * m = ap (λ (k : ℕ). k * m) (let f : 64 ≡ 63 - x + (x + 1) = omega arith in f) ∙ add-mul (63 - x) (x + 1) m in
+            let e : 64 * m ≡ (63 - x) * m + (x + 1) * m = ap (λ (k : ℕ). k * m) (let f : 64 ≡ 63 - x + (x + 1) = omega arith in f)
+            ∙ add-mul (63 - x) (x + 1) m in
             rw (lt-ltb x 63 l) (omega arith)
         go (no l) = rw (le-ltb x 63 (omega arith)) h
 
@@ -137,16 +140,19 @@ angular-most m bits edge n mode x y nb s h hx hy largest a =
     (clipTo (2 ^ bits - 1) up) (project (ref p n angle (invAngle mode)) angle x y)
     (clipTo (2 ^ bits - 1) across) (project (ref (λ (a b : ℤ). p b a) n angle (invAngle mode)) angle y x)
     (omega (arith, clip-most (2 ^ bits - 1) up)) (omega (arith, clip-most (2 ^ bits - 1) across))
-    (between n (λ (k : Neighbours). angular bits false n mode k x y) (mean-angular n mode s (omega arith) bits x y hx hy) 0 m nb (over m n nb) (under m nb a n) .1)
+    (between n (λ (k : Neighbours). angular bits false n mode k x y) (mean-angular n mode s (omega arith) bits x y hx hy) 0 m nb
+    (over m n nb) (under m nb a n) .1)
 
-pub predicted-most : (s : Still) (b : Block) (plane : List ℕ) → Depth (s .bits) → Size (b .side) → b .mode ≤ 34 → ((i : ℕ) → getD plane i 0 ≤ largestIn s)
+pub predicted-most : (s : Still) (b : Block) (plane : List ℕ) → Depth (s .bits) → Size (b .side) → b .mode ≤ 34
+    → ((i : ℕ) → getD plane i 0 ≤ largestIn s)
     → (r c : ℕ) → r < b .side → c < b .side → predictedAt s b plane r c ≤ largestIn s
 unfolding predictedAt predicted prepared byMode
 predicted-most s b plane depth size mode most r c hr hc =
     let m = largestIn s in
     let neutral = at-depth (λ (k : ℕ). 2 ^ (k - 1) ≤ 2 ^ k - 1) (omega arith) (omega arith) (omega arith) (s .bits) depth in
     let nb = neighbours-most m _ (s .bits) (b .side) (b .col) (b .row) (λ x y. sampleAt s plane y x) (λ x y. most _) neutral in
-    let p = either-of m (filters (lumaAt (s .bits)) firstEditionStrong (b .side) (b .mode)) (filtered-most m _ nb true (s .bits) (b .side)) nb in
+    let p = either-of m (filters (lumaAt (s .bits)) firstEditionStrong (b .side) (b .mode))
+    (filtered-most m _ nb true (s .bits) (b .side)) nb in
     rw (is-by-mode (lumaAt (s .bits)) firstEditionStrong (b .side) (b .mode) _ c r)
     (either m (eqb (b .mode) 0) (planar-between (b .side) c r size hc hr 0 m _ (over m (b .side) _) (under m _ p (b .side)) .1)
     (either m (eqb (b .mode) 1) (dc-between (b .side) c r size hc hr 0 m _ (over m (b .side) _) (under m _ p (b .side)) true .1)

@@ -1,5 +1,5 @@
--- Samples and residuals named by their block: where sample (r, c) of block i lies, and which block a residual belongs to; and tests of every entry
--- of a list. Rests on what a good plan is.
+-- Samples and residuals named by their block: where sample (r, c) of block i lies, and which block a residual belongs to; and tests
+-- of every entry of a list. Rests on what a good plan is.
 use mathlib.Core.Path.{_≡_, refl, sym, ap, ap₂, _∙_}
 use mathlib.Core.Bool.{Bool, true}
 use mathlib.Core.List.{List, [], _∷_}
@@ -42,7 +42,8 @@ pub less-small : (m o p : ℕ) → o ≤ m → p ≤ m → natAbs (pos o -ℤ po
 less-small m o p h k = ⊎-elim (λ l. omega (arith, apart-below o p l)) (λ l. omega (arith, apart-above o p l)) (order o p)
 
 -- an index of a square that begins at `at`
-pub in-block : (side at n : ℕ) → 0 < side → at ≤ n → n < at + side * side → (r : ℕ) × (c : ℕ) × (r < side) × (c < side) × (n ≡ at + r * side + c)
+pub in-block : (side at n : ℕ) → 0 < side → at ≤ n → n < at + side * side → (r : ℕ) × (c : ℕ) × (r < side) × (c < side)
+    × (n ≡ at + r * side + c)
 in-block side at n h l m =
     ((n - at) / side, (n - at) % side, div-lt-iff-lt-mul h .1 (omega arith), mod-lt (n - at) h, omega (arith, div-add-mod' (n - at) side))
 
@@ -50,23 +51,27 @@ abbrev pub at : {s : Still} (r c : ℕ) → In (s .frame) r c → Sample s
 at r c h = record { row = r; col = c; row-in = h .0; col-in = h .1 }
 
 -- two planes of the picture's length that agree at every sample are one
-pub by-samples : (s : Still) (a b : List ℕ) → 0 < s .frame .width → Whole s a → Whole s b → ((r c : ℕ) → In (s .frame) r c → sampleAt s a r c ≡ sampleAt s b r c) → a ≡ b
+pub by-samples : (s : Still) (a b : List ℕ) → 0 < s .frame .width → Whole s a → Whole s b
+    → ((r c : ℕ) → In (s .frame) r c → sampleAt s a r c ≡ sampleAt s b r c) → a ≡ b
 by-samples s a b some ha hb same = ext-getD 0 a b (ha ∙ sym hb) go
   where
     go : (n : ℕ) → n < length a → getD a n 0 ≡ getD b n 0
     go n l =
         let w = s .frame .width in
         let e : n ≡ n / w * w + n % w = sym (div-add-mod' n w) in
-        ap (λ (k : ℕ). getD a k 0) e ∙ same (n / w) (n % w) (div-lt-iff-lt-mul some .1 (omega arith), mod-lt n some) ∙ sym (ap (λ (k : ℕ). getD b k 0) e)
+        ap (λ (k : ℕ). getD a k 0) e ∙ same (n / w) (n % w) (div-lt-iff-lt-mul some .1 (omega arith), mod-lt n some)
+        ∙ sym (ap (λ (k : ℕ). getD b k 0) e)
 
 module _ (s : Still) (plan : ℕ → Block) where
   -- the block that a residual belongs to
-  pub part-of : (count n : ℕ) → n < place plan count → (i : ℕ) × (i < count) × (place plan i ≤ n) × (n < place plan i + plan i .side * plan i .side)
+  pub part-of : (count n : ℕ) → n < place plan count → (i : ℕ) × (i < count) × (place plan i ≤ n)
+      × (n < place plan i + plan i .side * plan i .side)
   unfolding place
   part-of zero n h = absurd (omega arith)
   part-of (suc k) n h = go (part-of k n) (decLt n (place plan k))
     where
-      go : (n < place plan k → (i : ℕ) × (i < k) × (place plan i ≤ n) × (n < place plan i + plan i .side * plan i .side)) → Dec (n < place plan k)
+      go : (n < place plan k → (i : ℕ) × (i < k) × (place plan i ≤ n) × (n < place plan i + plan i .side * plan i .side))
+          → Dec (n < place plan k)
           → (i : ℕ) × (i < suc k) × (place plan i ≤ n) × (n < place plan i + plan i .side * plan i .side)
       go ih (yes l) = let v = ih l in (v .0, omega (arith, v .1), v .2, v .3)
       go ih (no l) = (k, omega arith, omega arith, h)

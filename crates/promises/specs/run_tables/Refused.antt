@@ -1,5 +1,5 @@
--- Document 01, 'Refusals', for walk, replay and the camera's entries: a refused call hands back the progress record as given and leaves what is lent. The other
--- doors are in promises/specs/tables/Refused. Rests on `kept` there.
+-- Document 01, 'Refusals', for walk, replay and the camera's entries: a refused call hands back the progress record as given and
+-- leaves what is lent. The other doors are in promises/specs/tables/Refused. Rests on `kept` there.
 use mathlib.Core.Path.{_≡_, ap₂}
 use mathlib.Core.List.{List}
 use Prim.Native.Nat.{ℕ}
@@ -20,18 +20,21 @@ use Rattle.camera.specs.Written.{entry}
 use Rattle.promises.specs.tables.Refused.{kept}
 
 -- walk and replay: the record as given, nothing done, and what is lent untouched
-pub stepped : (v : Verdict) (plan : Plan) (p : Progress) (grant : ℕ) → ¬ (v .no ≡ 0) → steppedBy v plan p grant ≡ record { no = v .no; block = v .block; did = 0; next = p }
+pub stepped : (v : Verdict) (plan : Plan) (p : Progress) (grant : ℕ) → ¬ (v .no ≡ 0) → steppedBy v plan p grant
+    ≡ record { no = v .no; block = v .block; did = 0; next = p }
 stepped v plan p grant h = kept (v .no) _ (record { no = v .no; block = v .block; did = 0; next = p }) h
 
 module _ (s : Still) (plan : Plan) (t : Tables) (p : Progress) (grant : ℕ) where
-  pub walk : (source : List ℕ) (w : World) → ¬ (walkVerdict s plan t (p .done) source w .no ≡ 0) → walkAfter s plan t (p .done) grant source w ≡ w
+  pub walk : (source : List ℕ) (w : World) → ¬ (walkVerdict s plan t (p .done) source w .no ≡ 0)
+      → walkAfter s plan t (p .done) grant source w ≡ w
   walk = walk-refused s plan t (p .done) grant
 
-  pub replay : (residuals : List ℤ) (plane : List ℕ) → ¬ (replayVerdict s plan t (p .done) (length plane) residuals .no ≡ 0) → replayAfter s plan t (p .done) grant residuals plane ≡ plane
+  pub replay : (residuals : List ℤ) (plane : List ℕ) → ¬ (replayVerdict s plan t (p .done) (length plane) residuals .no ≡ 0)
+      → replayAfter s plan t (p .done) grant residuals plane ≡ plane
   replay = replay-refused s plan t (p .done) grant
 
--- the camera's entries: a refused gather or prediction, each an `entry`, leaves its buffer; a refused replay leaves the plane, and writes the block number and
--- the record as given, unless the result buffer is short
+-- the camera's entries: a refused gather or prediction, each an `entry`, leaves its buffer; a refused replay leaves the plane, and
+-- writes the block number and the record as given, unless the result buffer is short
 pub entries : (k : ℕ) (work out : List ℕ) → ¬ (entry k work out .number ≡ 0) → entry k work out .bytes ≡ out
 unfolding entry
 entries k work out h = kept k work out h
@@ -43,4 +46,5 @@ module _ (s : Still) (done : ℕ) (l : Lent) (grant : ℕ) (h : ¬ (byteVerdict 
 
   pub byte-result : (result : List ℕ) → resultAfter s done l grant result ≡ answered (byteVerdict s done l .block) done result
   unfolding resultAfter
-  byte-result result = ap₂ (λ (b k : ℕ). answered b k result) (kept (byteVerdict s done l .no) 0 _ h) (kept (byteVerdict s done l .no) _ done h)
+  byte-result result = ap₂ (λ (b k : ℕ). answered b k result) (kept (byteVerdict s done l .no) 0 _ h)
+      (kept (byteVerdict s done l .no) _ done h)

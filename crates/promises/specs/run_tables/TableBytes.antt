@@ -1,11 +1,8 @@
--- Document 01, 'use from C': the table of numbers at the camera's entries, where number 5 counts bytes. Rests on Exact and on the doors' tables.
---
---   salvrunde_luma_refs     luma-refs        salvrunde_angular        angular
---   salvrunde_chroma_refs   chroma-refs      salvrunde_chroma_block   chroma-block
---   salvrunde_planar        planar           salvrunde_replay         replay
---   salvrunde_dc            dc
---
--- gather::store_reference_samples and gather::store_reference_samples_chroma_pair, to which the gathers forward, have luma-refs and chroma-refs too.
+-- Document 01, 'use from C': the table of numbers at the camera's entries, where number 5 counts bytes. Rests on Exact and on the
+-- doors' tables.  salvrunde_luma_refs     luma-refs        salvrunde_angular        angular salvrunde_chroma_refs   chroma-refs
+-- salvrunde_chroma_block   chroma-block salvrunde_planar        planar           salvrunde_replay         replay salvrunde_dc
+-- dc  gather::store_reference_samples and gather::store_reference_samples_chroma_pair, to which the gathers forward, have luma-refs
+-- and chroma-refs too.
 use mathlib.Core.Path.{_≡_, refl}
 use mathlib.Core.Bool.{Bool}
 use mathlib.Core.List.{List, [], _∷_}
@@ -26,8 +23,10 @@ use Rattle.camera.specs.replay.Door.{blockWritten}
 use Rattle.camera.specs.Written.{entry}
 use Rattle.camera.specs.prediction.Entries.{hasRoom, flatEntryNo, modeEntryNo, planarEntry, dcEntry, angularEntry, chromaBlockEntry}
 use Rattle.camera.specs.gather.Entry.{lumaEntry, chromaEntry}
-use Rattle.promises.specs.tables.Exact.{_when_, _or_, Exact, ExactFirst, Tells, exact-none, exact-row, first-row, all-of, at-most, same}
-use Rattle.promises.specs.tables.Table.{BadPicture, depth, size, picture, lumaTable, luma-number, chromaTable, chroma-number, angularTable, predictTable}
+use Rattle.promises.specs.tables.Exact.{_when_, _or_, Exact, ExactFirst, Tells, exact-none, exact-row, first-row, all-of, at-most}
+use Rattle.promises.specs.tables.Exact.{same}
+use Rattle.promises.specs.tables.Table.{BadPicture, depth, size, picture, lumaTable, luma-number, chromaTable, chroma-number}
+use Rattle.promises.specs.tables.Table.{angularTable, predictTable}
 use Rattle.promises.specs.run_tables.TableWalk.{about, done, Some, every-one, lastRows, last-first, number-exact}
 
 -- the gathers: a plane of another length, or a buffer for fewer than 131 samples, or twice that
@@ -41,7 +40,8 @@ pub chroma-refs : (cb cr : List ℕ) (g : ChromaRefGeometry) (out : List ℕ)
     (chromaTable ((¬ (length cb ≡ 2 * chromaLength g)) or (¬ (length cr ≡ 2 * chromaLength g)) or length out < 524) g)
 unfolding chromaEntry entry
 chroma-refs cb cr g out =
-    chroma-number (all-of (all-of (same (length cb) (2 * chromaLength g)) (same (length cr) (2 * chromaLength g))) (at-most 524 (length out))) g
+    chroma-number (all-of (all-of (same (length cb) (2 * chromaLength g)) (same (length cr) (2 * chromaLength g)))
+    (at-most 524 (length out))) g
 
 -- the predictors: rows of fewer than 65 samples, or a buffer for fewer than n · n
 abbrev pub FewBytes : ℕ → List ℕ → List ℕ → List ℕ → Type 0
@@ -51,7 +51,8 @@ few-bytes : (n : ℕ) (above left out : List ℕ) → Tells (hasRoom n (length a
 few-bytes n above left out = all-of (all-of (at-most 130 (length above)) (at-most 130 (length left))) (at-most (2 * (n * n)) (length out))
 
 module _ (n : ℕ) (above left out : List ℕ) where
-  flat-number : Exact (flatEntryNo n (length above) (length left) (length out)) ((2 when ¬ Size n) ∷ (5 when FewBytes n above left out) ∷ [])
+  flat-number : Exact (flatEntryNo n (length above) (length left) (length out))
+      ((2 when ¬ Size n) ∷ (5 when FewBytes n above left out) ∷ [])
   unfolding flatEntryNo
   flat-number = exact-row (size n) refl (λ e. exact-row (few-bytes n above left out) refl (λ e. exact-none))
 
@@ -68,13 +69,16 @@ module _ (n : ℕ) (above left out : List ℕ) where
       ((1 when ¬ Depth bits) ∷ (2 when ¬ Size n) ∷ (3 when P) ∷ (5 when FewBytes n above left out) ∷ [])
   unfolding modeEntryNo
   mode-number bits t =
-      exact-row (depth bits) refl (λ e. exact-row (size n) refl (λ e. exact-row t refl (λ e. exact-row (few-bytes n above left out) refl (λ e. exact-none))))
+      exact-row (depth bits) refl (λ e. exact-row (size n) refl
+      (λ e. exact-row t refl (λ e. exact-row (few-bytes n above left out) refl (λ e. exact-none))))
 
-  pub angular : (bits mode edge corner : ℕ) → Exact (angularEntry bits n mode edge corner above left out .number) (angularTable bits n mode (FewBytes n above left out))
+  pub angular : (bits mode edge corner : ℕ) → Exact (angularEntry bits n mode edge corner above left out .number)
+      (angularTable bits n mode (FewBytes n above left out))
   unfolding angularEntry entry
   angular bits mode edge corner = mode-number bits (all-of (at-most 2 mode) (at-most mode 34))
 
-  pub chroma-block : (bits mode corner : ℕ) → Exact (chromaBlockEntry bits n mode corner above left out .number) (predictTable bits n mode (FewBytes n above left out))
+  pub chroma-block : (bits mode corner : ℕ) → Exact (chromaBlockEntry bits n mode corner above left out .number)
+      (predictTable bits n mode (FewBytes n above left out))
   unfolding chromaBlockEntry entry
   chroma-block bits mode corner = mode-number bits (at-most mode 34)
 
@@ -83,7 +87,8 @@ pub replay : (s : Still) (p : Progress) (l : Lent)
     → let area : ℕ = s .frame .height * s .frame .width in
     ExactFirst done (about (byteVerdict s (p .done) l .no) (blockWritten s (p .done) l))
     ((about 1 0 when ¬ Depth (s .bits)) ∷ (about 4 0 when BadPicture (pictureOf (s .frame)))
-    ∷ (about 5 0 when (¬ (l .plane ≡ 2 * area)) or (¬ (length (l .residuals) ≡ 4 * area)) or (¬ (length (l .plan) % 6 ≡ 0)) or l .result < 8)
+    ∷ (about 5 0 when (¬ (l .plane ≡ 2 * area)) or (¬ (length (l .residuals) ≡ 4 * area)) or (¬ (length (l .plan) % 6 ≡ 0)) or l .result <
+    8)
     ∷ (about 8 0 when Some (pos 0) (λ r. 65535 < natAbs r) (residualsOf (l .residuals)))
     ∷ lastRows s (recordsOf (l .plan)) p)
 unfolding byteVerdict
@@ -93,5 +98,7 @@ replay s p l =
     (first-row (depth (s .bits))
     (λ e. first-row (picture (pictureOf (s .frame)))
     (λ ok. first-row
-    (all-of (all-of (all-of (same (l .plane) (2 * area)) (same (length (l .residuals)) (4 * area))) (same (length (l .plan) % 6) 0)) (at-most 8 (l .result)))
-    (λ e. first-row (every-one (pos 0) (λ r. at-most (natAbs r) 65535) (residualsOf (l .residuals))) (λ e. last-first s (recordsOf (l .plan)) p ok)))))
+    (all-of (all-of (all-of (same (l .plane) (2 * area)) (same (length (l .residuals)) (4 * area))) (same (length (l .plan) % 6) 0))
+    (at-most 8 (l .result)))
+    (λ e. first-row (every-one (pos 0) (λ r. at-most (natAbs r) 65535) (residualsOf (l .residuals)))
+    (λ e. last-first s (recordsOf (l .plan)) p ok)))))

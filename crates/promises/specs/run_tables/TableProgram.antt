@@ -1,6 +1,7 @@
--- Document 01, 'The program': `refused N B` is printed exactly when number N, about block B, has the first row that holds, and the blocks' lines with their
--- ending exactly when no row holds. Number 12 comes before the others; these are the walk's, as far as a file that is not refused with 12 can bring them
--- about. What is printed tells the number and the block. Rests on Exact and on the walk's rows.
+-- Document 01, 'The program': `refused N B` is printed exactly when number N, about block B, has the first row that holds, and the
+-- blocks' lines with their ending exactly when no row holds. Number 12 comes before the others; these are the walk's, as far as a
+-- file that is not refused with 12 can bring them about. What is printed tells the number and the block. Rests on Exact and on the
+-- walk's rows.
 use mathlib.Core.Path.{_≡_, refl, sym, ap, ap₂, _∙_, subst}
 use mathlib.Core.Bool.{Bool, true, false, cond}
 use mathlib.Core.List.{List, [], _∷_, _++_, append-assoc}
@@ -29,7 +30,8 @@ use Rattle.walk.specs.Lent.{scratchTables}
 use Rattle.report.specs.Told.{Job, stillIn, jobOf, noneDone, blank, verdict, residuals, replayedPlane, lines, told, printed}
 use Rattle.promises.specs.tables.Exact.{Row, _when_, _or_, First, ExactFirst, Tells, first-exact, first-test, all-of, at-most}
 use Rattle.promises.specs.tables.Table.{BadPicture}
-use Rattle.promises.specs.run_tables.TableWalk.{about, done, blockRows, Uncovered, planRows, Some, lastRows, Ragged, BadPlane, BadTables, verdictIn, walk}
+use Rattle.promises.specs.run_tables.TableWalk.{about, done, blockRows, Uncovered, planRows, Some, lastRows, Ragged, BadPlane}
+use Rattle.promises.specs.run_tables.TableWalk.{BadTables, verdictIn, walk}
 
 -- number 12: under 16 or over 65,536 bytes, excess counts, or a region that passes the trailer's start
 abbrev pub BadFile : List ℕ → Type 0
@@ -37,11 +39,13 @@ BadFile input =
     let t = trailerOf input in
     let start = length input - 16 in
     length input < 16 or 65536 < length input
-    or (8192 < t .height * t .width or 512 < t .blocks or start < t .samples + 2 * (t .height * t .width) or start < t .plan + 6 * t .blocks)
+    or (8192 < t .height * t .width or 512 < t .blocks or start < t .samples + 2 * (t .height * t .width) or start < t .plan + 6 *
+    t .blocks)
 
 -- number 7: one of the file's samples above the depth's largest
 abbrev pub BadSample : List ℕ → Type 0
-BadSample input = let t = trailerOf input in (i : ℕ) × ((i < t .height * t .width) × (largestIn (stillIn t) < leAt 2 input (t .samples + 2 * i)))
+BadSample input = let t = trailerOf input in (i : ℕ)
+    × ((i < t .height * t .width) × (largestIn (stillIn t) < leAt 2 input (t .samples + 2 * i)))
 
 -- the rows of a file that number 12 is not given for, and the program's
 abbrev pub fileRows : List ℕ → List (Row Verdict)
@@ -58,7 +62,8 @@ programRows input = (about 12 0 when BadFile input) ∷ fileRows input
 
 -- what is printed where nothing is refused
 abbrev pub servedText : Job → List ℕ
-servedText j = lines (j .plan .block) (residuals j) (j .plan .count) ++ ending (j .plan .count) (agree (replayedPlane j) (j .source) (length (j .source)))
+servedText j = lines (j .plan .block) (residuals j) (j .plan .count) ++ ending (j .plan .count)
+    (agree (replayedPlane j) (j .source) (length (j .source)))
 
 pub record ProgramTable (input : List ℕ) : Type 0 where
   pub refused : (n block : ℕ) → (printed input ≡ refusal n block) ↔ ((¬ (n ≡ 0)) × First done (about n block) (programRows input))
@@ -68,14 +73,16 @@ pub record ProgramTable (input : List ℕ) : Type 0 where
 record Has (a : Verdict) (rows : List (Row Verdict)) : Type 0 where
   first : First done a rows
 
-row-same : {a k : Verdict} {P Q : Type 0} {xs ys : List (Row Verdict)} → (P → Q) → (Q → P) → (Has a xs → Has a ys) → Has a ((k when P) ∷ xs) → Has a ((k when Q) ∷ ys)
+row-same : {a k : Verdict} {P Q : Type 0} {xs ys : List (Row Verdict)} → (P → Q) → (Q → P) → (Has a xs → Has a ys)
+    → Has a ((k when P) ∷ xs) → Has a ((k when Q) ∷ ys)
 row-same {a} {k} {P} {Q} {xs} {ys} to from rest h = record { first = go (h .first) }
   where
     go : First done a ((k when P) ∷ xs) → First done a ((k when Q) ∷ ys)
     go (inl p) = inl (to (p .0), p .1)
     go (inr p) = inr (λ q. p .0 (from q), rest (record { first = p .1 }) .first)
 
-row-kept : {a k : Verdict} {P : Type 0} {xs ys : List (Row Verdict)} → (Has a xs → Has a ys) → Has a ((k when P) ∷ xs) → Has a ((k when P) ∷ ys)
+row-kept : {a k : Verdict} {P : Type 0} {xs ys : List (Row Verdict)} → (Has a xs → Has a ys) → Has a ((k when P) ∷ xs)
+    → Has a ((k when P) ∷ ys)
 row-kept rest h = row-same (λ p. p) (λ p. p) rest h
 
 row-dropped : {a k : Verdict} {P : Type 0} {xs : List (Row Verdict)} → ¬ P → Has a ((k when P) ∷ xs) → Has a xs
@@ -104,7 +111,8 @@ module _ (input : List ℕ) where
       let t = trailerOf input in
       let start = length input - 16 in
       all-of (all-of (at-most 16 (length input)) (at-most (length input) 65536))
-      (all-of (all-of (all-of (at-most n 8192) (at-most (t .blocks) 512)) (at-most (t .samples + 2 * n) start)) (at-most (t .plan + 6 * t .blocks) start))
+      (all-of (all-of (all-of (at-most n 8192) (at-most (t .blocks) 512)) (at-most (t .samples + 2 * n) start))
+      (at-most (t .plan + 6 * t .blocks) start))
 
   source-long : length (sourceOf input (trailerOf input)) ≡ n
   source-long = length-fill _ n (replicate n 0) ∙ length-replicate n 0
@@ -118,7 +126,9 @@ module _ (input : List ℕ) where
       let long : (h : ℕ → ℕ) → length (tabulated h m 0) ≡ m = λ h. length-fill h m (replicate m 0) ∙ length-replicate m 0 in
       eq-eqb (length (tabulated f m 0)) (length (tabulated g m 0)) (long f ∙ sym (long g))
 
-  no-five : ¬ (Ragged (planIn input (trailerOf input)) or BadPlane (stillIn (trailerOf input)) (length (sourceOf input (trailerOf input))) or BadPlane (stillIn (trailerOf input)) (length (blank (stillIn (trailerOf input)) .work)) or BadPlane (stillIn (trailerOf input)) (length (blank (stillIn (trailerOf input)) .residuals)) or BadTables scratchTables)
+  no-five : ¬ (Ragged (planIn input (trailerOf input)) or BadPlane (stillIn (trailerOf input)) (length (sourceOf input (trailerOf input)))
+      or BadPlane (stillIn (trailerOf input)) (length (blank (stillIn (trailerOf input)) .work)) or BadPlane (stillIn (trailerOf input))
+      (length (blank (stillIn (trailerOf input)) .residuals)) or BadTables scratchTables)
   no-five (inl (inl (inl (inl p)))) = p (both-same (both-same (same-long _ _ _) (same-long _ _ _)) (same-long _ _ _))
   no-five (inl (inl (inl (inr p)))) = p source-long
   no-five (inl (inl (inr p))) = p (length-replicate n 0)
@@ -134,15 +144,31 @@ module _ (input : List ℕ) where
       row-kept
       (row-kept
       (λ h. row-same to from
-      (blocks-kept (j .still .frame) (j .plan .block) (j .plan .count) 0 {ys = bare ∷ []} (row-kept (row-dropped {k = about 11 0} {P = j .plan .count < 0} (λ p. omega (arith, p)))))
-      (row-dropped {xs = (about 7 0 when Some 0 (λ v. largestIn (j .still) < v) (j .source)) ∷ lastRows (j .still) (j .plan) noneDone} no-five h)))
-      (record { first = walk (j .still) (j .plan) noneDone scratchTables (j .plan .count) (j .source) (blank (j .still)) .given (stepped j) .0 refl })
+      (blocks-kept (j .still .frame) (j .plan .block) (j .plan .count) 0 {ys = bare ∷ []}
+      (row-kept (row-dropped {k = about 11 0} {P = j .plan .count < 0} (λ p. omega (arith, p)))))
+      (row-dropped {xs = (about 7 0 when Some 0 (λ v. largestIn (j .still) < v) (j .source)) ∷ lastRows (j .still) (j .plan) noneDone}
+      no-five h)))
+      (record {
+        first = walk (j .still) (j .plan) noneDone scratchTables (j .plan .count) (j .source) (blank (j .still)) .given
+            (stepped j) .0 refl;
+      })
     where
       to : Some 0 (λ v. largestIn (stillIn (trailerOf input)) < v) (sourceOf input (trailerOf input)) → BadSample input
-      to p = (p .0, let h : p .0 < n = omega (arith, p .1 .0, source-long) in (h, subst (λ (v : ℕ). largestIn (stillIn (trailerOf input)) < v) (sample-at (p .0) h) (p .1 .1)))
+      to p = (
+        p .0,
+        let h : p .0 < n = omega (arith, p .1 .0, source-long) in
+            (h, subst (λ (v : ℕ). largestIn (stillIn (trailerOf input)) < v) (sample-at (p .0) h) (p .1 .1)),
+      )
 
       from : BadSample input → Some 0 (λ v. largestIn (stillIn (trailerOf input)) < v) (sourceOf input (trailerOf input))
-      from p = (p .0, (omega (arith, p .1 .0, source-long), subst (λ (v : ℕ). largestIn (stillIn (trailerOf input)) < v) (sym (sample-at (p .0) (p .1 .0))) (p .1 .1)))
+      from p = (
+        p .0,
+        (
+          omega (arith, p .1 .0, source-long),
+          subst (λ (v : ℕ). largestIn (stillIn (trailerOf input)) < v)
+              (sym (sample-at (p .0) (p .1 .0))) (p .1 .1),
+        ),
+      )
 
   -- the verdict on an input
   abbrev given : Verdict
@@ -209,7 +235,8 @@ spell-tells zero n m e = omega (arith, head-of e)
 spell-tells (suc k) n m e = go (ltb n 10) (ltb m 10) (spell-tells k (n / 10) (m / 10)) e
   where
     go : (a b : Bool) → (spell k (n / 10) ≡ spell k (m / 10) → n / 10 ≡ m / 10)
-        → cond a ((48 + n) ∷ []) (spell k (n / 10) ++ (48 + n % 10) ∷ []) ≡ cond b ((48 + m) ∷ []) (spell k (m / 10) ++ (48 + m % 10) ∷ []) → n ≡ m
+        → cond a ((48 + n) ∷ []) (spell k (n / 10) ++ (48 + n % 10) ∷ [])
+        ≡ cond b ((48 + m) ∷ []) (spell k (m / 10) ++ (48 + m % 10) ∷ []) → n ≡ m
     go true true ih e = omega (arith, head-of e)
     go true false ih e = absurd (omega (arith, ap length e, length-append (spell k (m / 10)) ((48 + m % 10) ∷ []), spell-some k (m / 10)))
     go false true ih e = absurd (omega (arith, ap length e, length-append (spell k (n / 10)) ((48 + n % 10) ∷ []), spell-some k (n / 10)))
@@ -231,7 +258,8 @@ spell-last : (k n : ℕ) → (xs : List ℕ) × ((d : ℕ) × ((d ≤ 57) × (sp
 unfolding spell
 spell-last k n = go (ltb n 10) refl
   where
-    go : (b : Bool) → ltb n 10 ≡ b → (xs : List ℕ) × ((d : ℕ) × ((d ≤ 57) × (cond b ((48 + n) ∷ []) (spell k (n / 10) ++ (48 + n % 10) ∷ []) ≡ xs ++ d ∷ [])))
+    go : (b : Bool) → ltb n 10 ≡ b → (xs : List ℕ) ×
+        ((d : ℕ) × ((d ≤ 57) × (cond b ((48 + n) ∷ []) (spell k (n / 10) ++ (48 + n % 10) ∷ []) ≡ xs ++ d ∷ [])))
     go true e = ([], (48 + n, (omega (arith, ltb-true n 10 e), refl)))
     go false e = (spell k (n / 10), (48 + n % 10, (omega arith, refl)))
 
@@ -257,12 +285,16 @@ refusal-end n k =
 
 ending-end : (n : ℕ) (same : Bool) → (xs : List ℕ) × (ending n same ≡ xs ++ (cond same 101 115 ∷ []) ++ 10 ∷ [])
 ending-end n true =
-    let start : List ℕ = (101 ∷ 110 ∷ 100 ∷ 32 ∷ []) ++ number n 32 in
-    (start ++ 115 ∷ 97 ∷ 109 ∷ [], sym (append-assoc (start ++ 115 ∷ 97 ∷ 109 ∷ []) (101 ∷ []) (10 ∷ []) ∙ append-assoc start (115 ∷ 97 ∷ 109 ∷ []) (101 ∷ 10 ∷ [])))
+    let start : List ℕ = (101 ∷ 110 ∷ 100 ∷ 32 ∷ []) ++ number n 32 in (
+      start ++ 115 ∷ 97 ∷ 109 ∷ [],
+      sym (append-assoc (start ++ 115 ∷ 97 ∷ 109 ∷ []) (101 ∷ []) (10 ∷ [])
+          ∙ append-assoc start (115 ∷ 97 ∷ 109 ∷ []) (101 ∷ 10 ∷ [])),
+    )
 ending-end n false =
     let start : List ℕ = (101 ∷ 110 ∷ 100 ∷ 32 ∷ []) ++ number n 32 in (
       start ++ 100 ∷ 105 ∷ 102 ∷ 102 ∷ 101 ∷ 114 ∷ [],
-      sym (append-assoc (start ++ 100 ∷ 105 ∷ 102 ∷ 102 ∷ 101 ∷ 114 ∷ []) (115 ∷ []) (10 ∷ []) ∙ append-assoc start (100 ∷ 105 ∷ 102 ∷ 102 ∷ 101 ∷ 114 ∷ []) (115 ∷ 10 ∷ [])),
+      sym (append-assoc (start ++ 100 ∷ 105 ∷ 102 ∷ 102 ∷ 101 ∷ 114 ∷ []) (115 ∷ []) (10 ∷ [])
+          ∙ append-assoc start (100 ∷ 105 ∷ 102 ∷ 102 ∷ 101 ∷ 114 ∷ []) (115 ∷ 10 ∷ [])),
     )
 
 letter-high : (same : Bool) → 57 < cond same 101 115
@@ -276,7 +308,8 @@ not-served j n k e =
     let p = ending-end (j .plan .count) same in
     let q = refusal-end n k in
     let l : servedText j ≡ (all ++ p .0) ++ (cond same 101 115 ∷ []) ++ 10 ∷ [] =
-    ap (λ (r : List ℕ). all ++ r) (p .1) ∙ sym (append-assoc all (p .0 ++ cond same 101 115 ∷ []) (10 ∷ [])) ∙ ap (λ (r : List ℕ). r ++ 10 ∷ []) (sym (append-assoc all (p .0) (cond same 101 115 ∷ []))) in
+    ap (λ (r : List ℕ). all ++ r) (p .1) ∙ sym (append-assoc all (p .0 ++ cond same 101 115 ∷ []) (10 ∷ []))
+    ∙ ap (λ (r : List ℕ). r ++ 10 ∷ []) (sym (append-assoc all (p .0) (cond same 101 115 ∷ []))) in
     omega (arith, letter-high same, q .1 .1 .0, last-two (all ++ p .0) (q .0) (cond same 101 115) (q .1 .0) (sym l ∙ e ∙ q .1 .1 .1))
 
 -- The text goes by the verdict
@@ -317,14 +350,19 @@ names-none input = go (fileOk input) (eqb (verdict (jobOf input) .no) 0) refl _ 
 pub program : (input : List ℕ) → ProgramTable input
 program input =
     record {
-      refused = λ n k. (λ e. let p = tells n k e in (p .0, exact input .given (about n k) .0 (p .1)), λ p. shown n k (p .0) (exact input .given (about n k) .1 (p .1)));
+      refused = λ n k. (
+        λ e. let p = tells n k e in (p .0, exact input .given (about n k) .0 (p .1)),
+        λ p. shown n k (p .0)
+            (exact input .given (about n k) .1 (p .1)),
+      );
       ended = (λ e. exact input .given done .0 (ends e), λ p. by-verdict input ∙ ap (textOf (jobOf input)) (exact input .given done .1 p));
     }
   where
     tells : (n k : ℕ) → printed input ≡ refusal n k → (¬ (n ≡ 0)) × (given input ≡ about n k)
     tells n k e = go (eqb (given input .no) 0) refl (sym (by-verdict input) ∙ e)
       where
-        go : (b : Bool) → eqb (given input .no) 0 ≡ b → cond b (servedText (jobOf input)) (refusal (given input .no) (given input .block)) ≡ refusal n k → (¬ (n ≡ 0)) × (given input ≡ about n k)
+        go : (b : Bool) → eqb (given input .no) 0 ≡ b → cond b (servedText (jobOf input)) (refusal (given input .no) (given input .block))
+            ≡ refusal n k → (¬ (n ≡ 0)) × (given input ≡ about n k)
         go true z q = absurd (not-served (jobOf input) n k q)
         go false z q =
             let p = refusal-tells (given input .no) n (given input .block) k q in
@@ -338,6 +376,7 @@ program input =
     ends : printed input ≡ servedText (jobOf input) → given input ≡ done
     ends e = go (eqb (given input .no) 0) refl (sym (by-verdict input) ∙ e)
       where
-        go : (b : Bool) → eqb (given input .no) 0 ≡ b → cond b (servedText (jobOf input)) (refusal (given input .no) (given input .block)) ≡ servedText (jobOf input) → given input ≡ done
+        go : (b : Bool) → eqb (given input .no) 0 ≡ b → cond b (servedText (jobOf input)) (refusal (given input .no) (given input .block))
+            ≡ servedText (jobOf input) → given input ≡ done
         go true z q = names-none input (eqb-true (given input .no) 0 z)
         go false z q = absurd (not-served (jobOf input) (given input .no) (given input .block) (sym q))

@@ -1,13 +1,10 @@
--- Document 01, 'The numbers a call gives back', where a number carries a block. The rows are in the order of the checks, the blocks' in list order, and the
--- answer is given exactly when it is that of the first row that holds. A plan is any `Plan`: of lent numbers (`planOf`), of records (`listed`) or of bytes
--- (`recordsOf`). Where the call takes the scratch struct, its tables (`scratchTables`) are never short. Rests on Exact and on what the plan's verdict tells.
---
---   plan::check_plan, any plan                       check-plan
---   plan::check_plan_numbers                         check-plan-numbers
---   plan::check_plan_bytes                           check-plan-bytes
---   checks::opening_no, checks::settled              opening, settled
---   Progress::walk, Progress::walk_numbers           walk
---   Progress::replay, Progress::replay_numbers       replay
+-- Document 01, 'The numbers a call gives back', where a number carries a block. The rows are in the order of the checks, the blocks'
+-- in list order, and the answer is given exactly when it is that of the first row that holds. A plan is any `Plan`: of lent numbers
+-- (`planOf`), of records (`listed`) or of bytes (`recordsOf`). Where the call takes the scratch struct, its tables (`scratchTables`)
+-- are never short. Rests on Exact and on what the plan's verdict tells.  plan::check_plan, any plan                       check-plan
+-- plan::check_plan_numbers                         check-plan-numbers plan::check_plan_bytes
+-- check-plan-bytes checks::opening_no, checks::settled              opening, settled Progress::walk, Progress::walk_numbers
+-- walk Progress::replay, Progress::replay_numbers       replay
 use mathlib.Core.Path.{_≡_, refl, sym, ap, subst, _∙_}
 use mathlib.Core.Bool.{Bool, true, false, cond, true≢false}
 use mathlib.Core.List.{List, [], _∷_}
@@ -31,7 +28,8 @@ use Rattle.plan.specs.tiling.Check.{placedOk}
 use Rattle.plan.specs.tiling.PlanCheck.{blocksVerdict, planVerdict}
 use Rattle.plan.specs.RecordPlan.{recordsOf}
 use Rattle.plan.specs.tiling.Tests.{picture-good, placed-of}
-use Rattle.plan.specs.tiling.Verdict.{Fine, Broken, bad-size, bad-mode, bad-place, bad-order, Told, is-good, bad-picture, not-whole, bad-block, bad-cover, told, verdict-good, good-verdict}
+use Rattle.plan.specs.tiling.Verdict.{Fine, Broken, bad-size, bad-mode, bad-place, bad-order, Told, is-good, bad-picture, not-whole}
+use Rattle.plan.specs.tiling.Verdict.{bad-block, bad-cover, told, verdict-good, good-verdict}
 use Rattle.walk.specs.declared.checks.Still.{Still}
 use Rattle.walk.specs.declared.Progress.{Progress}
 use Rattle.walk.specs.declared.Stepped.{Stepped}
@@ -40,7 +38,8 @@ use Rattle.walk.specs.calls.Steps.{doingOf}
 use Rattle.walk.specs.block.Walked.{World}
 use Rattle.walk.specs.calls.Door.{verdictOf, replayVerdict, walkVerdict}
 use Rattle.walk.specs.Door.{steppedBy}
-use Rattle.promises.specs.tables.Exact.{Row, _when_, _or_, Exact, First, ExactFirst, FirstBy, Tells, exact-none, exact-row, first-exact, first-test, first-row, all-of, at-most, same}
+use Rattle.promises.specs.tables.Exact.{Row, _when_, _or_, Exact, First, ExactFirst, FirstBy, Tells, exact-none, exact-row}
+use Rattle.promises.specs.tables.Exact.{first-exact, first-test, first-row, all-of, at-most, same}
 use Rattle.promises.specs.tables.Table.{BadPicture, BadPlace, depth, picture, placed, held}
 
 -- number n, about block k of the list
@@ -105,18 +104,24 @@ module _ (f : Frame) (plan : ℕ → Block) where
       unplaced (inr l) = omega (arith, l, p .small)
 
   -- blocks that break no rule have no row
-  passes : (m k : ℕ) (v : Verdict) (more : List (Row Verdict)) → ((i : ℕ) → i < k + m → Placed f (plan i) × ((plan i .mode ≤ 34) × Next f plan i))
+  passes : (m k : ℕ) (v : Verdict) (more : List (Row Verdict))
+      → ((i : ℕ) → i < k + m → Placed f (plan i) × ((plan i .mode ≤ 34) × Next f plan i))
       → First done v more → First done v (blockRows f plan m k more)
   passes zero k v more h rest = rest
   passes (suc m) k v more h rest =
       let b = h k (omega arith) in
-      placed-row k v (blockRows f plan m (suc k) more) (b .0) (b .1 .0) (inr (λ e. e (b .1 .1), passes m (suc k) v more (λ i l. h i (omega arith)) rest))
+      placed-row k v (blockRows f plan m (suc k) more) (b .0) (b .1 .0)
+      (inr (λ e. e (b .1 .1), passes m (suc k) v more (λ i l. h i (omega arith)) rest))
 
   -- the block that breaks a rule has the row of its number
   breaks : (k n : ℕ) (more : List (Row Verdict)) → Broken f plan k n → First done (about n k) (blockRows f plan 1 k more)
   breaks k n more (bad-size z p) = inl (p, ap (λ (x : ℕ). about x k) z)
   breaks k n more (bad-mode z p m) = inr (λ e. e p, inl (m, ap (λ (x : ℕ). about x k) z))
-  breaks k n more (bad-place z p m a) = inr (λ e. e p, inr (λ l. omega (arith, l, m), inl (go (placedOk f (plan k)) refl, ap (λ (x : ℕ). about x k) z)))
+  breaks k n more (bad-place z p m a) = inr (
+    λ e. e p,
+    inr
+        (λ l. omega (arith, l, m), inl (go (placedOk f (plan k)) refl, ap (λ (x : ℕ). about x k) z)),
+  )
     where
       tells : Tells (placedOk f (plan k)) (BadBlock f (plan k))
       tells = all-of (placed (f .height) (f .width) (plan k .row) (plan k .col) (plan k .side)) (at-most (plan k .side) (f .ctu))
@@ -127,7 +132,8 @@ module _ (f : Frame) (plan : ℕ → Block) where
   breaks k n more (bad-order z p m a) = placed-row k (about n k) more p m (inl (a, ap (λ (x : ℕ). about x k) z))
 
   -- the first block that breaks a rule, with those before it
-  stops : (m i k n : ℕ) (more : List (Row Verdict)) → i ≤ k → k < i + m → Fine f plan k → Broken f plan k n → First done (about n k) (blockRows f plan m i more)
+  stops : (m i k n : ℕ) (more : List (Row Verdict)) → i ≤ k → k < i + m → Fine f plan k → Broken f plan k n
+      → First done (about n k) (blockRows f plan m i more)
   stops zero i k n more a b h r = absurd (omega arith)
   stops (suc m) i k n more a b h r = go (eq-or-lt-of-le a) (stops m (suc i) k n more)
     where
@@ -170,17 +176,20 @@ module _ (f : Frame) (l : Plan) where
       go : Told f made v → First done (after v) (planRows f l more)
       go (is-good q w a) =
           at done q
-          (passes f (l .block) (l .count) 0 last _ (λ i h. (a .plan-good .placed i (omega arith), (a .modes i (omega arith), a .plan-good .next i (omega arith))))
+          (passes f (l .block) (l .count) 0 last _ (λ i h.
+          (a .plan-good .placed i (omega arith), (a .modes i (omega arith), a .plan-good .next i (omega arith))))
           (inr (λ u. u .1 .1 .1 (a .plan-good .all (u .0) (u .1 .0) (u .1 .1 .0)), rest)))
       go (bad-picture q a) = absurd (a (picture-good f ok))
       go (not-whole q g w) = absurd (true≢false w)
       go (bad-block n k q g w r) =
           at (about n k) q
-          (subst (λ (w : Verdict). First done w (planRows f l more)) (if-no (eqb n 0) last (about n k) (about n k) (not-zero f (l .block) (r .broken)) refl)
+          (subst (λ (w : Verdict). First done w (planRows f l more))
+          (if-no (eqb n 0) last (about n k) (about n k) (not-zero f (l .block) (r .broken)) refl)
           (stops f (l .block) (l .count) 0 k n _ (omega arith) (omega (arith, r .listed)) (r .before) (r .broken)))
       go (bad-cover q g w a) =
           at (about 10 0) q
-          (passes f (l .block) (l .count) 0 (about 10 0) _ (λ i h. a .before i (omega arith)) (inl ((a .row, (a .col, (a .inside, a .bare))), refl)))
+          (passes f (l .block) (l .count) 0 (about 10 0) _ (λ i h. a .before i (omega arith))
+          (inl ((a .row, (a .col, (a .inside, a .bare))), refl)))
 
   -- a verdict of number 0 names no block
   zero-done : pictureOk (pictureOf f) ≡ true → v .no ≡ 0 → v ≡ done
@@ -205,10 +214,12 @@ check-by : (f : Frame) (l : Plan) {P : Type 0} → Tells (l .whole) P
 unfolding planVerdict
 check-by f l {P} t =
     first-exact done (planVerdict f l) _
-    (first-test done (λ (b : Bool). cond b (cond (l .whole) (blocksVerdict f l) (about 5 0)) (about 4 0)) ((about 5 0 when P) ∷ planRows f l []) (picture (pictureOf f))
+    (first-test done (λ (b : Bool). cond b (cond (l .whole) (blocksVerdict f l) (about 5 0)) (about 4 0))
+    ((about 5 0 when P) ∷ planRows f l []) (picture (pictureOf f))
     (λ ok. first-test done (λ (b : Bool). cond b (blocksVerdict f l) (about 5 0)) (planRows f l []) t (λ e. blocks-alone f l ok)))
 
-pub check-plan : (f : Frame) (l : Plan) → ExactFirst done (planVerdict f l) ((about 4 0 when BadPicture (pictureOf f)) ∷ (about 5 0 when Ragged l) ∷ planRows f l [])
+pub check-plan : (f : Frame) (l : Plan) → ExactFirst done (planVerdict f l)
+    ((about 4 0 when BadPicture (pictureOf f)) ∷ (about 5 0 when Ragged l) ∷ planRows f l [])
 check-plan f l = check-by f l (ragged l)
 
 -- of numbers: slices of different lengths; of bytes: no multiple of six
@@ -222,7 +233,8 @@ check-plan-numbers f rows cols sides modes =
     check-by f (planOf rows cols sides modes) (all-of (all-of (same (length cols) n) (same (length sides) n)) (same (length modes) n))
 
 pub check-plan-bytes : (f : Frame) (b : List ℕ)
-    → ExactFirst done (planVerdict f (recordsOf b)) ((about 4 0 when BadPicture (pictureOf f)) ∷ (about 5 0 when ¬ (length b % 6 ≡ 0)) ∷ planRows f (recordsOf b) [])
+    → ExactFirst done (planVerdict f (recordsOf b))
+    ((about 4 0 when BadPicture (pictureOf f)) ∷ (about 5 0 when ¬ (length b % 6 ≡ 0)) ∷ planRows f (recordsOf b) [])
 check-plan-bytes f b = check-by f (recordsOf b) (same (length b % 6) 0)
 
 -- the checks before the blocks, where `fit` says that all that is lent is long enough
@@ -251,12 +263,17 @@ settled found count k early =
     third = about 11 0 when count < k
 
 -- a test of every entry
-pub every-one : {A : Type 0} (d : A) {test : A → Bool} {P : A → Type 0} → ((x : A) → Tells (test x) (P x)) → (l : List A) → Tells (every test l) (Some d P l)
+pub every-one : {A : Type 0} (d : A) {test : A → Bool} {P : A → Type 0} → ((x : A) → Tells (test x) (P x)) → (l : List A)
+    → Tells (every test l) (Some d P l)
 unfolding every
 every-one d t [] = record { passed = λ e h. not-suc-le-zero (h .1 .0); failed = λ e. absurd (true≢false e) }
 every-one {A} d {test} {P} t (x ∷ l) =
     let u = all-of (t x) (every-one d t l) in
-    record { passed = λ e h. u .passed e (split (h .0) (h .1 .0) (h .1 .1)); failed = λ e. ⊎-elim (λ p. (0, (omega arith, p))) (λ h. (suc (h .0), (omega (arith, h .1 .0), h .1 .1))) (u .failed e) }
+    record {
+      passed = λ e h. u .passed e (split (h .0) (h .1 .0) (h .1 .1));
+      failed = λ e. ⊎-elim (λ p. (0, (omega arith, p)))
+          (λ h. (suc (h .0), (omega (arith, h .1 .0), h .1 .1))) (u .failed e);
+    }
   where
     split : (i : ℕ) → i < length (x ∷ l) → P (getD (x ∷ l) i d) → P x or Some d P l
     split zero h p = inl p
@@ -288,7 +305,8 @@ module _ (s : Still) (plan : Plan) (p : Progress) where
       v : Verdict
       v = blocksVerdict (s .frame) plan
 
-      go : (a b d : Bool) → eqb early 0 ≡ a → eqb (v .no) 0 ≡ b → let w : Verdict = cond a (cond b (about (cond d 0 11) 0) v) (about early 0) in w .no ≡ 0 → done ≡ w
+      go : (a b d : Bool) → eqb early 0 ≡ a → eqb (v .no) 0 ≡ b
+          → let w : Verdict = cond a (cond b (about (cond d 0 11) 0) v) (about early 0) in w .no ≡ 0 → done ≡ w
       go true true true x y e = refl
       go true true false x y e = absurd (omega (arith, e))
       go true false d x y e = absurd (eqb-false (v .no) 0 y e)
@@ -297,16 +315,25 @@ module _ (s : Still) (plan : Plan) (p : Progress) where
   holds-verdict : (w : Verdict) → (w .no ≡ 0 → done ≡ w) → (grant : ℕ) → verdictIn (steppedBy w plan p grant) ≡ w
   holds-verdict w h grant = go (eqb (w .no) 0) refl
     where
-      go : (b : Bool) → eqb (w .no) 0 ≡ b → verdictIn (cond b (record { no = 0; block = 0; did = doingOf (plan .count) (p .done) grant; next = record { done = p .done + doingOf (plan .count) (p .done) grant } }) (record { no = w .no; block = w .block; did = 0; next = p })) ≡ w
+      go : (b : Bool) → eqb (w .no) 0 ≡ b → verdictIn
+          (cond b (record {
+            no = 0;
+            block = 0;
+            did = doingOf (plan .count) (p .done) grant;
+            next = record
+                { done = p .done + doingOf (plan .count) (p .done) grant };
+          }) (record { no = w .no; block = w .block; did = 0; next = p })) ≡ w
       go true e = h (eqb-true (w .no) 0 e)
       go false e = refl
 
-  given-by : (early : ℕ) (a : Verdict) (rows : List (Row Verdict)) → a ≡ verdictOf s plan (p .done) early → FirstBy done from early rows → ExactFirst done a rows
+  given-by : (early : ℕ) (a : Verdict) (rows : List (Row Verdict)) → a ≡ verdictOf s plan (p .done) early → FirstBy done from early rows
+      → ExactFirst done a rows
   unfolding verdictOf settle
   given-by early a rows e h = first-exact done a rows (subst (λ (w : Verdict). First done w rows) (sym e) (h .first))
 
   -- the number and the block of an answer, and a number beside the block that is written
-  answer-exact : (early grant : ℕ) (rows : List (Row Verdict)) → FirstBy done from early rows → ExactFirst done (verdictIn (steppedBy (verdictOf s plan (p .done) early) plan p grant)) rows
+  answer-exact : (early grant : ℕ) (rows : List (Row Verdict)) → FirstBy done from early rows
+      → ExactFirst done (verdictIn (steppedBy (verdictOf s plan (p .done) early) plan p grant)) rows
   answer-exact early grant rows h = given-by early _ rows (holds-verdict (verdictOf s plan (p .done) early) (names-none early) grant) h
 
   pub number-exact : (early : ℕ) (rows : List (Row Verdict)) → FirstBy done from early rows
@@ -330,7 +357,8 @@ module _ (s : Still) (plan : Plan) (p : Progress) where
   pub walk : (t : Tables) (grant : ℕ) (source : List ℕ) (w : World)
       → ExactFirst done (verdictIn (steppedBy (walkVerdict s plan t (p .done) source w) plan p grant))
       ((about 1 0 when ¬ Depth (s .bits)) ∷ (about 4 0 when BadPicture (pictureOf (s .frame)))
-      ∷ (about 5 0 when Ragged plan or BadPlane s (length source) or BadPlane s (length (w .work)) or BadPlane s (length (w .residuals)) or BadTables t)
+      ∷ (about 5 0 when Ragged plan or BadPlane s (length source) or BadPlane s (length (w .work)) or BadPlane s (length (w .residuals))
+      or BadTables t)
       ∷ (about 7 0 when Some 0 (λ v. largestIn s < v) source)
       ∷ lastRows)
   unfolding walkVerdict
@@ -338,7 +366,8 @@ module _ (s : Still) (plan : Plan) (p : Progress) where
       answer-exact _ grant _
       (first-row (depth (s .bits))
       (λ e. first-row (picture (pictureOf (s .frame)))
-      (λ ok. first-row (all-of (all-of (all-of (all-of (ragged plan) (whole-plane (length source))) (whole-plane (length (w .work)))) (whole-plane (length (w .residuals)))) (tables t))
+      (λ ok. first-row (all-of (all-of (all-of (all-of (ragged plan) (whole-plane (length source))) (whole-plane (length (w .work))))
+      (whole-plane (length (w .residuals)))) (tables t))
       (λ e. first-row (every-one 0 (λ v. at-most v (largestIn s)) source) (λ e. last-first ok)))))
 
   pub replay : (t : Tables) (grant : ℕ) (residuals : List ℤ) (plane : List ℕ)

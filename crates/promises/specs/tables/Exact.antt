@@ -28,8 +28,9 @@ abbrev pub Given : ℕ → List (Row ℕ) → Type 0
 Given k [] = k ≡ 0
 Given k (r ∷ rows) = cond (eqb k (r .answer)) (r .holds) ((¬ (r .holds)) × Given k rows)
 
--- each number is given exactly when its row holds and no row before it; 0 exactly when no row holds. With x : Exact n ((2 when P) ∷ (5 when Q) ∷ []), for one,
--- x .given 5 is (n ≡ 5) ↔ ((¬ P) × Q), x .given 0 is (n ≡ 0) ↔ ((¬ P) × ((¬ Q) × (0 ≡ 0))), and x .given 7 shuts 7 out.
+-- each number is given exactly when its row holds and no row before it; 0 exactly when no row holds. With x : Exact n ((2 when P) ∷
+-- (5 when Q) ∷ []), for one, x .given 5 is (n ≡ 5) ↔ ((¬ P) × Q), x .given 0 is (n ≡ 0) ↔ ((¬ P) × ((¬ Q) × (0 ≡ 0))), and x .given
+-- 7 shuts 7 out.
 pub record Exact (no : ℕ) (rows : List (Row ℕ)) : Type 0 where
   pub given : (k : ℕ) → (no ≡ k) ↔ Given k rows
 
@@ -61,15 +62,18 @@ not-given : (k : ℕ) (rows : List (Row ℕ)) → new k rows ≡ true → ¬ Giv
 not-given k [] e g = true≢false (sym e ∙ simp (eq-eqb k 0 g))
 not-given k (r ∷ rows) e g = go (eqb k (r .answer)) (not-given k rows) e g
   where
-    go : (b : Bool) → (new k rows ≡ true → ¬ Given k rows) → (not b && new k rows) ≡ true → cond b (r .holds) ((¬ (r .holds)) × Given k rows) → ⊥
+    go : (b : Bool) → (new k rows ≡ true → ¬ Given k rows) → (not b && new k rows) ≡ true
+        → cond b (r .holds) ((¬ (r .holds)) × Given k rows) → ⊥
     go true later e g = false≢true e
     go false later e g = later e (g .1)
 
 -- one row more: its test comes first, and the rest may take it that the test held
-pub exact-row : {b : Bool} {P : Type 0} {k m : ℕ} {rows : List (Row ℕ)} → Tells b P → new k rows ≡ true → (b ≡ true → Exact m rows) → Exact (cond b m k) ((k when P) ∷ rows)
+pub exact-row : {b : Bool} {P : Type 0} {k m : ℕ} {rows : List (Row ℕ)} → Tells b P → new k rows ≡ true → (b ≡ true → Exact m rows)
+    → Exact (cond b m k) ((k when P) ∷ rows)
 exact-row {b} {P} {k} {m} {rows} t e rest = record { given = λ j. go b t rest j (eqb j k) refl }
   where
-    go : (b : Bool) → Tells b P → (b ≡ true → Exact m rows) → (j : ℕ) (q : Bool) → eqb j k ≡ q → (cond b m k ≡ j) ↔ cond q P ((¬ P) × Given j rows)
+    go : (b : Bool) → Tells b P → (b ≡ true → Exact m rows) → (j : ℕ) (q : Bool) → eqb j k ≡ q
+        → (cond b m k ≡ j) ↔ cond q P ((¬ P) × Given j rows)
     go true t rest j true q = (
       λ n. absurd (not-given k rows e (rest refl .given k .0 (n ∙ eqb-true j k q))),
       λ p. absurd (t .passed refl p),
@@ -86,7 +90,8 @@ number-in no-of work kept {k} z e = go (eqb k 0) refl
     go true q = z ∙ sym (eqb-true k 0 q)
     go false q = e
 
-pub exact-answer : {A : Type 0} (no-of : A → ℕ) (work kept : A) {k : ℕ} {rows : List (Row ℕ)} → no-of work ≡ 0 → no-of kept ≡ k → Exact k rows → Exact (no-of (served k work kept)) rows
+pub exact-answer : {A : Type 0} (no-of : A → ℕ) (work kept : A) {k : ℕ} {rows : List (Row ℕ)} → no-of work ≡ 0 → no-of kept ≡ k
+    → Exact k rows → Exact (no-of (served k work kept)) rows
 exact-answer no-of work kept {rows = rows} z e x = subst (λ (j : ℕ). Exact j rows) (sym (number-in no-of work kept z e)) x
 
 -- Rows of any answers
@@ -115,9 +120,11 @@ module _ {A : Type 0} (done : A) where
 pub record FirstBy {A : Type 0} (done : A) (from : ℕ → A) (k : ℕ) (rows : List (Row A)) : Type 0 where
   pub first : First done (from k) rows
 
-pub first-row : {A : Type 0} {done : A} {from : ℕ → A} {b : Bool} {P : Type 0} {k m : ℕ} {rows : List (Row A)} → Tells b P → (b ≡ true → FirstBy done from m rows)
+pub first-row : {A : Type 0} {done : A} {from : ℕ → A} {b : Bool} {P : Type 0} {k m : ℕ} {rows : List (Row A)} → Tells b P
+    → (b ≡ true → FirstBy done from m rows)
     → FirstBy done from (cond b m k) ((from k when P) ∷ rows)
-first-row {A} {done} {from} {b} {P} {k} {m} {rows} t rest = record { first = first-test done (λ (b : Bool). from (cond b m k)) rows t (λ e. rest e .first) }
+first-row {A} {done} {from} {b} {P} {k} {m} {rows} t rest = record
+    { first = first-test done (λ (b : Bool). from (cond b m k)) rows t (λ e. rest e .first) }
 
 -- Tests
 pub all-of : {a b : Bool} {P Q : Type 0} → Tells a P → Tells b Q → Tells (a && b) (P or Q)

@@ -1,7 +1,7 @@
--- Document 01: 'Refusals return zeroed rows, the progress record as given, 0 for any other figure, and leave lent planes, residuals, block buffers and
--- scratch untouched.' One theorem for each door whose contract does not already say so in these words. The predictors' contracts do: `served r .. (now (pred
--- .entry))`, which `kept` reads, and that scratch is the same where the number is not 0. For walk, replay and the camera's entries: promises/specs/run_tables/Refused.
--- Assumes nothing.
+-- Document 01: 'Refusals return zeroed rows, the progress record as given, 0 for any other figure, and leave lent planes, residuals,
+-- block buffers and scratch untouched.' One theorem for each door whose contract does not already say so in these words. The
+-- predictors' contracts do: `served r .. (now (pred .entry))`, which `kept` reads, and that scratch is the same where the number is
+-- not 0. For walk, replay and the camera's entries: promises/specs/run_tables/Refused. Assumes nothing.
 use mathlib.Core.Path.{_≡_, refl, sym, ap, _∙_}
 use mathlib.Core.Bool.{true, false}
 use mathlib.Core.List.{List, [], _∷_}
@@ -62,15 +62,18 @@ unfolding chromaReach
 chroma-reach b = no-reach (chromaReachNo b) _ refl
 
 -- refs
-pub substitute-refs : (rows : Rows) (flags : Flags) (n bits : ℕ) → ¬ (substituteRefs rows flags n bits .no ≡ 0) → substituteRefs rows flags n bits .rows ≡ zeroRows
+pub substitute-refs : (rows : Rows) (flags : Flags) (n bits : ℕ) → ¬ (substituteRefs rows flags n bits .no ≡ 0)
+    → substituteRefs rows flags n bits .rows ≡ zeroRows
 unfolding substituteRefs
 substitute-refs rows flags n bits h = kept _ _ zeroRows h
 
-pub luma-gather : (plane : List ℕ) (g : LumaRefGeometry) → ¬ (getReferenceSamples plane g .no ≡ 0) → getReferenceSamples plane g .rows ≡ zeroRows
+pub luma-gather : (plane : List ℕ) (g : LumaRefGeometry) → ¬ (getReferenceSamples plane g .no ≡ 0) → getReferenceSamples plane g .rows
+    ≡ zeroRows
 unfolding getReferenceSamples
 luma-gather plane g h = kept _ _ zeroRows h
 
-pub chroma-gather : (cb cr : List ℕ) (g : ChromaRefGeometry) → ¬ (getReferenceSamplesChromaPair cb cr g .no ≡ 0) → getReferenceSamplesChromaPair cb cr g .planes ≡ zeroRows ∷ zeroRows ∷ []
+pub chroma-gather : (cb cr : List ℕ) (g : ChromaRefGeometry) → ¬ (getReferenceSamplesChromaPair cb cr g .no ≡ 0)
+    → getReferenceSamplesChromaPair cb cr g .planes ≡ zeroRows ∷ zeroRows ∷ []
 unfolding getReferenceSamplesChromaPair
 chroma-gather cb cr g h = kept _ _ (zeroRows ∷ zeroRows ∷ []) h
 
@@ -84,7 +87,8 @@ unfolding shouldFilterRefs
 should-filter-refs mode n h = kept _ _ false h
 
 module _ (corner : ℕ) (above left : List ℕ) (n : ℕ) where
-  pub filter-references : ¬ (filterReferences corner above left n .no ≡ 0) → (filterReferences corner above left n .above ≡ replicate 65 0) × (filterReferences corner above left n .left ≡ replicate 65 0)
+  pub filter-references : ¬ (filterReferences corner above left n .no ≡ 0)
+      → (filterReferences corner above left n .above ≡ replicate 65 0) × (filterReferences corner above left n .left ≡ replicate 65 0)
   unfolding filterReferences
   filter-references h =
       let e = kept _ (smoothing.smoothed false 0 n corner above left) zeroRows h in (
@@ -92,7 +96,8 @@ module _ (corner : ℕ) (above left : List ℕ) (n : ℕ) where
         ap (λ (r : Rows). r .left) e,
       )
 
-  pub filter-luma-refs : (bits : ℕ) → ¬ (smoothing.filterLumaRefs true corner above left n bits .no ≡ 0) → smoothing.filterLumaRefs true corner above left n bits .rows ≡ zeroRows
+  pub filter-luma-refs : (bits : ℕ) → ¬ (smoothing.filterLumaRefs true corner above left n bits .no ≡ 0)
+      → smoothing.filterLumaRefs true corner above left n bits .rows ≡ zeroRows
   unfolding smoothing.filterLumaRefs
   filter-luma-refs bits h = kept _ _ zeroRows h
 
@@ -102,7 +107,8 @@ pub compute-residual : (n : ℕ) (orig pred : List ℕ) (residual : List ℤ) �
 unfolding residualsAfter
 compute-residual n orig pred residual h = kept _ _ residual h
 
-pub reconstruct : (bits n : ℕ) (pred : List ℕ) (residual : List ℤ) (out : List ℕ) → ¬ (reconstructNo bits n (length pred) residual (length out) ≡ 0)
+pub reconstruct : (bits n : ℕ) (pred : List ℕ) (residual : List ℤ) (out : List ℕ)
+    → ¬ (reconstructNo bits n (length pred) residual (length out) ≡ 0)
     → reconstructed bits n pred residual out ≡ out
 unfolding reconstructed
 reconstruct bits n pred residual out h = kept _ _ out h

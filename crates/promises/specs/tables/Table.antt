@@ -1,21 +1,19 @@
--- Document 01, 'The numbers a call gives back', at each door: the rows that apply to it, in the order in which it checks, and that each number is
--- given exactly when its row holds and no row before it, 0 exactly when no row holds. What a call lends is given by its length. Rests on Exact.
---
---   BitDepth::from_bits                   depth-from              smooth::should_filter_refs             should-filter-refs
---   ChromaFormat::from_idc                format-from             smooth::filter_references              filter-references
---   order::decode_order                   decode-order            smooth::filter_luma_refs               filter-luma-refs
---   order::is_available                   is-available            flat::predict_planar_into              predict-flat
---   order::luma_reach                     luma-reach              flat::predict_dc_into                  predict-flat
---   order::chroma_reach                   chroma-reach            angular::predict_angular_slices        predict-angular
---   substitution::substitute_refs         substitute-refs         predict::predict_chroma_tb_slices      predict-chroma
---   refs::get_reference_samples           luma-gather             predict::predict_luma_tb_slices        predict-luma
---   gather::get_reference_samples         luma-gather-bytes       scratch_angular::.._into, _fresh       predict-angular-scratch
---   refs::.._chroma_pair                  chroma-gather           scratch_predict::.._chroma_tb_..       predict-chroma-scratch
---   residual::compute_residual_i32_into   compute-residual        scratch_predict::.._luma_tb_..         predict-luma-scratch
---   residual::reconstruct_into            reconstruct
---
--- The plan check, walk and replay, whose numbers carry a block, are in promises/specs/run_tables/TableWalk; the camera's entries and the two of gather that store rows in TableBytes
--- there; what a refused call gives back is in Refused.
+-- Document 01, 'The numbers a call gives back', at each door: the rows that apply to it, in the order in which it checks, and that
+-- each number is given exactly when its row holds and no row before it, 0 exactly when no row holds. What a call lends is given by
+-- its length. Rests on Exact.  BitDepth::from_bits                   depth-from              smooth::should_filter_refs
+-- should-filter-refs ChromaFormat::from_idc                format-from             smooth::filter_references
+-- filter-references order::decode_order                   decode-order            smooth::filter_luma_refs
+-- filter-luma-refs order::is_available                   is-available            flat::predict_planar_into              predict-flat
+-- order::luma_reach                     luma-reach              flat::predict_dc_into                  predict-flat
+-- order::chroma_reach                   chroma-reach            angular::predict_angular_slices        predict-angular
+-- substitution::substitute_refs         substitute-refs         predict::predict_chroma_tb_slices      predict-chroma
+-- refs::get_reference_samples           luma-gather             predict::predict_luma_tb_slices        predict-luma
+-- gather::get_reference_samples         luma-gather-bytes       scratch_angular::.._into, _fresh       predict-angular-scratch
+-- refs::.._chroma_pair                  chroma-gather           scratch_predict::.._chroma_tb_..       predict-chroma-scratch
+-- residual::compute_residual_i32_into   compute-residual        scratch_predict::.._luma_tb_..         predict-luma-scratch
+-- residual::reconstruct_into            reconstruct  The plan check, walk and replay, whose numbers carry a block, are in
+-- promises/specs/run_tables/TableWalk; the camera's entries and the two of gather that store rows in TableBytes there; what a
+-- refused call gives back is in Refused.
 use mathlib.Core.Path.{_≡_, refl, ap, subst}
 use mathlib.Core.Bool.{Bool, true, false, cond, _&&_, _||_, true≢false, false≢true}
 use mathlib.Core.List.{List, [], _∷_}
@@ -45,13 +43,15 @@ use Rattle.order.specs.declared.LumaBlock.{LumaBlock}
 use Rattle.order.specs.declared.ChromaBlock.{ChromaBlock}
 use Rattle.order.specs.declared.Reach.{Reach}
 use Rattle.order.specs.Order.{pictureOk, placeOk, orderNo, decodeOrder, isAvailable}
-use Rattle.order.specs.Reach.{inPlane, lumaPlaceOk, lumaReachNo, lumaReach, chromaHeight, chromaWidth, hasChroma, chromaPlaceOk, chromaReachNo, chromaReach}
+use Rattle.order.specs.Reach.{inPlane, lumaPlaceOk, lumaReachNo, lumaReach, chromaHeight, chromaWidth, hasChroma, chromaPlaceOk}
+use Rattle.order.specs.Reach.{chromaReachNo, chromaReach}
 use Rattle.domain.specs.declared.rows.Rows.{Rows}
 use Rattle.refs.specs.declared.substitution.Flags.{Flags}
 use Rattle.refs.specs.declared.LumaRefGeometry.{LumaRefGeometry}
 use Rattle.refs.specs.declared.ChromaRefGeometry.{ChromaRefGeometry}
 use Rattle.refs.specs.substitution.Door.{substituteNo, substituteRefs}
-use Rattle.refs.specs.Door.{lumaBlock, lumaNumber, lumaLength, lumaNo, getReferenceSamples, formatOf, chromaPicture, chromaBlock, chromaLength, chromaNumber, chromaNo, getReferenceSamplesChromaPair}
+use Rattle.refs.specs.Door.{lumaBlock, lumaNumber, lumaLength, lumaNo, getReferenceSamples, formatOf, chromaPicture, chromaBlock}
+use Rattle.refs.specs.Door.{chromaLength, chromaNumber, chromaNo, getReferenceSamplesChromaPair}
 use Rattle.refs.specs.Served.{gatherNo}
 use Rattle.camera.specs.gather.Door.{lumaBytesNo, lumaBytesDoor}
 use Rattle.smooth.specs.Smoothing as smoothing
@@ -60,7 +60,8 @@ use Rattle.predict.specs.refusals.Refusals.{flatNo, Lengths, lengths, isEnough,
 use Rattle.predict.specs.Lent.{withScratch}
 use Rattle.samples.specs.deltas.Deltas.{residualOk}
 use Rattle.residual.specs.Residual.{allInRange, residualNo, reconstructNo}
-use Rattle.promises.specs.tables.Exact.{Row, _when_, _or_, Exact, First, ExactFirst, Tells, exact-none, exact-row, exact-answer, first-exact, first-test, all-of, and-more, at-most, less, same, fact}
+use Rattle.promises.specs.tables.Exact.{Row, _when_, _or_, Exact, First, ExactFirst, Tells, exact-none, exact-row, exact-answer}
+use Rattle.promises.specs.tables.Exact.{first-exact, first-test, all-of, and-more, at-most, less, same, fact}
 
 -- number 4: a side or the CTU outside the domain
 abbrev pub BadPicture : Picture → Type 0
@@ -83,7 +84,8 @@ BadLuma b =
 -- number 6 of a chroma block, counted in chroma samples; the current place is a luma place. Above says that n is above the CTU.
 abbrev pub BadChroma : ChromaBlock → Type 0 → Type 0
 BadChroma b Above =
-    BadPlace (chromaHeight b) (chromaWidth b) (b .row .0) (b .col .0) (b .n) or Above or Outside (b .picture) (b .«cur_luma_row» .0) (b .«cur_luma_col» .0)
+    BadPlace (chromaHeight b) (chromaWidth b) (b .row .0) (b .col .0) (b .n) or Above or Outside (b .picture) (b .«cur_luma_row» .0)
+    (b .«cur_luma_col» .0)
 
 -- number 5 of a predictor: the rows, the block buffer, and the scratch
 abbrev pub Short : ℕ → Lengths → Type 0
@@ -113,7 +115,8 @@ pub picture : (p : Picture) → Tells (pictureOk p) (BadPicture p)
 picture p = all-of (all-of (side (p .width)) (side (p .height))) (ctu (p .ctu))
 
 pub placed : (height width row col n : ℕ) → Tells (inPlane height width row col n) (BadPlace height width row col n)
-placed height width row col n = all-of (all-of (all-of (same (row % n) 0) (same (col % n) 0)) (at-most (row + n) height)) (at-most (col + n) width)
+placed height width row col n = all-of (all-of (all-of (same (row % n) 0) (same (col % n) 0)) (at-most (row + n) height))
+    (at-most (col + n) width)
 
 outside : (p : Picture) (row col : ℕ) → Tells (placeOk p row col) (Outside p row col)
 outside p row col = all-of (all-of (unit (p .unit)) (less row (p .height))) (less col (p .width))
@@ -128,9 +131,11 @@ scratch t refs indices fractions = all-of (all-of (all-of t (at-most 193 refs)) 
 
 -- fmt
 pub depth-from : (bits : ℕ) → Exact (depthNumber (depthFrom bits)) ((1 when ¬ Depth bits) ∷ [])
-depth-from bits = subst (λ (k : ℕ). Exact k ((1 when ¬ Depth bits) ∷ [])) (go (eqb bits 8) (eqb bits 10) (eqb bits 12)) (exact-row (depth bits) refl (λ e. exact-none))
+depth-from bits = subst (λ (k : ℕ). Exact k ((1 when ¬ Depth bits) ∷ [])) (go (eqb bits 8) (eqb bits 10) (eqb bits 12))
+    (exact-row (depth bits) refl (λ e. exact-none))
   where
-    go : (a b c : Bool) → cond (a || b || c) 0 1 ≡ depthNumber (cond a (depths.Depth Eight) (cond b (depths.Depth Ten) (cond c (depths.Depth Twelve) Refused)))
+    go : (a b c : Bool) → cond (a || b || c) 0 1 ≡ depthNumber
+        (cond a (depths.Depth Eight) (cond b (depths.Depth Ten) (cond c (depths.Depth Twelve) Refused)))
     go true b c = refl
     go false true c = refl
     go false false true = refl
@@ -141,7 +146,13 @@ pub format-from : (idc : ℕ) → (formatFrom idc ≡ Unknown) ↔ (3 < idc)
 format-from idc = (λ e. go (leb idc 3) refl e, λ h. unknown (λ k l e. omega (arith, e)))
   where
     unknown : ((k : ℕ) → k ≤ 3 → ¬ (idc ≡ k)) → formatFrom idc ≡ Unknown
-    unknown h = simp (ne-eqb idc 0 (h 0 (omega arith)), ne-eqb idc 1 (h 1 (omega arith)), ne-eqb idc 2 (h 2 (omega arith)), ne-eqb idc 3 (h 3 (omega arith)))
+    unknown h = simp (
+      ne-eqb idc 0 (h 0 (omega arith)),
+      ne-eqb idc 1 (h 1 (omega arith)),
+      ne-eqb idc 2 (h 2 (omega arith)),
+      ne-eqb idc 3
+          (h 3 (omega arith)),
+    )
 
     named : (k : ℕ) → k ≤ 3 → ¬ (formatFrom k ≡ Unknown)
     named zero h e = let z : _≡_ {A = ℕ} 0 1 = cc in omega arith
@@ -160,7 +171,8 @@ module _ (p : Picture) (row : LumaRow) (col : LumaCol) where
   unfolding decodeOrder orderNo
   decode-order = exact-row (picture p) refl (λ e. exact-row (outside p (row .0) (col .0)) refl (λ e. exact-none))
 
-  pub is-available : (nb : LumaNeighbour) → Exact (isAvailable p nb row col .no) ((4 when BadPicture p) ∷ (6 when Outside p (row .0) (col .0)) ∷ [])
+  pub is-available : (nb : LumaNeighbour) → Exact (isAvailable p nb row col .no)
+      ((4 when BadPicture p) ∷ (6 when Outside p (row .0) (col .0)) ∷ [])
   unfolding isAvailable decodeOrder
   is-available nb = decode-order
 
@@ -168,13 +180,17 @@ module _ (p : Picture) (row : LumaRow) (col : LumaCol) where
 luma-place : (b : LumaBlock) → Tells (lumaPlaceOk b) (BadLuma b)
 luma-place b =
     let p = b .picture in
-    all-of (all-of (all-of (placed (p .height) (p .width) (b .row .0) (b .col .0) (b .n)) (at-most (b .n) (p .ctu))) (unit (p .unit))) (at-most (p .unit) (b .n))
+    all-of (all-of (all-of (placed (p .height) (p .width) (b .row .0) (b .col .0) (b .n)) (at-most (b .n) (p .ctu))) (unit (p .unit)))
+    (at-most (p .unit) (b .n))
 
-chroma-place : (b : ChromaBlock) {Above : Type 0} → Tells (leb (b .n) (b .picture .ctu / subWidth (b .format))) Above → Tells (chromaPlaceOk b) (BadChroma b Above)
+chroma-place : (b : ChromaBlock) {Above : Type 0} → Tells (leb (b .n) (b .picture .ctu / subWidth (b .format))) Above
+    → Tells (chromaPlaceOk b) (BadChroma b Above)
 chroma-place b t =
-    all-of (all-of (placed (chromaHeight b) (chromaWidth b) (b .row .0) (b .col .0) (b .n)) t) (outside (b .picture) (b .«cur_luma_row» .0) (b .«cur_luma_col» .0))
+    all-of (all-of (placed (chromaHeight b) (chromaWidth b) (b .row .0) (b .col .0) (b .n)) t)
+    (outside (b .picture) (b .«cur_luma_row» .0) (b .«cur_luma_col» .0))
 
-pub luma-reach : (b : LumaBlock) → Exact (lumaReach b .no) ((2 when ¬ Size (b .n)) ∷ (4 when BadPicture (b .picture)) ∷ (6 when BadLuma b) ∷ [])
+pub luma-reach : (b : LumaBlock) → Exact (lumaReach b .no)
+    ((2 when ¬ Size (b .n)) ∷ (4 when BadPicture (b .picture)) ∷ (6 when BadLuma b) ∷ [])
 unfolding lumaReach lumaReachNo
 luma-reach b =
     exact-answer (λ (r : Reach). r .no) _ _ refl refl
@@ -198,7 +214,8 @@ chroma-reach b =
     (λ e. exact-row (chroma-place b (at-most (b .n) (b .picture .ctu / subWidth (b .format)))) refl (λ e. exact-none))))
 
 -- refs
-pub substitute-refs : (rows : Rows) (flags : Flags) (n bits : ℕ) → Exact (substituteRefs rows flags n bits .no) ((1 when ¬ Depth bits) ∷ (2 when ¬ Size n) ∷ [])
+pub substitute-refs : (rows : Rows) (flags : Flags) (n bits : ℕ)
+    → Exact (substituteRefs rows flags n bits .no) ((1 when ¬ Depth bits) ∷ (2 when ¬ Size n) ∷ [])
 unfolding substituteRefs substituteNo
 substitute-refs rows flags n bits = exact-row (depth bits) refl (λ e. exact-row (size n) refl (λ e. exact-none))
 
@@ -222,7 +239,8 @@ gather-number bits k whole =
 -- the rows of a luma gather, where P says that the plane is not whole
 abbrev pub lumaTable : Type 0 → LumaRefGeometry → List (Row ℕ)
 lumaTable P g =
-    (1 when ¬ Depth (g .bits)) ∷ (2 when ¬ Size (g .n)) ∷ (4 when BadPicture (g .picture)) ∷ (5 when P) ∷ (6 when BadLuma (lumaBlock g)) ∷ []
+    (1 when ¬ Depth (g .bits)) ∷ (2 when ¬ Size (g .n)) ∷ (4 when BadPicture (g .picture)) ∷ (5 when P) ∷ (6 when BadLuma (lumaBlock g))
+    ∷ []
 
 pub luma-number : {whole : Bool} {P : Type 0} → Tells whole P → (g : LumaRefGeometry) → Exact (lumaNumber whole g) (lumaTable P g)
 luma-number t g =
@@ -230,7 +248,8 @@ luma-number t g =
     (λ e. exact-row (size (g .n)) refl
     (λ e. exact-row (picture (g .picture)) refl (λ e. exact-row t refl (λ e. exact-row (luma-place (lumaBlock g)) refl (λ e. exact-none)))))
 
-pub luma-gather : (plane : List ℕ) (g : LumaRefGeometry) → Exact (getReferenceSamples plane g .no) (lumaTable (¬ (length plane ≡ lumaLength g)) g)
+pub luma-gather : (plane : List ℕ) (g : LumaRefGeometry)
+    → Exact (getReferenceSamples plane g .no) (lumaTable (¬ (length plane ≡ lumaLength g)) g)
 unfolding getReferenceSamples lumaNo
 luma-gather plane g = luma-number (same (length plane) (lumaLength g)) g
 
@@ -251,7 +270,8 @@ in-64 n f s = record { passed = λ e h. omega (arith, size-small n s); failed = 
 -- the rows of a chroma gather, where P says that a plane is not whole
 abbrev pub chromaTable : Type 0 → ChromaRefGeometry → List (Row ℕ)
 chromaTable P g =
-    (1 when ¬ Depth (g .bits)) ∷ (2 when ¬ Size (g .n)) ∷ (4 when BadPicture (chromaPicture g) or g .format < 1 or 3 < g .format) ∷ (5 when P)
+    (1 when ¬ Depth (g .bits)) ∷ (2 when ¬ Size (g .n)) ∷ (4 when BadPicture (chromaPicture g) or g .format < 1 or 3 < g .format)
+    ∷ (5 when P)
     ∷ (6 when BadChroma (chromaBlock g) (64 < g .n)) ∷ []
 
 pub chroma-number : {whole : Bool} {P : Type 0} → Tells whole P → (g : ChromaRefGeometry) → Exact (chromaNumber whole g) (chromaTable P g)
@@ -263,7 +283,8 @@ chroma-number t g =
     (λ e. exact-row (chroma-place (chromaBlock g) (in-64 (g .n) (formatOf (g .format)) (size-of (g .n) s))) refl (λ e. exact-none)))))
 
 pub chroma-gather : (cb cr : List ℕ) (g : ChromaRefGeometry)
-    → Exact (getReferenceSamplesChromaPair cb cr g .no) (chromaTable ((¬ (length cb ≡ chromaLength g)) or (¬ (length cr ≡ chromaLength g))) g)
+    → Exact (getReferenceSamplesChromaPair cb cr g .no)
+    (chromaTable ((¬ (length cb ≡ chromaLength g)) or (¬ (length cr ≡ chromaLength g))) g)
 unfolding getReferenceSamplesChromaPair chromaNo
 chroma-gather cb cr g = chroma-number (all-of (same (length cb) (chromaLength g)) (same (length cr) (chromaLength g))) g
 
@@ -274,23 +295,28 @@ should-filter-refs mode n = exact-row (size n) refl (λ e. exact-row (at-most mo
 
 module _ (corner : ℕ) (above left : List ℕ) (n : ℕ) where
   rows-number : Exact (filterNo n (length above) (length left)) ((2 when ¬ Size n) ∷ (5 when length above < 65 or length left < 65) ∷ [])
-  rows-number = exact-row (size n) refl (λ e. exact-row (all-of (at-most 65 (length above)) (at-most 65 (length left))) refl (λ e. exact-none))
+  rows-number = exact-row (size n) refl (λ e. exact-row (all-of (at-most 65 (length above)) (at-most 65 (length left))) refl
+      (λ e. exact-none))
 
-  pub filter-references : Exact (filterReferences corner above left n .no) ((2 when ¬ Size n) ∷ (5 when length above < 65 or length left < 65) ∷ [])
+  pub filter-references : Exact (filterReferences corner above left n .no)
+      ((2 when ¬ Size n) ∷ (5 when length above < 65 or length left < 65) ∷ [])
   unfolding filterReferences
   filter-references = rows-number
 
   pub filter-luma-refs : (bits : ℕ)
-      → Exact (smoothing.filterLumaRefs true corner above left n bits .no) ((1 when ¬ Depth bits) ∷ (2 when ¬ Size n) ∷ (5 when length above < 65 or length left < 65) ∷ [])
+      → Exact (smoothing.filterLumaRefs true corner above left n bits .no)
+      ((1 when ¬ Depth bits) ∷ (2 when ¬ Size n) ∷ (5 when length above < 65 or length left < 65) ∷ [])
   unfolding smoothing.filterLumaRefs
   filter-luma-refs bits = exact-row (depth bits) refl (λ e. rows-number)
 
 -- flat, angular, predict
 pub predict-flat : (n : ℕ) (above left pred : List ℕ)
-    → Exact (flatNo n (length above) (length left) (length pred)) ((2 when ¬ Size n) ∷ (5 when length above < 65 or length left < 65 or length pred < n * n) ∷ [])
+    → Exact (flatNo n (length above) (length left) (length pred))
+    ((2 when ¬ Size n) ∷ (5 when length above < 65 or length left < 65 or length pred < n * n) ∷ [])
 unfolding flatNo
 predict-flat n above left pred =
-    exact-row (size n) refl (λ e. exact-row (all-of (all-of (at-most 65 (length above)) (at-most 65 (length left))) (at-most (n * n) (length pred))) refl (λ e. exact-none))
+    exact-row (size n) refl (λ e. exact-row (all-of (all-of (at-most 65 (length above)) (at-most 65 (length left)))
+    (at-most (n * n) (length pred))) refl (λ e. exact-none))
 
 module _ (bits n mode : ℕ) where
   -- the rows of an angular call, and of one that takes every mode, where P says that something lent is short
@@ -303,10 +329,12 @@ module _ (bits n mode : ℕ) where
   angular-number : {P : Type 0} (l : Lengths) → Tells (isEnough n l) P → Exact (angularNo bits n mode l) (angularTable P)
   angular-number l t =
       exact-row (depth bits) refl
-      (λ e. exact-row (size n) refl (λ e. exact-row (all-of (at-most 2 mode) (at-most mode 34)) refl (λ e. exact-row t refl (λ e. exact-none))))
+      (λ e. exact-row (size n) refl (λ e. exact-row (all-of (at-most 2 mode) (at-most mode 34)) refl
+      (λ e. exact-row t refl (λ e. exact-none))))
 
   predict-number : {P : Type 0} (l : Lengths) → Tells (isEnough n l) P → Exact (predictNo bits n mode l) (predictTable P)
-  predict-number l t = exact-row (depth bits) refl (λ e. exact-row (size n) refl (λ e. exact-row (at-most mode 34) refl (λ e. exact-row t refl (λ e. exact-none))))
+  predict-number l t = exact-row (depth bits) refl
+      (λ e. exact-row (size n) refl (λ e. exact-row (at-most mode 34) refl (λ e. exact-row t refl (λ e. exact-none))))
 
   rows-short : (above left pred : ℕ) → Tells (leb 65 above && leb 65 left && leb (n * n) pred) (above < 65 or left < 65 or pred < n * n)
   rows-short above left pred = all-of (all-of (at-most 65 above) (at-most 65 left)) (at-most (n * n) pred)
@@ -324,14 +352,19 @@ module _ (bits n mode : ℕ) where
   pub predict-luma : (pred refs indices fractions : ℕ)
       → Exact (predictNo bits n mode (lengths 65 65 pred refs indices fractions))
       (predictTable (pred < n * n or refs < 193 or indices < 32 or fractions < 32))
-  predict-luma pred refs indices fractions = predict-number (lengths 65 65 pred refs indices fractions) (scratch (at-most (n * n) pred) refs indices fractions)
+  predict-luma pred refs indices fractions = predict-number (lengths 65 65 pred refs indices fractions)
+      (scratch (at-most (n * n) pred) refs indices fractions)
 
   -- the tables in a struct, or made by the call: they are never short
-  pub predict-angular-scratch : (above left pred : ℕ) → Exact (angularNo bits n mode (withScratch above left pred)) (angularTable (above < 65 or left < 65 or pred < n * n))
-  predict-angular-scratch above left pred = angular-number (withScratch above left pred) (and-more (and-more (and-more (rows-short above left pred))))
+  pub predict-angular-scratch : (above left pred : ℕ)
+      → Exact (angularNo bits n mode (withScratch above left pred)) (angularTable (above < 65 or left < 65 or pred < n * n))
+  predict-angular-scratch above left pred = angular-number (withScratch above left pred)
+      (and-more (and-more (and-more (rows-short above left pred))))
 
-  pub predict-chroma-scratch : (above left pred : ℕ) → Exact (predictNo bits n mode (withScratch above left pred)) (predictTable (above < 65 or left < 65 or pred < n * n))
-  predict-chroma-scratch above left pred = predict-number (withScratch above left pred) (and-more (and-more (and-more (rows-short above left pred))))
+  pub predict-chroma-scratch : (above left pred : ℕ)
+      → Exact (predictNo bits n mode (withScratch above left pred)) (predictTable (above < 65 or left < 65 or pred < n * n))
+  predict-chroma-scratch above left pred = predict-number (withScratch above left pred)
+      (and-more (and-more (and-more (rows-short above left pred))))
 
   pub predict-luma-scratch : (pred : ℕ) → Exact (predictNo bits n mode (withScratch 65 65 pred)) (predictTable (pred < n * n))
   predict-luma-scratch pred = predict-number (withScratch 65 65 pred) (and-more (and-more (and-more (at-most (n * n) pred))))
@@ -344,7 +377,8 @@ pub compute-residual : (n : ℕ) (orig pred : List ℕ) (residual : List ℤ)
     → Exact (residualNo n (length orig) (length pred) (length residual))
     ((2 when ¬ Size n) ∷ (5 when length orig < n * n or length pred < n * n or length residual < n * n) ∷ [])
 unfolding residualNo
-compute-residual n orig pred residual = exact-row (size n) refl (λ e. exact-row (buffers n (length orig) (length pred) (length residual)) refl (λ e. exact-none))
+compute-residual n orig pred residual = exact-row (size n) refl
+    (λ e. exact-row (buffers n (length orig) (length pred) (length residual)) refl (λ e. exact-none))
 
 one-in : (r : ℤ) → Tells (residualOk r) (65535 < natAbs r)
 one-in r = at-most (natAbs r) 65535
@@ -357,7 +391,8 @@ all-in residual (suc k) =
     record {
       passed = λ e h.
           t .passed e
-          (⊎-elim (λ q. inr (subst (λ (i : ℕ). 65535 < natAbs (getD residual i (pos 0))) q (h .1 .1))) (λ l. inl (h .0, (l, h .1 .1))) (eq-or-lt-of-le (le-of-suc-le-suc (h .1 .0))));
+          (⊎-elim (λ q. inr (subst (λ (i : ℕ). 65535 < natAbs (getD residual i (pos 0))) q (h .1 .1))) (λ l. inl (h .0, (l, h .1 .1)))
+          (eq-or-lt-of-le (le-of-suc-le-suc (h .1 .0))));
       failed = λ e. ⊎-elim (λ h. (h .0, (omega (arith, h .1 .0), h .1 .1))) (λ h. (k, (omega arith, h))) (t .failed e);
     }
 
@@ -369,4 +404,5 @@ unfolding reconstructNo
 reconstruct bits n pred residual out =
     exact-row (depth bits) refl
     (λ e. exact-row (size n) refl
-    (λ e. exact-row (buffers n (length pred) (length residual) (length out)) refl (λ e. exact-row (all-in residual (n * n)) refl (λ e. exact-none))))
+    (λ e. exact-row (buffers n (length pred) (length residual) (length out)) refl
+    (λ e. exact-row (all-in residual (n * n)) refl (λ e. exact-none))))

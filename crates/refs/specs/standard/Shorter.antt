@@ -21,7 +21,8 @@ unfolding firstMarked
 found-marked a k zero h = absurd (omega arith)
 found-marked a k (suc m) h = go (a k) refl h (found-marked a (suc k) m)
   where
-    go : (b : Bool) → a k ≡ b → cond b k (firstMarked a (suc k) m) < k + suc m → (firstMarked a (suc k) m < suc k + m → a (firstMarked a (suc k) m) ≡ true)
+    go : (b : Bool) → a k ≡ b → cond b k (firstMarked a (suc k) m) < k + suc m
+        → (firstMarked a (suc k) m < suc k + m → a (firstMarked a (suc k) m) ≡ true)
         → a (cond b k (firstMarked a (suc k) m)) ≡ true
     go true e l ih = e
     go false e l ih = ih (omega arith)
@@ -31,7 +32,8 @@ unfolding firstMarked
 before-found a k zero q h l = absurd (omega arith)
 before-found a k (suc m) q h l = go (a k) refl l (before-found a (suc k) m q) (ℕ-discrete k q)
   where
-    go : (b : Bool) → a k ≡ b → q < cond b k (firstMarked a (suc k) m) → (suc k ≤ q → q < firstMarked a (suc k) m → a q ≡ false) → Dec (k ≡ q) → a q ≡ false
+    go : (b : Bool) → a k ≡ b → q < cond b k (firstMarked a (suc k) m) → (suc k ≤ q → q < firstMarked a (suc k) m → a q ≡ false)
+        → Dec (k ≡ q) → a q ≡ false
     go true e r ih _ = absurd (omega arith)
     go false e r ih (yes s) = ap a (sym s) ∙ e
     go false e r ih (no n) = ih (omega arith) r
@@ -115,7 +117,8 @@ module _ {a b : ℕ → Bool} {v w : ℕ → ℕ} {t : ℕ} (s : Shared a b v w 
       → cond (ltb long (suc (suc t))) (settled a v long (suc k)) neutral ≡ cond (ltb short t) (settled b w short k) neutral
   shorter neutral k l = go (decLt short t)
     where
-      go : Dec (short < t) → cond (ltb long (suc (suc t))) (settled a v long (suc k)) neutral ≡ cond (ltb short t) (settled b w short k) neutral
+      go : Dec (short < t) → cond (ltb long (suc (suc t))) (settled a v long (suc k)) neutral
+          ≡ cond (ltb short t) (settled b w short k) neutral
       go (yes h) = simp (lt-ltb short t h, lt-ltb long (suc (suc t)) (long-found h)) (same-settled h k l)
       go (no n) = simp (le-ltb short t (omega arith), le-ltb long (suc (suc t)) (none (decLt long (suc (suc t)))))
         where

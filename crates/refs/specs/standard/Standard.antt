@@ -63,7 +63,8 @@ on-line f n l c u hl hc hu k h = go (decLt k (2 * n)) (ℕ-discrete k (2 * n))
     go (yes p) _ =
         simp (le-leb k (2 * n) (omega arith), lt-ltb k (2 * n) p)
         (on-left l c u (2 * n) (suc k) (2 * n - 1 - k) (omega arith) ∙ hl (2 * n - 1 - k) (omega arith))
-    go (no p) (yes q) = simp (le-leb k (2 * n) (omega arith), le-ltb k (2 * n) (omega arith)) (on-corner l c u (2 * n) (suc k) (omega arith) ∙ hc)
+    go (no p) (yes q) = simp (le-leb k (2 * n) (omega arith), le-ltb k (2 * n) (omega arith))
+        (on-corner l c u (2 * n) (suc k) (omega arith) ∙ hc)
     go (no p) (no q) =
         simp (lt-leb k (2 * n) (omega arith), le-ltb k (2 * n) (omega arith))
         (on-above l c u (2 * n) (suc k) (k - (2 * n + 1)) (omega arith) ∙ hu (k - (2 * n + 1)) (omega arith))
@@ -83,7 +84,12 @@ rows-at true n neutral f {rows} h full =
       left = λ i l. fill-at _ (2 * n + 1) (rows .left) i 0 (omega arith) (omega arith) ∙ ap f (omega arith);
     }
 rows-at false n neutral f h full =
-    record { corner = refl; above = λ i l. getD-replicate 65 i neutral 0 (omega arith); left = λ i l. getD-replicate 65 i neutral 0 (omega arith) }
+    record {
+      corner = refl;
+      above = λ i l. getD-replicate 65 i neutral 0 (omega arith);
+      left = λ i l. getD-replicate 65 i neutral 0
+          (omega arith);
+    }
 
 -- Substitution, by any rows and flags: entry 2n of a row is there only if entry 2n - 1 is.
 pub record Closed (n : ℕ) (flags : Flags) : Type 0 where
@@ -106,7 +112,8 @@ module _ (n : ℕ) (flags : Flags) (rows : Rows) (size : (4 ≤ n) × (n ≤ 32)
         low = λ h.
             on-left l c u e 1 (e - 1) (omega arith) ∙ closed .left (sym (on-left l c u e 0 e (omega arith)) ∙ h);
         high = λ h.
-            on-above l c u e (4 * n + 1) (e - 1) (omega arith) ∙ closed .above (sym (on-above l c u e (suc (4 * n + 1)) e (omega arith)) ∙ h);
+            on-above l c u e (4 * n + 1) (e - 1) (omega arith)
+            ∙ closed .above (sym (on-above l c u e (suc (4 * n + 1)) e (omega arith)) ∙ h);
       }
 
   -- the corner and entries 0 to 2n - 1 are those of 8.4.4.2.2, over any line that has the same places marked and the same samples there
@@ -200,12 +207,15 @@ pub record GatherPlaced (p : Picture) (row : LumaRow) (col : LumaCol) (n : ℕ) 
 
 module _ {p : Picture} {row : LumaRow} {col : LumaCol} {n : ℕ} (placed : GatherPlaced p row col n) where
   -- 6.4.1 is 01's availability above the block and left of it
-  available-is : (r c : ℤ) → ((nr nc : ℕ) → r ≡ pos nr → c ≡ pos nc → (nr < row .0) ⊎ (nc < col .0)) → available (gridOf p) (col .0) (row .0) c r ≡ availableTo p row col r c
+  available-is : (r c : ℤ) → ((nr nc : ℕ) → r ≡ pos nr → c ≡ pos nc → (nr < row .0) ⊎ (nc < col .0))
+      → available (gridOf p) (col .0) (row .0) c r ≡ availableTo p row col r c
   unfolding available before
   available-is (pos nr) (pos nc) near = go (decLt nc (p .width))
     where
       go : Dec (nc < p .width) → available (gridOf p) (col .0) (row .0) (pos nc) (pos nr) ≡ availableTo p row col (pos nr) (pos nc)
-      go (yes l) = standard-agrees (placed .good) row col nr nc (own-cell-apart (placed .good) (row .0) (col .0) nr nc (placed .row-at) (placed .col-at) (placed .inside) l (near nr nc refl refl))
+      go (yes l) = standard-agrees (placed .good) row col nr nc
+          (own-cell-apart (placed .good) (row .0) (col .0) nr nc (placed .row-at) (placed .col-at) (placed .inside) l
+          (near nr nc refl refl))
       go (no n) = simp (le-ltb nc (p .width) (omega arith)) (never (ltb nr (p .height)))
         where
           never : (b : Bool) → false ≡ b && false && ltb (numberAt p nr nc) (numberAt p (row .0) (col .0))
@@ -237,7 +247,8 @@ module _ {p : Picture} {row : LumaRow} {col : LumaCol} {n : ℕ} (placed : Gathe
 
     mark-is : (x y : ℤ) → (y ≡ negsuc 0) ⊎ (x ≡ negsuc 0) → has (pos (row .0) +ℤ y) (pos (col .0) +ℤ x) ≡ mark x y
     unfolding marked
-    mark-is x y off = sym (available-is (pos (row .0) +ℤ y) (pos (col .0) +ℤ x) near) ∙ at-one (col .0) (row .0) (pos (col .0) +ℤ x) (pos (row .0) +ℤ y)
+    mark-is x y off = sym (available-is (pos (row .0) +ℤ y) (pos (col .0) +ℤ x) near)
+        ∙ at-one (col .0) (row .0) (pos (col .0) +ℤ x) (pos (row .0) +ℤ y)
       where
         near : (nr nc : ℕ) → pos (row .0) +ℤ y ≡ pos nr → pos (col .0) +ℤ x ≡ pos nc → (nr < row .0) ⊎ (nc < col .0)
         near nr nc hr hc =
@@ -260,15 +271,19 @@ module _ {p : Picture} {row : LumaRow} {col : LumaCol} {n : ℕ} (placed : Gathe
     read-is x y r c off hr hc =
         let R = pos (row .0) +ℤ y in
         let C = pos (col .0) +ℤ x in
-        if-there (has R C) (sample r c) (read x y) (λ e. let t = there p (numberAt p (row .0) (col .0)) R C e in ap₂ sample (hr (t .0)) (hc (t .1)))
+        if-there (has R C) (sample r c) (read x y) (λ e. let t = there p (numberAt p (row .0) (col .0)) R C e in ap₂ sample (hr (t .0))
+        (hc (t .1)))
         ∙ ap (λ (b : Bool). cond b (read x y) 0) (mark-is x y off)
 
-    read-at : (k : ℕ) → k < 4 * n + 1 → samplesOn rows (2 * n) (suc k) ≡ cond (mark (placeX n k) (placeY n k)) (read (placeX n k) (placeY n k)) 0
+    read-at : (k : ℕ) → k < 4 * n + 1 → samplesOn rows (2 * n) (suc k)
+        ≡ cond (mark (placeX n k) (placeY n k)) (read (placeX n k) (placeY n k)) 0
     read-at =
         on-line (λ (x y : ℤ). cond (mark x y) (read x y) 0) n _ _ _
-        (λ i l. filled _ 0 n i (placed .size .1) (omega arith) ∙ read-is (negsuc 0) (pos i) (row .0 + i) (col .0 - 1) (inr refl) (λ e. refl) (back (col .0)))
+        (λ i l. filled _ 0 n i (placed .size .1) (omega arith)
+        ∙ read-is (negsuc 0) (pos i) (row .0 + i) (col .0 - 1) (inr refl) (λ e. refl) (back (col .0)))
         (read-is (negsuc 0) (negsuc 0) (row .0 - 1) (col .0 - 1) (inl refl) (back (row .0)) (back (col .0)))
-        (λ i l. filled _ 0 n i (placed .size .1) (omega arith) ∙ read-is (pos i) (negsuc 0) (row .0 - 1) (col .0 + i) (inl refl) (back (row .0)) (λ e. refl))
+        (λ i l. filled _ 0 n i (placed .size .1) (omega arith)
+        ∙ read-is (pos i) (negsuc 0) (row .0 - 1) (col .0 + i) (inl refl) (back (row .0)) (λ e. refl))
 
     closed : Closed n flags
     closed =
@@ -276,17 +291,20 @@ module _ {p : Picture} {row : LumaRow} {col : LumaCol} {n : ℕ} (placed : Gathe
         record {
           above = λ e.
               filled _ false n (2 * n - 1) (placed .size .1) (omega arith)
-              ∙ has-back (placed .good) cur (pos (row .0) -ℤ pos 1) (col .0 + (2 * n - 1)) (col .0 + 2 * n) (omega arith) (sym (filled _ false n (2 * n) (placed .size .1) (omega arith)) ∙ e);
+              ∙ has-back (placed .good) cur (pos (row .0) -ℤ pos 1) (col .0 + (2 * n - 1)) (col .0 + 2 * n) (omega arith)
+              (sym (filled _ false n (2 * n) (placed .size .1) (omega arith)) ∙ e);
           left = λ e.
               filled _ false n (2 * n - 1) (placed .size .1) (omega arith)
-              ∙ has-up (placed .good) cur (row .0 + (2 * n - 1)) (row .0 + 2 * n) (pos (col .0) -ℤ pos 1) (omega arith) (sym (filled _ false n (2 * n) (placed .size .1) (omega arith)) ∙ e);
+              ∙ has-up (placed .good) cur (row .0 + (2 * n - 1)) (row .0 + 2 * n) (pos (col .0) -ℤ pos 1) (omega arith)
+              (sym (filled _ false n (2 * n) (placed .size .1) (omega arith)) ∙ e);
         }
 
     gathered-standard : Agree n (neighboursOf (gatheredBy has sample (row .0) (col .0) n (neutralAt bits)))
         (neighbours (gridOf p) (lumaAt bits) n (col .0) (row .0) (λ x y. sample y x))
     unfolding gatheredBy neighbours
     gathered-standard =
-        substituted-standard n flags rows (placed .size) (record { above = filled-length _ (2 * n + 1); left = filled-length _ (2 * n + 1) }) closed bits _ _ mark-at
+        substituted-standard n flags rows (placed .size)
+        (record { above = filled-length _ (2 * n + 1); left = filled-length _ (2 * n + 1) }) closed bits _ _ mark-at
         (λ k l e. sym (read-at k l ∙ ap (λ (b : Bool). cond b (read (placeX n k) (placeY n k)) 0) e))
 
 -- a multiple of the block's side is one of the unit
@@ -327,7 +345,12 @@ placed-of len g e =
     let room = size-small (g .n) side in
     let l = leb-true (p .unit) (g .n) (small .1) in
     record {
-      good = record { wide = side-of (p .width) (sides .0); tall = side-of (p .height) (sides .1); ctus = ctu-of (p .ctu) (ctus .1); units = unit };
+      good = record {
+        wide = side-of (p .width) (sides .0);
+        tall = side-of (p .height) (sides .1);
+        ctus = ctu-of (p .ctu) (ctus .1);
+        units = unit;
+      };
       size = room;
       row-at = aligned (p .unit) (g .n) row unit side l (eqb-true (row % g .n) 0 (at .0));
       col-at = aligned (p .unit) (g .n) col unit side l (eqb-true (col % g .n) 0 (at .1));
@@ -337,6 +360,7 @@ placed-of len g e =
 -- the luma gather gives the neighbours of 6.4.1 and 8.4.4.2.2
 pub luma-standard : (plane : List ℕ) (g : LumaRefGeometry) → lumaNo (length plane) g ≡ 0
     → Agree (g .n) (neighboursOf (lumaRows plane g))
-    (neighbours (gridOf (g .picture)) (lumaAt (g .bits)) (g .n) (g .«block_col» .0) (g .«block_row» .0) (λ x y. sampleOf plane (g .picture .width) y x))
+    (neighbours (gridOf (g .picture)) (lumaAt (g .bits)) (g .n) (g .«block_col» .0) (g .«block_row» .0)
+    (λ x y. sampleOf plane (g .picture .width) y x))
 unfolding lumaRows
 luma-standard plane g e = gathered-standard (placed-of (length plane) g e) (g .bits) (sampleOf plane (g .picture .width))

@@ -33,8 +33,10 @@ module _ {has : ℤ → ℤ → Bool} (off : Bounded has) (s t : ℕ → ℕ →
       λ i.
       record {
         corner = same-at (pos row -ℤ pos 1) (pos col -ℤ pos 1) (row - 1) (col - 1) (back row) (back col) i;
-        above = fill-same _ _ (2 * n + 1) (replicate 65 0) (λ j l. same-at (pos row -ℤ pos 1) (pos (col + j)) (row - 1) (col + j) (back row) (inl refl)) i;
-        left = fill-same _ _ (2 * n + 1) (replicate 65 0) (λ j l. same-at (pos (row + j)) (pos col -ℤ pos 1) (row + j) (col - 1) (inl refl) (back col)) i;
+        above = fill-same _ _ (2 * n + 1) (replicate 65 0)
+            (λ j l. same-at (pos row -ℤ pos 1) (pos (col + j)) (row - 1) (col + j) (back row) (inl refl)) i;
+        left = fill-same _ _ (2 * n + 1) (replicate 65 0)
+            (λ j l. same-at (pos (row + j)) (pos col -ℤ pos 1) (row + j) (col - 1) (inl refl) (back col)) i;
       }
 
   pub unread : (neutral : ℕ) → gatheredBy has s row col n neutral ≡ gatheredBy has t row col n neutral
@@ -42,15 +44,18 @@ module _ {has : ℤ → ℤ → Bool} (off : Bounded has) (s t : ℕ → ℕ →
   unread neutral = ap (substituted n neutral (flagsBy has row col n)) same-samples
 
 -- so for luma, and for each plane of chroma
-pub luma-unread : (g : LumaRefGeometry) (p q : List ℕ) → AgreeWhere (lumaHas (lumaBlock g)) (sampleOf p (g .picture .width)) (sampleOf q (g .picture .width))
+pub luma-unread : (g : LumaRefGeometry) (p q : List ℕ)
+    → AgreeWhere (lumaHas (lumaBlock g)) (sampleOf p (g .picture .width)) (sampleOf q (g .picture .width))
     → lumaRows p g ≡ lumaRows q g
 unfolding lumaRows
 luma-unread g p q agree =
-    unread (luma-off (lumaBlock g)) (sampleOf p (g .picture .width)) (sampleOf q (g .picture .width)) agree (g .«block_row» .0) (g .«block_col» .0) (g .n) (neutralAt (g .bits))
+    unread (luma-off (lumaBlock g)) (sampleOf p (g .picture .width)) (sampleOf q (g .picture .width)) agree (g .«block_row» .0)
+    (g .«block_col» .0) (g .n) (neutralAt (g .bits))
 
 pub chroma-unread : (g : ChromaRefGeometry) (p q : List ℕ)
     → AgreeWhere (chromaHas (chromaBlock g)) (sampleOf p (chromaWidth (chromaBlock g))) (sampleOf q (chromaWidth (chromaBlock g)))
     → chromaRows p g ≡ chromaRows q g
 unfolding chromaRows
 chroma-unread g p q agree =
-    unread (chroma-off (chromaBlock g)) (sampleOf p (chromaWidth (chromaBlock g))) (sampleOf q (chromaWidth (chromaBlock g))) agree (g .«block_row» .0) (g .«block_col» .0) (g .n) (neutralAt (g .bits))
+    unread (chroma-off (chromaBlock g)) (sampleOf p (chromaWidth (chromaBlock g))) (sampleOf q (chromaWidth (chromaBlock g))) agree
+    (g .«block_row» .0) (g .«block_col» .0) (g .n) (neutralAt (g .bits))

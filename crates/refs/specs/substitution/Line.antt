@@ -61,7 +61,8 @@ first-none marked k (suc m) none =
 pub first-here : (marked : ℕ → Bool) (p t : ℕ) → p < t → marked p ≡ true → firstMarked marked p (t - p) ≡ p
 first-here marked p t h here = first-at marked p (t - p) p (omega arith) (omega arith) (λ j a b. absurd (omega arith)) here
 
-pub first-skip : (marked : ℕ → Bool) (p t : ℕ) → p < t → marked p ≡ false → firstMarked marked p (t - p) ≡ firstMarked marked (p + 1) (t - (p + 1))
+pub first-skip : (marked : ℕ → Bool) (p t : ℕ) → p < t → marked p ≡ false → firstMarked marked p (t - p)
+    ≡ firstMarked marked (p + 1) (t - (p + 1))
 unfolding firstMarked
 first-skip marked p t h gone =
     let u : t - p ≡ suc (t - (p + 1)) = omega arith in
@@ -96,7 +97,8 @@ module _ (marked : ℕ → Bool) (value : ℕ → ℕ) (found : ℕ) where
       at zero = unfold settled in unfold carriedTo in own (marked 0)
       at (suc k) = unfold settled in unfold carriedTo in refl
 
-  pub carried-next : (p : ℕ) {there : Bool} {v carried next : ℕ} → there ≡ marked p → v ≡ value p → carried ≡ carriedTo marked value found p → next ≡ cond there v carried
+  pub carried-next : (p : ℕ) {there : Bool} {v carried next : ℕ} → there ≡ marked p → v ≡ value p → carried
+      ≡ carriedTo marked value found p → next ≡ cond there v carried
       → next ≡ carriedTo marked value found (p + 1)
   carried-next p a b c e = e ∙ (λ i. cond (a i) (b i) (c i)) ∙ carried-past p
 
@@ -158,21 +160,25 @@ module _ {e l a : ℕ} {corner : Bool} {left above : ℕ → ℕ} {c : ℕ} {mar
     settled-left f (suc k) h =
         ⊎-elim
         (λ m. simp (line .left-marked (suc k) h ∙ lt-ltb (e - suc k) l m, lt-ltb (e - suc k) l m) (line .left-value (suc k) h m))
-        (λ m. simp (line .left-marked (suc k) h ∙ le-ltb (e - suc k) l m, le-ltb (e - suc k) l m) (settled-left f k (omega arith) ∙ simp (le-ltb (e - k) l (omega arith))))
+        (λ m. simp (line .left-marked (suc k) h ∙ le-ltb (e - suc k) l m, le-ltb (e - suc k) l m)
+        (settled-left f k (omega arith) ∙ simp (le-ltb (e - k) l (omega arith))))
         (order (e - suc k) l)
 
     there : (f k p : ℕ) → p ≡ suc k → marked p ≡ true → settled marked value f p ≡ value p
     unfolding settled
-    there f k p q t = ap (settled marked value f) q ∙ ap (λ (b : Bool). cond b (value (suc k)) (settled marked value f k)) (ap marked (sym q) ∙ t) ∙ ap value (sym q)
+    there f k p q t = ap (settled marked value f) q
+        ∙ ap (λ (b : Bool). cond b (value (suc k)) (settled marked value f k)) (ap marked (sym q) ∙ t) ∙ ap value (sym q)
 
     gap : (f k p : ℕ) → p ≡ suc k → marked p ≡ false → settled marked value f p ≡ settled marked value f k
     unfolding settled
-    gap f k p q t = ap (settled marked value f) q ∙ ap (λ (b : Bool). cond b (value (suc k)) (settled marked value f k)) (ap marked (sym q) ∙ t)
+    gap f k p q t = ap (settled marked value f) q ∙ ap (λ (b : Bool). cond b (value (suc k)) (settled marked value f k))
+        (ap marked (sym q) ∙ t)
 
     pub settled-corner : (f : ℕ) → settled marked value f (e + 1) ≡ cornerBy corner l left c (value f)
     settled-corner f =
         ⊎-elim (λ t. there f e (e + 1) (add-one e) (line .corner-marked ∙ t) ∙ line .corner-value t ∙ simp t)
-        (λ t. gap f e (e + 1) (add-one e) (line .corner-marked ∙ t) ∙ settled-left f e (omega arith) ∙ ap (leftBy l left (value f)) (let q : e - e ≡ 0 = omega arith in q) ∙ simp t)
+        (λ t. gap f e (e + 1) (add-one e) (line .corner-marked ∙ t) ∙ settled-left f e (omega arith)
+        ∙ ap (leftBy l left (value f)) (let q : e - e ≡ 0 = omega arith in q) ∙ simp t)
         (told corner)
 
     abbrev rest : ℕ → ℕ
@@ -190,8 +196,10 @@ module _ {e l a : ℕ} {corner : Bool} {left above : ℕ → ℕ} {c : ℕ} {mar
     settled-above f (suc i) h =
         let s : e + 2 + suc i ≡ suc (e + 2 + i) = omega arith in
         ⊎-elim
-        (λ t. there f (e + 2 + i) (e + 2 + suc i) s (line .above-marked (suc i) h ∙ lt-ltb (suc i) a t) ∙ line .above-value (suc i) h t ∙ simp (lt-ltb (suc i) a t))
-        (λ t. gap f (e + 2 + i) (e + 2 + suc i) s (line .above-marked (suc i) h ∙ le-ltb (suc i) a t) ∙ settled-above f i (omega arith) ∙ last f i t ∙ simp (le-ltb (suc i) a t))
+        (λ t. there f (e + 2 + i) (e + 2 + suc i) s (line .above-marked (suc i) h ∙ lt-ltb (suc i) a t) ∙ line .above-value (suc i) h t
+        ∙ simp (lt-ltb (suc i) a t))
+        (λ t. gap f (e + 2 + i) (e + 2 + suc i) s (line .above-marked (suc i) h ∙ le-ltb (suc i) a t) ∙ settled-above f i (omega arith)
+        ∙ last f i t ∙ simp (le-ltb (suc i) a t))
         (order (suc i) a)
 
     -- the search finds the first, or nothing
@@ -203,12 +211,14 @@ module _ {e l a : ℕ} {corner : Bool} {left above : ℕ → ℕ} {c : ℕ} {mar
 
     missing-corner : l ≤ 0 → corner ≡ false → (j : ℕ) → j ≤ e + 1 → marked j ≡ false
     missing-corner h t j m =
-        ⊎-elim (λ s. missing-left h j (omega arith)) (λ s. let q : j ≡ e + 1 = omega arith in ap marked q ∙ line .corner-marked ∙ t) (order j (e + 1))
+        ⊎-elim (λ s. missing-left h j (omega arith)) (λ s. let q : j ≡ e + 1 = omega arith in ap marked q ∙ line .corner-marked ∙ t)
+        (order j (e + 1))
 
     missing-all : l ≤ 0 → corner ≡ false → a ≤ 0 → (j : ℕ) → j < 2 * e + 3 → marked j ≡ false
     missing-all h t z j m =
         ⊎-elim (λ s. missing-corner h t j (omega arith))
-        (λ s. let q : j ≡ e + 2 + (j - (e + 2)) = omega arith in ap marked q ∙ line .above-marked (j - (e + 2)) (omega arith) ∙ le-ltb (j - (e + 2)) a (omega arith))
+        (λ s. let q : j ≡ e + 2 + (j - (e + 2)) = omega arith in ap marked q ∙ line .above-marked (j - (e + 2)) (omega arith)
+        ∙ le-ltb (j - (e + 2)) a (omega arith))
         (order j (e + 2))
 
     -- it is at place f, whose sample is the start
@@ -234,7 +244,8 @@ module _ {e l a : ℕ} {corner : Bool} {left above : ℕ → ℕ} {c : ℕ} {mar
 
     from-above : l ≤ 0 → corner ≡ false → 0 < a → At (above 0)
     from-above h t m =
-        at (e + 2 + 0) (above 0) (omega arith) (λ j s. missing-corner h t j (omega arith)) (line .above-marked 0 (omega arith) ∙ lt-ltb 0 a m)
+        at (e + 2 + 0) (above 0) (omega arith) (λ j s. missing-corner h t j (omega arith))
+        (line .above-marked 0 (omega arith) ∙ lt-ltb 0 a m)
         (line .above-value 0 (omega arith) m)
 
     pub starts : anyBy corner a l ≡ true → (found < 2 * e + 3) × (value found ≡ startBy corner l left c above)
@@ -242,7 +253,11 @@ module _ {e l a : ℕ} {corner : Bool} {left above : ℕ → ℕ} {c : ℕ} {mar
     starts any =
         ⊎-elim (λ h. let f = from-left h in (f .0, f .1 ∙ simp (lt-ltb 0 l h)))
         (λ h.
-        ⊎-elim (λ t. let f = from-corner h t in (f .0, f .1 ∙ ap₂ (λ (x y : Bool). cond x (left (l - 1)) (cond y c (above 0))) (sym (le-ltb 0 l h)) (sym t)))
+        ⊎-elim (λ t. let f = from-corner h t in (
+          f .0,
+          f .1
+              ∙ ap₂ (λ (x y : Bool). cond x (left (l - 1)) (cond y c (above 0))) (sym (le-ltb 0 l h)) (sym t),
+        ))
         (λ t.
         let m = ltb-true 0 a (sym (ap₂ (λ (x y : Bool). x || y || ltb 0 a) (le-ltb 0 l h) t) ∙ any) in
         let f = from-above h t m in
@@ -256,7 +271,8 @@ module _ {e l a : ℕ} {corner : Bool} {left above : ℕ → ℕ} {c : ℕ} {mar
         found-none marked (2 * e + 3) (missing-all (ltb-false 0 l (p .0)) (p .1) (ltb-false 0 a (p .2)))
 
 -- Substitution, from the parts that the code makes
-module _ (n neutral : ℕ) (flags : Flags) (rows : Rows) {found : ℕ} (is-found : found ≡ firstMarked (flagsOn flags (2 * n)) 0 (2 * (2 * n) + 3)) where
+module _ (n neutral : ℕ) (flags : Flags) (rows : Rows) {found : ℕ}
+    (is-found : found ≡ firstMarked (flagsOn flags (2 * n)) 0 (2 * (2 * n) + 3)) where
   pub none-there : 2 * (2 * n) + 3 ≤ found → levelRows neutral ≡ substituted n neutral flags rows
   unfolding substituted
   none-there h = simp (← is-found, le-ltb found (2 * (2 * n) + 3) h)
@@ -277,4 +293,5 @@ module _ (n neutral : ℕ) (flags : Flags) (rows : Rows) {found : ℕ} (is-found
       })
     where
       at : (p : ℕ) → p < 2 * (2 * n) + 3 → getD line p 0 ≡ settled (flagsOn flags (2 * n)) (samplesOn rows (2 * n)) found p
-      at p l = ap (λ (t : List ℕ). getD t p 0) is-line ∙ fill-at _ (2 * (2 * n) + 3) (replicate 131 0) p 0 l (omega (arith, length-replicate {A = ℕ} 131 0))
+      at p l = ap (λ (t : List ℕ). getD t p 0) is-line
+          ∙ fill-at _ (2 * (2 * n) + 3) (replicate 131 0) p 0 l (omega (arith, length-replicate {A = ℕ} 131 0))

@@ -29,7 +29,8 @@ areaOf t = t .height * t .width
 
 -- counts within their limits, and two regions that do not pass the trailer's start
 abbrev pub regionsOk : Trailer → ℕ → Bool
-regionsOk t start = leb (areaOf t) 8192 && leb (t .blocks) 512 && leb (t .samples + 2 * areaOf t) start && leb (t .plan + 6 * t .blocks) start
+regionsOk t start = leb (areaOf t) 8192 && leb (t .blocks) 512 && leb (t .samples + 2 * areaOf t) start
+    && leb (t .plan + 6 * t .blocks) start
 
 -- number 12 is given for every other input
 unfoldable pub fileOk : List ℕ → Bool
@@ -52,4 +53,5 @@ onesAt b at n = tabulated (λ k. getD b (at + 6 * k) 0) n 0
 
 -- the plan: row and column of two bytes, side and mode of one
 abbrev pub planIn : List ℕ → Trailer → Plan
-planIn b t = planOf (twosAt b (t .plan) (t .blocks)) (twosAt b (t .plan + 2) (t .blocks)) (onesAt b (t .plan + 4) (t .blocks)) (onesAt b (t .plan + 5) (t .blocks))
+planIn b t = planOf (twosAt b (t .plan) (t .blocks)) (twosAt b (t .plan + 2) (t .blocks)) (onesAt b (t .plan + 4) (t .blocks))
+    (onesAt b (t .plan + 5) (t .blocks))

@@ -14,7 +14,8 @@ pub sum-none : (v : List ℤ) (at : ℕ) → 0 ≡ absolutes v at 0
 unfolding absolutes
 sum-none v at = refl
 
-pub sum-more : (v : List ℤ) (at i : ℕ) {s a : ℕ} → s ≡ absolutes v at i → a ≡ natAbs (getD v (at + i) (pos 0)) → s + a ≡ absolutes v at (i + 1)
+pub sum-more : (v : List ℤ) (at i : ℕ) {s a : ℕ} → s ≡ absolutes v at i → a ≡ natAbs (getD v (at + i) (pos 0)) → s + a
+    ≡ absolutes v at (i + 1)
 unfolding absolutes
 sum-more v at i p q = rw (add-one, p, q)
 

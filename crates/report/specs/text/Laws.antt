@@ -24,13 +24,16 @@ pub record Laid (at : ℕ) (s d e : List ℕ) (upto room : ℕ) : Type 0 where
 laid-more : (at : ℕ) (s t d : List ℕ) → at + length s ≤ length d → laid (at + length s) t (laid at s d) ≡ laid at (s ++ t) d
 unfolding laid
 laid-more at s t d h =
-    let front : length (take at d ++ s) ≡ at + length s = length-append (take at d) s ∙ ap (λ (k : ℕ). k + length s) (length-take-le at d (omega arith)) in
+    let front : length (take at d ++ s) ≡ at + length s = length-append (take at d) s
+    ∙ ap (λ (k : ℕ). k + length s) (length-take-le at d (omega arith)) in
     let n = at + length s in
     let a : take n (take at d ++ s ++ drop n d) ≡ take at d ++ s = take-at (take at d ++ s) (drop n d) n front in
     let b : drop (n + length t) (take at d ++ s ++ drop n d) ≡ drop (n + length t) d =
-    ap (λ (k : ℕ). drop (k + length t) (take at d ++ s ++ drop n d)) (sym front) ∙ drop-append-add (take at d ++ s) (drop n d) (length t) ∙ drop-drop (length t) n d in
+    ap (λ (k : ℕ). drop (k + length t) (take at d ++ s ++ drop n d)) (sym front) ∙ drop-append-add (take at d ++ s) (drop n d) (length t)
+    ∙ drop-drop (length t) n d in
     let c : n + length t ≡ at + length (s ++ t) = omega (arith, length-append s t) in
-    ap₂ (λ (x y : List ℕ). x ++ t ++ y) a b ∙ ap (λ (k : ℕ). take at d ++ s ++ t ++ drop k d) c ∙ ap (λ (x : List ℕ). x ++ drop (at + length (s ++ t)) d) (append-assoc (take at d) s t)
+    ap₂ (λ (x y : List ℕ). x ++ t ++ y) a b ∙ ap (λ (k : ℕ). take at d ++ s ++ t ++ drop k d) c
+    ∙ ap (λ (x : List ℕ). x ++ drop (at + length (s ++ t)) d) (append-assoc (take at d) s t)
 
 -- one text after the other
 pub then : {at p q m n : ℕ} {s t d e f : List ℕ} → Laid at s d e p m → Laid p t e f q n → at + m ≤ length d → Laid at (s ++ t) d f q (m + n)
@@ -67,15 +70,18 @@ fewest n k e h = let q : suc k - 1 ≡ k = omega arith in subst (λ (m : ℕ). 1
 
 one-digit : (n k : ℕ) → n < 10 → Fewest 10 1 n k → digits 10 k n ≡ (48 + n) ∷ []
 one-digit n zero h e = absurd (omega arith)
-one-digit n (suc zero) h e = let m : n % 10 ≡ n = omega arith in ap (λ (d : ℕ). d ∷ []) (digit (n % 10) (omega arith) ∙ ap (λ (d : ℕ). 48 + d) m)
+one-digit n (suc zero) h e = let m : n % 10 ≡ n = omega arith in ap (λ (d : ℕ). d ∷ [])
+    (digit (n % 10) (omega arith) ∙ ap (λ (d : ℕ). 48 + d) m)
 one-digit n (suc (suc k)) h e =
     let l = fewest n (suc k) e (omega arith) in
     let p : 0 < 10 ^ k = ten-pos k in
     absurd (omega (arith, ten k))
 
 -- a digit more; the digits before it are known
-digit-more : (f n : ℕ) → ((k : ℕ) → n / 10 < 10 ^ suc f → Fewest 10 1 (n / 10) k → digits 10 k (n / 10) ≡ spell f (n / 10)) → n < 10 ^ suc (suc f)
-    → (t : Bool) → ltb n 10 ≡ t → (k : ℕ) → Fewest 10 1 n k → digits 10 k n ≡ cond t ((48 + n) ∷ []) (spell f (n / 10) ++ (48 + n % 10) ∷ [])
+digit-more : (f n : ℕ) → ((k : ℕ) → n / 10 < 10 ^ suc f → Fewest 10 1 (n / 10) k → digits 10 k (n / 10) ≡ spell f (n / 10))
+    → n < 10 ^ suc (suc f)
+    → (t : Bool) → ltb n 10 ≡ t → (k : ℕ) → Fewest 10 1 n k → digits 10 k n
+    ≡ cond t ((48 + n) ∷ []) (spell f (n / 10) ++ (48 + n % 10) ∷ [])
 digit-more f n before h true t k e = one-digit n k (ltb-true n 10 t) e
 digit-more f n before h false t zero e = absurd (omega arith)
 digit-more f n before h false t (suc zero) e = let l = ltb-false n 10 t in absurd (omega (arith, ten 0))
@@ -83,7 +89,8 @@ digit-more f n before h false t (suc (suc j)) e =
     let l = fewest n (suc j) e (omega arith) in
     let u : n / 10 < 10 ^ suc f = omega (arith, ten (suc f)) in
     let v : n / 10 < 10 ^ suc j = omega (arith, e .1, ten (suc j)) in
-    let w : 10 ^ (suc j - 1) ≤ n / 10 = let q : j ≡ suc j - 1 = omega arith in subst (λ (m : ℕ). 10 ^ m ≤ n / 10) q (omega (arith, ten j)) in
+    let w : 10 ^ (suc j - 1) ≤ n / 10 = let q : j ≡ suc j - 1 = omega arith in subst (λ (m : ℕ). 10 ^ m ≤ n / 10) q
+    (omega (arith, ten j)) in
     ap₂ (λ (x : List ℕ) (d : ℕ). x ++ d ∷ []) (before (suc j) u (omega arith, v, λ z. w)) (digit (n % 10) (omega arith))
 
 pub spelled : (f n k : ℕ) → n < 10 ^ suc f → Fewest 10 1 n k → digits 10 k n ≡ spell f n
@@ -96,7 +103,8 @@ unfolding spell
 spell-short zero n = omega arith
 spell-short (suc f) n = go (ltb n 10) (spell-short f (n / 10))
   where
-    go : (t : Bool) → length (spell f (n / 10)) ≤ f + 1 → length (cond t ((48 + n) ∷ []) (spell f (n / 10) ++ (48 + n % 10) ∷ [])) ≤ suc f + 1
+    go : (t : Bool) → length (spell f (n / 10)) ≤ f + 1
+        → length (cond t ((48 + n) ∷ []) (spell f (n / 10) ++ (48 + n % 10) ∷ [])) ≤ suc f + 1
     go true h = omega arith
     go false h = omega (arith, length-append (spell f (n / 10)) ((48 + n % 10) ∷ []))
 
@@ -119,7 +127,8 @@ pasted at s d e i h k p =
     }
 
 -- a copy of one byte more
-pub paste-more : (at : ℕ) (s d e : List ℕ) (i : ℕ) → at + length s ≤ length d → i < length s → e ≡ paste d at s i → set e (at + i) (getD s i 0) ≡ paste d at s (i + 1)
+pub paste-more : (at : ℕ) (s d e : List ℕ) (i : ℕ) → at + length s ≤ length d → i < length s → e ≡ paste d at s i
+    → set e (at + i) (getD s i 0) ≡ paste d at s (i + 1)
 paste-more at s d e i h l p =
     ap (λ (x : List ℕ). set x (at + i) (getD s i 0)) p ∙ paste-suc d at s i 0 (omega arith) l ∙ ap (paste d at s) (sym (add-one i))
 
@@ -137,13 +146,15 @@ line-room b sum =
     let side = number (b .side) 32 in
     let mode = number (b .mode) 32 in
     joined 84 21 (row ++ col ++ side ++ mode) (number sum 10)
-    (joined 63 21 (row ++ col ++ side) mode (joined 42 21 (row ++ col) side (joined 21 21 row col (number-room (b .row) 32) (number-room (b .col) 32)) (number-room (b .side) 32)) (number-room (b .mode) 32))
+    (joined 63 21 (row ++ col ++ side) mode (joined 42 21 (row ++ col) side
+    (joined 21 21 row col (number-room (b .row) 32) (number-room (b .col) 32)) (number-room (b .side) 32)) (number-room (b .mode) 32))
     (number-room sum 10)
 
 pub refusal-room : (n block : ℕ) → length (refusal n block) ≤ 50
 refusal-room n block =
     let word : List ℕ = 114 ∷ 101 ∷ 102 ∷ 117 ∷ 115 ∷ 101 ∷ 100 ∷ 32 ∷ [] in
-    joined 29 21 (word ++ number n 32) (number block 10) (joined 8 21 word (number n 32) (omega arith) (number-room n 32)) (number-room block 10)
+    joined 29 21 (word ++ number n 32) (number block 10) (joined 8 21 word (number n 32) (omega arith) (number-room n 32))
+    (number-room block 10)
 
 pub ending-room : (count : ℕ) (same : Bool) → length (ending count same) ≤ 33
 ending-room count same =

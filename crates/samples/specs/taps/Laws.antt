@@ -16,7 +16,8 @@ by-fraction f x y h = ap (λ (k : ℕ). interpOf k x y) (let e : f % 32 ≡ f = 
 pub mean-is : (n all : ℕ) → Size n → all ≤ 131070 * n → meanOf n all ≡ (all + n) / (2 * n)
 unfolding meanOf
 mean-is n all s h =
-    at-size (λ (m : ℕ). all ≤ 131070 * m → meanOf m all ≡ (all + m) / (2 * m)) (λ l. omega arith) (λ l. omega arith) (λ l. omega arith) (λ l. omega arith) n s h
+    at-size (λ (m : ℕ). all ≤ 131070 * m → meanOf m all ≡ (all + m) / (2 * m)) (λ l. omega arith) (λ l. omega arith) (λ l. omega arith)
+    (λ l. omega arith) n s h
 
 -- an edge sample with no number below 0
 minus : (l c : ℕ) → pos l -ℤ pos c ≡ subℕ l c

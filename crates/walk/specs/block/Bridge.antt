@@ -53,7 +53,9 @@ module _ (s : Still) (b : Block) (good : Good (pictureOf (s .frame))) (placed : 
 
   -- the prediction from the gathered rows
   pub bridge : (plane : List ℕ) → length plane ≡ s .frame .height * s .frame .width → b .mode ≤ 34 → (r c : ℕ) → r < b .side → c < b .side
-      → predictedAt s b plane r c ≡ predSamples (lumaAt (s .bits)) firstEditionStrong (b .side) (b .mode) (neighboursOf (lumaRows plane (geometryOf s b))) c r
+      → predictedAt s b plane r c ≡ predSamples (lumaAt (s .bits)) firstEditionStrong (b .side) (b .mode)
+      (neighboursOf (lumaRows plane (geometryOf s b))) c r
   unfolding predictedAt predicted
   bridge plane long mode r c hr hc =
-      sym (pred-alone (lumaAt (s .bits)) firstEditionStrong (b .side) (b .mode) c r _ _ (placed .size) mode hc hr (luma-standard plane (geometryOf s b) (geo-fine plane long)))
+      sym (pred-alone (lumaAt (s .bits)) firstEditionStrong (b .side) (b .mode) c r _ _ (placed .size) mode hc hr
+      (luma-standard plane (geometryOf s b) (geo-fine plane long)))

@@ -16,4 +16,5 @@ sampleAt s plane r c = getD plane (r * s .frame .width + c) 0
 -- H.265's prediction of the sample in row r and column c of a block, from a plane: luma, first edition, strong form allowed
 unfoldable pub predictedAt : Still → Block → List ℕ → ℕ → ℕ → ℕ
 predictedAt s b plane r c =
-    predicted (gridOf (pictureOf (s .frame))) (lumaAt (s .bits)) firstEditionStrong (b .side) (b .mode) (b .col) (b .row) (λ x y. sampleAt s plane y x) c r
+    predicted (gridOf (pictureOf (s .frame))) (lumaAt (s .bits)) firstEditionStrong (b .side) (b .mode) (b .col) (b .row)
+    (λ x y. sampleAt s plane y x) c r

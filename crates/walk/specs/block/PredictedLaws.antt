@@ -42,7 +42,8 @@ module _ (s : Still) (b : Block) (plane : List ℕ) (t : Tables) (h : Ready s b 
   gathered e = ap (λ (x : Gathered). x .rows) e ∙ sym (worked _ _ _ (geo-fine s b (h .picture) (h .placed) (h .depth) plane (h .plane-len)))
 
   predicts : (pred : ℕ) → b .side * b .side ≤ pred
-      → predictNo (s .bits) (b .side) (b .mode) (record { above = 65; left = 65; pred = pred; refs = t .refs; indices = t .indices; fractions = t .fractions }) ≡ 0
+      → predictNo (s .bits) (b .side) (b .mode) (record
+      { above = 65; left = 65; pred = pred; refs = t .refs; indices = t .indices; fractions = t .fractions }) ≡ 0
   predicts pred room =
       let x = both-true (leb 193 (t .refs) && leb 32 (t .indices)) (leb 32 (t .fractions)) (h .tables) in
       let y = both-true (leb 193 (t .refs)) (leb 32 (t .indices)) (x .0) in
@@ -58,8 +59,10 @@ module _ (s : Still) (b : Block) (plane : List ℕ) (t : Tables) (h : Ready s b 
 
   -- what the prediction from the gathered rows leaves is H.265's
   pub predicted-is : (g : Gathered) (d out : List ℕ) (k : ℕ) → b .side * b .side ≤ length d → g ≡ getReferenceSamples plane (geometryOf s b)
-      → k ≡ predictNo (s .bits) (b .side) (b .mode) (record { above = 65; left = 65; pred = length d; refs = t .refs; indices = t .indices; fractions = t .fractions })
-      → out ≡ served k (block (λ (y x : ℕ). predSamples (lumaAt (s .bits)) firstEditionStrong (b .side) (b .mode) (neighboursOf (g .rows)) x y) (b .side) d) d
+      → k ≡ predictNo (s .bits) (b .side) (b .mode) (record
+      { above = 65; left = 65; pred = length d; refs = t .refs; indices = t .indices; fractions = t .fractions })
+      → out ≡ served k (block (λ (y x : ℕ). predSamples (lumaAt (s .bits)) firstEditionStrong (b .side) (b .mode) (neighboursOf (g .rows))
+      x y) (b .side) d) d
       → out ≡ block (predictedAt s b plane) (b .side) d
   predicted-is g d out k room e p o =
       o

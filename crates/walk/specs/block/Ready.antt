@@ -1,4 +1,5 @@
--- What the work on a block asks: a block that can be predicted, where its residuals lie, and a buffer that holds its prediction. Assumes nothing.
+-- What the work on a block asks: a block that can be predicted, where its residuals lie, and a buffer that holds its prediction.
+-- Assumes nothing.
 use mathlib.Core.Path.{_≡_}
 use mathlib.Core.Bool.{true}
 use mathlib.Core.List.{List}

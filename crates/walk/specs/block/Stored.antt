@@ -18,6 +18,7 @@ module _ (s : Still) (source : List ℕ) (b : Block) (at : ℕ) (work : List ℕ
 
   -- each is the source's sample less the prediction of that sample from the work plane
   pub stored-at : (r c : ℕ) → r < b .side → c < b .side → at + r * b .side + c < length v
-      → getD (stored s source b at work v) (at + r * b .side + c) (pos 0) ≡ pos (sampleAt s source (b .row + r) (b .col + c)) -ℤ pos (predictedAt s b work r c)
+      → getD (stored s source b at work v) (at + r * b .side + c) (pos 0)
+      ≡ pos (sampleAt s source (b .row + r) (b .col + c)) -ℤ pos (predictedAt s b work r c)
   unfolding stored
   stored-at r c l m h = paint-in at (b .side) (b .side) _ (b .side) v r c (pos 0) (omega arith) l m h

@@ -12,7 +12,8 @@ pub restored-at : (largest p q : ℕ) (y z : ℤ) {v : ℕ} → v ≡ clipTo lar
 restored-at largest p q y z h a b = h ∙ ap₂ (λ (u : ℕ) (x : ℤ). clipTo largest (pos u +ℤ x)) a b
 
 -- row r of a block
-pub row-in : (plane pred residuals n base width at r : ℕ) → RowsIn plane pred residuals n base width at → r < n → RowIn plane pred residuals n (base + r * width) (r * n) (at + r * n)
+pub row-in : (plane pred residuals n base width at r : ℕ) → RowsIn plane pred residuals n base width at → r < n
+    → RowIn plane pred residuals n (base + r * width) (r * n) (at + r * n)
 row-in plane pred residuals n base width at r h l =
     let m : (r + 1) * n ≤ n * n = mul-le-mul-right n (omega arith) in
     record { size = h .size; plane-in = h .plane-in r l; pred-in = omega (arith, h .pred-in); resid-in = omega (arith, h .resid-in) }

@@ -18,4 +18,5 @@ abbrev pub lessRows : List ℕ → List ℕ → ℕ → ℕ → ℕ → ℕ → 
 lessRows source pred n base width at residuals = paint at n n (λ r c. lessAt source pred (base + r * width + c) (r * n + c)) n residuals
 
 abbrev pub backRows : ℕ → List ℕ → List ℕ → ℕ → ℕ → ℕ → List ℕ → List ℕ
-backRows largest source pred n base width work = paint base width n (λ r c. backAt largest source pred (base + r * width + c) (r * n + c)) n work
+backRows largest source pred n base width work = paint base width n (λ r c. backAt largest source pred (base + r * width + c) (r * n + c))
+    n work

@@ -1,5 +1,5 @@
--- Document 01, 'Plan, walk, replay': what a call of walk or replay refuses, in its order, and what it leaves behind. Of the progress record it goes by how many
--- blocks are done. Assumes nothing.
+-- Document 01, 'Plan, walk, replay': what a call of walk or replay refuses, in its order, and what it leaves behind. Of the progress
+-- record it goes by how many blocks are done. Assumes nothing.
 use Prim.Native.Nat.{ℕ}
 use mathlib.Core.List.{List}
 use lib.IntN.{ℤ}
@@ -26,7 +26,8 @@ replayVerdict s plan t done plane residuals = verdictOf s plan done (replayNo s 
 -- the plane after a call of replay
 unfoldable pub replayAfter : Still → Plan → Tables → ℕ → ℕ → List ℤ → List ℕ → List ℕ
 replayAfter s plan t done grant residuals plane =
-    served (replayVerdict s plan t done (length plane) residuals .no) (units (replayUnit s (plan .block) residuals) done (doingOf (plan .count) done grant) plane) plane
+    served (replayVerdict s plan t done (length plane) residuals .no)
+    (units (replayUnit s (plan .block) residuals) done (doingOf (plan .count) done grant) plane) plane
 
 -- Walk: 1, 4, 5, then 7 over every source sample.
 unfoldable pub walkVerdict : Still → Plan → Tables → ℕ → List ℕ → World → Verdict

@@ -1,5 +1,5 @@
--- What the verdict on a call tells, that a refused call leaves all as it was, and what a call comes to: what its loop asks holds, and it leaves what the door says.
--- Rests on the laws of the plan and of a still's checks, and on how far a call goes.
+-- What the verdict on a call tells, that a refused call leaves all as it was, and what a call comes to: what its loop asks holds,
+-- and it leaves what the door says. Rests on the laws of the plan and of a still's checks, and on how far a call goes.
 use mathlib.Core.Path.{_≡_, refl, sym, ap, _∙_, subst}
 use mathlib.Core.Bool.{true, _&&_}
 use mathlib.Core.List.{List}
@@ -61,7 +61,8 @@ module _ (s : Still) (plan : Plan) (plane residuals : ℕ) (t : Tables) (h : Sou
     pub lies : Lies b residuals at
     lies = record { resid-in = omega (arith, place-in (plan .block) k (plan .count) at b l e q, whole-area, h .resid-len) }
 
-    pub ready : (plane′ refs indices fractions : ℕ) → plane′ ≡ plane → refs ≡ t .refs → indices ≡ t .indices → fractions ≡ t .fractions → Ready s b plane′ (record { refs = refs; indices = indices; fractions = fractions })
+    pub ready : (plane′ refs indices fractions : ℕ) → plane′ ≡ plane → refs ≡ t .refs → indices ≡ t .indices → fractions ≡ t .fractions
+        → Ready s b plane′ (record { refs = refs; indices = indices; fractions = fractions })
     ready plane′ refs indices fractions a x y z =
         record {
           depth = h .depth;
@@ -74,7 +75,8 @@ module _ (s : Still) (plan : Plan) (plane residuals : ℕ) (t : Tables) (h : Sou
 
 module _ (s : Still) (plan : Plan) where
   -- number 0 of the blocks' checks says that the plan is accepted
-  pub blocks-accepted : pictureOk (pictureOf (s .frame)) ≡ true → plan .whole ≡ true → blocksVerdict (s .frame) plan .no ≡ 0 → Accepted (s .frame) (plan .block) (plan .count)
+  pub blocks-accepted : pictureOk (pictureOf (s .frame)) ≡ true → plan .whole ≡ true → blocksVerdict (s .frame) plan .no ≡ 0
+      → Accepted (s .frame) (plan .block) (plan .count)
   blocks-accepted e w z = verdict-good (s .frame) plan (ap (λ (v : Verdict). v .no) (blocks-alone (s .frame) plan e w) ∙ z) .1
 
   module _ (done early : ℕ) where
@@ -88,7 +90,9 @@ module _ (s : Still) (plan : Plan) where
         go (no d) = absurd (d (ap (λ (v : Verdict). v .no) (if-no (eqb early 0) _ _ _ (ne-eqb early 0 d) refl) ∙ z))
 
     -- the plan check's verdict and the checks before it make the call's
-    pub settle-is : (v : Verdict) → (early ≡ 0 → v ≡ planVerdict (s .frame) plan) → (early ≡ 0 → (pictureOk (pictureOf (s .frame)) ≡ true) × (plan .whole ≡ true)) → settle v (plan .count) done early ≡ verdictOf s plan done early
+    pub settle-is : (v : Verdict) → (early ≡ 0 → v ≡ planVerdict (s .frame) plan)
+        → (early ≡ 0 → (pictureOk (pictureOf (s .frame)) ≡ true) × (plan .whole ≡ true)) → settle v (plan .count) done early
+        ≡ verdictOf s plan done early
     unfolding verdictOf settle
     settle-is v q ok = go (ℕ-discrete early 0)
       where
@@ -101,7 +105,8 @@ module _ (s : Still) (plan : Plan) where
 
 -- a call of replay or of walk that is served
 module _ (s : Still) (plan : Plan) (t : Tables) (done : ℕ) where
-  pub replay-sound : (plane : ℕ) (v : List ℤ) → replayVerdict s plan t done plane v .no ≡ 0 → Sound s plan plane (length v) t × (done ≤ plan .count)
+  pub replay-sound : (plane : ℕ) (v : List ℤ) → replayVerdict s plan t done plane v .no ≡ 0 → Sound s plan plane (length v) t
+      × (done ≤ plan .count)
   unfolding replayVerdict
   replay-sound plane v e =
       let z = verdict-zero s plan done (replayNo s (plan .whole) t plane v) e in
@@ -129,8 +134,10 @@ module _ (s : Still) (plan : Plan) (t : Tables) (done : ℕ) where
       let a = passed (depthOk (s .bits)) _ 1 (omega arith) (z .0) in
       let b = passed (pictureOk (pictureOf (s .frame))) _ 4 (omega arith) (a .1) in
       let c = passed (walkFits s (plan .whole) t (length source) (length (w .work)) (length (w .residuals))) _ 5 (omega arith) (b .1) in
-      let x = both-true (plan .whole && isWhole s (length source) && isWhole s (length (w .work)) && isWhole s (length (w .residuals))) (isRoomy t) (c .0) in
-      let y = both-true (plan .whole && isWhole s (length source) && isWhole s (length (w .work))) (isWhole s (length (w .residuals))) (x .0) in
+      let x = both-true (plan .whole && isWhole s (length source) && isWhole s (length (w .work)) && isWhole s (length (w .residuals)))
+      (isRoomy t) (c .0) in
+      let y = both-true (plan .whole && isWhole s (length source) && isWhole s (length (w .work))) (isWhole s (length (w .residuals)))
+      (x .0) in
       let u = both-true (plan .whole && isWhole s (length source)) (isWhole s (length (w .work))) (y .0) in
       let p = both-true (plan .whole) (isWhole s (length source)) (u .0) in (
         record {
@@ -145,11 +152,13 @@ module _ (s : Still) (plan : Plan) (t : Tables) (done : ℕ) where
 
 -- a refused call leaves all as it was
 module _ (s : Still) (plan : Plan) (t : Tables) (done grant : ℕ) where
-  pub replay-refused : (residuals : List ℤ) (plane : List ℕ) → (replayVerdict s plan t done (length plane) residuals .no ≡ 0 → ⊥) → replayAfter s plan t done grant residuals plane ≡ plane
+  pub replay-refused : (residuals : List ℤ) (plane : List ℕ) → (replayVerdict s plan t done (length plane) residuals .no ≡ 0 → ⊥)
+      → replayAfter s plan t done grant residuals plane ≡ plane
   unfolding replayAfter
   replay-refused residuals plane h = sym (unserved _ _ plane h)
 
-  pub walk-refused : (source : List ℕ) (w : World) → (walkVerdict s plan t done source w .no ≡ 0 → ⊥) → walkAfter s plan t done grant source w ≡ w
+  pub walk-refused : (source : List ℕ) (w : World) → (walkVerdict s plan t done source w .no ≡ 0 → ⊥)
+      → walkAfter s plan t done grant source w ≡ w
   unfolding walkAfter
   walk-refused source w h = sym (unserved _ _ w h)
 
@@ -168,17 +177,21 @@ module _ (v : Verdict) (count done grant upto : ℕ) (is : upto ≡ stepOf v cou
       go (yes z) = (z, served-upto z)
       go (no d) = absurd (omega (arith, l, refused-upto d))
 
-  upto-leaves : {W : Type 0} (unit : ℕ → W → W) (w e : W) → e ≡ units unit done (upto - done) w → e ≡ served (v .no) (units unit done (doingOf count done grant) w) w
+  upto-leaves : {W : Type 0} (unit : ℕ → W → W) (w e : W) → e ≡ units unit done (upto - done) w → e
+      ≡ served (v .no) (units unit done (doingOf count done grant) w) w
   unfolding units
   upto-leaves {W} unit w e u = go (ℕ-discrete (v .no) 0)
     where
       go : Dec (v .no ≡ 0) → e ≡ served (v .no) (units unit done (doingOf count done grant) w) w
-      go (yes z) = let m : upto - done ≡ doingOf count done grant = omega (arith, served-upto z) in u ∙ ap (λ (n : ℕ). units unit done n w) m ∙ worked (v .no) _ w z
-      go (no d) = let m : upto - done ≡ 0 = omega (arith, refused-upto d) in u ∙ ap (λ (n : ℕ). units unit done n w) m ∙ unserved (v .no) _ w d
+      go (yes z) = let m : upto - done ≡ doingOf count done grant = omega (arith, served-upto z) in u
+          ∙ ap (λ (n : ℕ). units unit done n w) m ∙ worked (v .no) _ w z
+      go (no d) = let m : upto - done ≡ 0 = omega (arith, refused-upto d) in u ∙ ap (λ (n : ℕ). units unit done n w) m
+          ∙ unserved (v .no) _ w d
 
 -- replay: its verdict, what its loop may ask, and what it leaves
 module _ (s : Still) (plan : Plan) (t : Tables) (done : ℕ) (v : List ℤ) (d : List ℕ) where
-  pub replay-settled : (found : Verdict) → found ≡ planVerdict (s .frame) plan → settle found (plan .count) done (replayNo s (plan .whole) t (length d) v) ≡ replayVerdict s plan t done (length d) v
+  pub replay-settled : (found : Verdict) → found ≡ planVerdict (s .frame) plan
+      → settle found (plan .count) done (replayNo s (plan .whole) t (length d) v) ≡ replayVerdict s plan t done (length d) v
   unfolding replayVerdict
   replay-settled found q = settle-is s plan done (replayNo s (plan .whole) t (length d) v) found (λ _. q)
       (λ z.
@@ -192,19 +205,23 @@ module _ (s : Still) (plan : Plan) (t : Tables) (done : ℕ) (v : List ℤ) (d :
         let b = replay-sound s plan t done (length d) v (a .0) in
         (b .0, omega (arith, a .1, b .1))
 
-    pub replay-leaves : (e : List ℕ) → e ≡ units (replayUnit s (plan .block) v) done (upto - done) d → e ≡ replayAfter s plan t done grant v d
+    pub replay-leaves : (e : List ℕ) → e ≡ units (replayUnit s (plan .block) v) done (upto - done) d → e
+        ≡ replayAfter s plan t done grant v d
     unfolding replayAfter
-    replay-leaves e u = upto-leaves (replayVerdict s plan t done (length d) v) (plan .count) done grant upto is (replayUnit s (plan .block) v) d e u
+    replay-leaves e u = upto-leaves (replayVerdict s plan t done (length d) v) (plan .count) done grant upto is
+        (replayUnit s (plan .block) v) d e u
 
 -- the same of the walk
 module _ (s : Still) (plan : Plan) (t : Tables) (done : ℕ) (source : List ℕ) (w : World) where
   pub walk-settled : (found : Verdict) → found ≡ planVerdict (s .frame) plan
-      → settle found (plan .count) done (walkNo s (plan .whole) t source (length (w .work)) (length (w .residuals))) ≡ walkVerdict s plan t done source w
+      → settle found (plan .count) done (walkNo s (plan .whole) t source (length (w .work)) (length (w .residuals)))
+      ≡ walkVerdict s plan t done source w
   unfolding walkVerdict
   walk-settled found q =
       settle-is s plan done (walkNo s (plan .whole) t source (length (w .work)) (length (w .residuals))) found (λ _. q)
       (λ z.
-      let g = good-call s (walkFits s (plan .whole) t (length source) (length (w .work)) (length (w .residuals))) 7 (every (λ x. leb x (largestIn s)) source) z in
+      let g = good-call s (walkFits s (plan .whole) t (length source) (length (w .work)) (length (w .residuals))) 7
+      (every (λ x. leb x (largestIn s)) source) z in
       (g .0, both-true _ _ (both-true _ _ (both-true _ _ (both-true _ _ (g .1) .0) .0) .0) .0))
 
   module _ (grant upto : ℕ) (is : upto ≡ stepOf (walkVerdict s plan t done source w) (plan .count) done grant .upto) where
@@ -214,6 +231,8 @@ module _ (s : Still) (plan : Plan) (t : Tables) (done : ℕ) (source : List ℕ)
         let b = walk-sound s plan t done source w (a .0) in
         (b .0, (b .1 .0, omega (arith, a .1, b .1 .1)))
 
-    pub walk-leaves : (e : World) → e ≡ units (walkUnit s (plan .block) source) done (upto - done) w → e ≡ walkAfter s plan t done grant source w
+    pub walk-leaves : (e : World) → e ≡ units (walkUnit s (plan .block) source) done (upto - done) w → e
+        ≡ walkAfter s plan t done grant source w
     unfolding walkAfter
-    walk-leaves e u = upto-leaves (walkVerdict s plan t done source w) (plan .count) done grant upto is (walkUnit s (plan .block) source) w e u
+    walk-leaves e u = upto-leaves (walkVerdict s plan t done source w) (plan .count) done grant upto is (walkUnit s (plan .block) source)
+        w e u

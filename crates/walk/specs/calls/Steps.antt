@@ -22,10 +22,12 @@ module _ (v : Verdict) (count done grant : ℕ) where
   unfolding stepOf
   refused-step d = unserved (v .no) _ _ d
 
-  pub granted-step : v .no ≡ 0 → {did : ℕ} → did ≡ doingOf count done grant → record { no = 0; block = 0; did = did; upto = done + did } ≡ stepOf v count done grant
+  pub granted-step : v .no ≡ 0 → {did : ℕ} → did ≡ doingOf count done grant → record { no = 0; block = 0; did = did; upto = done + did }
+      ≡ stepOf v count done grant
   unfolding stepOf
   granted-step z e = ap (λ (k : ℕ). record { no = 0; block = 0; did = k; upto = done + k }) e ∙ worked (v .no) _ _ z
 
   -- a call goes up to no more blocks than there are
   pub upto-few : v .no ≡ 0 → done ≤ count → {t : Step} → t ≡ stepOf v count done grant → t .upto ≤ count
-  upto-few z few {t} e = let q : t .upto ≡ done + doingOf count done grant = ap (λ (x : Step). x .upto) (e ∙ sym (granted-step z {did = doingOf count done grant} refl)) in omega (arith, q)
+  upto-few z few {t} e = let q : t .upto ≡ done + doingOf count done grant = ap (λ (x : Step). x .upto)
+      (e ∙ sym (granted-step z {did = doingOf count done grant} refl)) in omega (arith, q)

@@ -1,4 +1,5 @@
--- Document 01: what a call on a still refuses before it looks at blocks, in its order, and how the verdict on a plan goes on from there. Assumes nothing.
+-- Document 01: what a call on a still refuses before it looks at blocks, in its order, and how the verdict on a plan goes on from
+-- there. Assumes nothing.
 use Prim.Native.Nat.{ℕ, _-_, _*_, _^_}
 use mathlib.Core.Bool.{Bool, true, cond, _&&_}
 use mathlib.Core.List.{List, [], _∷_}
@@ -41,7 +42,8 @@ openingNo s fit = firstFail ((1 unless depthOk (s .bits)) ∷ (4 unless pictureO
 
 -- the number of the checks before the plan's: the last is number k
 abbrev pub callNo : Still → Bool → ℕ → Bool → ℕ
-callNo s fit k ok = firstFail ((1 unless depthOk (s .bits)) ∷ (4 unless pictureOk (pictureOf (s .frame))) ∷ (5 unless fit) ∷ (k unless ok) ∷ [])
+callNo s fit k ok = firstFail ((1 unless depthOk (s .bits)) ∷ (4 unless pictureOk (pictureOf (s .frame))) ∷ (5 unless fit) ∷ (k unless ok)
+    ∷ [])
 
 -- Replay: 1, 4, 5, then 8 over every residual. `records` says whether the plan is of whole records.
 abbrev pub replayFits : Still → Bool → Tables → ℕ → ℕ → Bool
@@ -55,9 +57,11 @@ abbrev pub walkFits : Still → Bool → Tables → ℕ → ℕ → ℕ → Bool
 walkFits s records t source work residuals = records && isWhole s source && isWhole s work && isWhole s residuals && isRoomy t
 
 abbrev pub walkNo : Still → Bool → Tables → List ℕ → ℕ → ℕ → ℕ
-walkNo s records t source work residuals = callNo s (walkFits s records t (length source) work residuals) 7 (every (λ v. leb v (largestIn s)) source)
+walkNo s records t source work residuals = callNo s (walkFits s records t (length source) work residuals) 7
+    (every (λ v. leb v (largestIn s)) source)
 
 -- the verdict on a call: `early` is the number of the checks before the plan's and `found` the plan's verdict, then comes number 11
 unfoldable pub settle : Verdict → ℕ → ℕ → ℕ → Verdict
 settle found count done early =
-    cond (eqb early 0) (cond (eqb (found .no) 0) (record { no = cond (leb done count) 0 11; block = 0 }) found) (record { no = early; block = 0 })
+    cond (eqb early 0) (cond (eqb (found .no) 0) (record { no = cond (leb done count) 0 11; block = 0 }) found)
+    (record { no = early; block = 0 })

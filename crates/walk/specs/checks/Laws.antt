@@ -54,7 +54,8 @@ module _ {A : Type 0} (p : A → Bool) (z : A) where
 
 -- the checks before the plan's stop at 5, or go on to the last one
 stops : (a b c : Bool) (k : ℕ) (d : Bool) → (firstFail ((1 unless a) ∷ (4 unless b) ∷ (5 unless c) ∷ []) ≡ 0 → ⊥)
-    → firstFail ((1 unless a) ∷ (4 unless b) ∷ (5 unless c) ∷ []) ≡ firstFail ((1 unless a) ∷ (4 unless b) ∷ (5 unless c) ∷ (k unless d) ∷ [])
+    → firstFail ((1 unless a) ∷ (4 unless b) ∷ (5 unless c) ∷ [])
+    ≡ firstFail ((1 unless a) ∷ (4 unless b) ∷ (5 unless c) ∷ (k unless d) ∷ [])
 stops true true true k d h = absurd (h refl)
 stops true true false k d h = refl
 stops true false c k d h = refl
@@ -75,7 +76,8 @@ module _ (s : Still) (fit : Bool) (k : ℕ) (ok : Bool) where
   opening-goes e h q = goes (depthOk (s .bits)) (pictureOk (pictureOf (s .frame))) fit k ok e h q
 
 -- number 0 of the checks before the plan's: the picture is good, and all that is lent is long enough
-pub good-call : (s : Still) (fit : Bool) (k : ℕ) (ok : Bool) → callNo s fit k ok ≡ 0 → (pictureOk (pictureOf (s .frame)) ≡ true) × (fit ≡ true)
+pub good-call : (s : Still) (fit : Bool) (k : ℕ) (ok : Bool) → callNo s fit k ok ≡ 0 → (pictureOk (pictureOf (s .frame)) ≡ true)
+    × (fit ≡ true)
 good-call s fit k ok e =
     let p = passed (pictureOk (pictureOf (s .frame))) _ 4 (omega arith) (passed (depthOk (s .bits)) _ 1 (omega arith) e .1) in
     (p .0, passed fit _ 5 (omega arith) (p .1) .0)
@@ -85,12 +87,14 @@ pub opening-depth : (s : Still) (fit : Bool) → openingNo s fit ≡ 0 → Depth
 opening-depth s fit e = depth-of (s .bits) (passed (depthOk (s .bits)) _ 1 (omega arith) e .0)
 
 -- number 0 says that the plan is good, and the record not above its count
-pub settle-zero : (found : Verdict) (count : ℕ) (done : ℕ) (early : ℕ) → settle found count done early .no ≡ 0 → (found .no ≡ 0) × (done ≤ count)
+pub settle-zero : (found : Verdict) (count : ℕ) (done : ℕ) (early : ℕ) → settle found count done early .no ≡ 0 → (found .no ≡ 0)
+    × (done ≤ count)
 unfolding settle
 settle-zero found count done early = go (eqb early 0) (eqb (found .no) 0) (leb (done) count) refl refl refl
   where
     go : (a b c : Bool) → eqb early 0 ≡ a → eqb (found .no) 0 ≡ b → leb (done) count ≡ c
-        → cond a (cond b (record { no = cond c 0 11; block = 0 }) found) (record { no = early; block = 0 }) .no ≡ 0 → (found .no ≡ 0) × (done ≤ count)
+        → cond a (cond b (record { no = cond c 0 11; block = 0 }) found) (record { no = early; block = 0 }) .no ≡ 0 → (found .no ≡ 0)
+        × (done ≤ count)
     go true true true x y z e = (eqb-true _ 0 y, leb-true (done) count z)
     go true true false x y z e = absurd (omega arith)
     go true false c x y z e = absurd (eqb-false _ 0 y e)

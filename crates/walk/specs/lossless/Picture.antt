@@ -1,5 +1,6 @@
--- Walk and replay of a plan over flat planes are walks and replays in Replay's sense: a block's prediction looks at earlier blocks alone, and
--- blocks and their residuals are stored apart. Rests on Bridge, on the gather's reading no missing sample, and on what a good plan is.
+-- Walk and replay of a plan over flat planes are walks and replays in Replay's sense: a block's prediction looks at earlier blocks
+-- alone, and blocks and their residuals are stored apart. Rests on Bridge, on the gather's reading no missing sample, and on what a
+-- good plan is.
 use mathlib.Core.Path.{_≡_, refl, sym, ap, ap₂, _∙_}
 use mathlib.Core.Bool.{true, _&&_}
 use mathlib.Core.List.{List}
@@ -84,52 +85,68 @@ digits w {r} {c} {r′} {c′} l l′ e =
 
 module _ (s : Still) (plan : ℕ → Block) where
   -- a residual's place lies in its block's part
-  within : (k : ℕ) (t : Sample s) → OfS s plan k t → place plan k + (t .row - plan k .row) * plan k .side + (t .col - plan k .col) < place plan (suc k)
+  within : (k : ℕ) (t : Sample s) → OfS s plan k t
+      → place plan k + (t .row - plan k .row) * plan k .side + (t .col - plan k .col) < place plan (suc k)
   unfolding place
-  within k t o = omega (arith, digits-lt {q = t .row - plan k .row} {m = plan k .side} {r = t .col - plan k .col} {c = plan k .side} (omega arith) (omega arith))
+  within k t o = omega (
+    arith,
+    digits-lt {q = t .row - plan k .row} {m = plan k .side} {r = t .col - plan k .col} {c = plan k .side}
+        (omega arith) (omega arith),
+  )
 
 module _ (s : Still) (plan : ℕ → Block) (count : ℕ) (ok : Accepted (s .frame) plan count) (depth : Depth (s .bits)) where
   -- the prediction of block k looks at samples of earlier blocks alone
-  pub local : (k : ℕ) (a b : List ℕ) → k < count → Whole s a → Whole s b → ((i : ℕ) (t : Sample s) → i < k → OfS s plan i t → look s a t ≡ look s b t) → (t : Sample s) → OfS s plan k t → predict s plan k a t ≡ predict s plan k b t
+  pub local : (k : ℕ) (a b : List ℕ) → k < count → Whole s a → Whole s b
+      → ((i : ℕ) (t : Sample s) → i < k → OfS s plan i t → look s a t ≡ look s b t) → (t : Sample s) → OfS s plan k t
+      → predict s plan k a t ≡ predict s plan k b t
   unfolding before
   local k a b l oa ob same t o = at a oa ∙ ap from (luma-unread (geometryOf s (plan k)) a b there) ∙ sym (at b ob)
     where
       from : Rows → ℕ
-      from u = predSamples (lumaAt (s .bits)) firstEditionStrong (plan k .side) (plan k .mode) (neighboursOf u) (t .col - plan k .col) (t .row - plan k .row)
+      from u = predSamples (lumaAt (s .bits)) firstEditionStrong (plan k .side) (plan k .mode) (neighboursOf u) (t .col - plan k .col)
+          (t .row - plan k .row)
 
       at : (p : List ℕ) → Whole s p → predict s plan k p t ≡ from (lumaRows p (geometryOf s (plan k)))
-      at p h = bridge s (plan k) (ok .picture) (ok .plan-good .placed k l) depth p h (ok .modes k l) (t .row - plan k .row) (t .col - plan k .col) (omega arith) (omega arith)
+      at p h = bridge s (plan k) (ok .picture) (ok .plan-good .placed k l) depth p h (ok .modes k l) (t .row - plan k .row)
+          (t .col - plan k .col) (omega arith) (omega arith)
 
-      there : (r c : ℕ) → lumaHas (lumaBlock (geometryOf s (plan k))) (pos r) (pos c) ≡ true → sampleOf a (s .frame .width) r c ≡ sampleOf b (s .frame .width) r c
+      there : (r c : ℕ) → lumaHas (lumaBlock (geometryOf s (plan k))) (pos r) (pos c) ≡ true → sampleOf a (s .frame .width) r c
+          ≡ sampleOf b (s .frame .width) r c
       there r c e =
-          let p = both-true (ltb r (s .frame .height) && ltb c (s .frame .width)) (ltb (cellAt (s .frame) r c) (cellAt (s .frame) (plan k .row) (plan k .col))) e in
+          let p = both-true (ltb r (s .frame .height) && ltb c (s .frame .width))
+          (ltb (cellAt (s .frame) r c) (cellAt (s .frame) (plan k .row) (plan k .col))) e in
           let q = both-true (ltb r (s .frame .height)) (ltb c (s .frame .width)) (p .0) in
           let hr = ltb-true r (s .frame .height) (q .0) in
           let hc = ltb-true c (s .frame .width) (q .1) in
           let v = earlier (ok .picture) plan count k (ok .plan-good) l r c (hr, hc) (ltb-true _ _ (p .1)) in
           same (v .0) (record { row = r; col = c; row-in = hr; col-in = hc }) (v .1) (v .2)
 
-  rebuild-in : (k : ℕ) (v : List ℤ) (w : List ℕ) → k < count → Whole s w → (t : Sample s) → OfS s plan k t → look s (replayUnit s plan v k w) t ≡ added s (predict s plan k w t) (residual s plan v k t)
+  rebuild-in : (k : ℕ) (v : List ℤ) (w : List ℕ) → k < count → Whole s w → (t : Sample s) → OfS s plan k t
+      → look s (replayUnit s plan v k w) t ≡ added s (predict s plan k w t) (residual s plan v k t)
   unfolding rebuilt
   rebuild-in k v w l h t o =
       let b = plan k in
       let i = index (s .frame .width) (t .row) (t .col) (b .row) (b .col) (t .row - b .row) (t .col - b .col) (omega arith) (omega arith) in
       let p = ok .plan-good .placed k l in
       ap (λ (u : ℕ). getD (replayUnit s plan v k w) u 0) i
-      ∙ paint-in (b .row * s .frame .width + b .col) (s .frame .width) (b .side) _ (b .side) w (t .row - b .row) (t .col - b .col) 0 (omega arith) (omega arith) (omega arith)
+      ∙ paint-in (b .row * s .frame .width + b .col) (s .frame .width) (b .side) _ (b .side) w (t .row - b .row) (t .col - b .col) 0
+      (omega arith) (omega arith) (omega arith)
       (omega (arith, i, digits-lt {q = t .row} {m = s .frame .height} {r = t .col} {c = s .frame .width} (t .row-in) (t .col-in)))
 
-  pub rebuild-out : (k : ℕ) (v : List ℤ) (w : List ℕ) → k < count → (t : Sample s) → (OfS s plan k t → ⊥) → look s (replayUnit s plan v k w) t ≡ look s w t
+  pub rebuild-out : (k : ℕ) (v : List ℤ) (w : List ℕ) → k < count → (t : Sample s) → (OfS s plan k t → ⊥)
+      → look s (replayUnit s plan v k w) t ≡ look s w t
   unfolding rebuilt
   rebuild-out k v w l t n =
       let b = plan k in
       let p = ok .plan-good .placed k l in
       paint-out (b .row * s .frame .width + b .col) (s .frame .width) (b .side) _ (b .side) w (t .row * s .frame .width + t .col) 0
       (λ r c hr hc e.
-      let d = digits (s .frame .width) {r = t .row} {c = t .col} {r′ = b .row + r} {c′ = b .col + c} (t .col-in) (omega arith) (omega arith) in
+      let d = digits (s .frame .width) {r = t .row} {c = t .col} {r′ = b .row + r} {c′ = b .col + c} (t .col-in) (omega arith)
+      (omega arith) in
       n (record { top = omega (arith, d .0); bottom = omega (arith, d .0); left = omega (arith, d .1); right = omega (arith, d .1) }))
 
-  pub replays : Replays (Whole s) (look s) (residual s plan) count (OfS s plan) (predict s plan) (added s) (λ k v w. replayUnit s plan v k w)
+  pub replays : Replays (Whole s) (look s) (residual s plan) count (OfS s plan) (predict s plan) (added s)
+      (λ k v w. replayUnit s plan v k w)
   replays = record {
     apart = λ i k t l m. apart (ok .picture) plan count i k (ok .plan-good) l m (t .row) (t .col);
     local = local;
@@ -159,14 +176,17 @@ module _ (s : Still) (plan : ℕ → Block) (count : ℕ) (ok : Accepted (s .fra
     store-out k w v i t m o =
         paint-out (place plan k) (plan k .side) (plan k .side) _ (plan k .side) v _ (pos 0) (λ r c hr hc e. go (decLt i k) r c hr hc e)
       where
-        go : Dec (i < k) → (r c : ℕ) → r < plan k .side → c < plan k .side → place plan i + (t .row - plan i .row) * plan i .side + (t .col - plan i .col) ≡ place plan k + r * plan k .side + c → ⊥
+        go : Dec (i < k) → (r c : ℕ) → r < plan k .side → c < plan k .side
+            → place plan i + (t .row - plan i .row) * plan i .side + (t .col - plan i .col) ≡ place plan k + r * plan k .side + c → ⊥
         go (yes d) r c hr hc e = omega (arith, e, within s plan i t o, place-up plan (suc i) k d)
         go (no d) r c hr hc e =
             let after : suc k ≤ i = omega (arith, m) in
             omega (arith, e, place-up plan (suc k) i after, digits-lt {q = r} {m = plan k .side} {r = c} {c = plan k .side} hr hc)
 
-    pub walks-plan : Walks (Whole s) (look s) (residual s plan) count (OfS s plan) (predict s plan) less source (λ k v w. replayUnit s plan v k w) (Whole s)
-        (λ k w v. stored s source (plan k) (place plan k) w v) (λ (x : World). x .work) (λ (x : World). x .residuals) (walkUnit s plan source)
+    pub walks-plan : Walks (Whole s) (look s) (residual s plan) count (OfS s plan) (predict s plan) less source
+        (λ k v w. replayUnit s plan v k w) (Whole s)
+        (λ k w v. stored s source (plan k) (place plan k) w v) (λ (x : World). x .work) (λ (x : World). x .residuals)
+        (walkUnit s plan source)
     unfolding walked
     walks-plan = record {
       store-ok = λ k w v h. stored-length s source (plan k) (place plan k) w v ∙ h;
