@@ -103,8 +103,9 @@ on-places : {A : Type 0} (f : ℤ → ℤ → A) (e : ℕ) (l : ℕ → A) (c : 
     → ((i : ℕ) → i ≤ e → u i ≡ f (pos i) −1) → (k : ℕ) → k < 2 * e + 3 → onLine l c u e k ≡ f (lineX e k) (lineY e k)
 on-places f e l c u hl hc hu =
     on-values (λ (k : ℕ). f (lineX e k) (lineY e k)) e l c u
-    (λ i h. rw (on-left (λ (i : ℕ). −1) −1 pos e (e - i) i (omega arith), on-left pos −1 (λ (i : ℕ). −1) e (e - i) i (omega arith))
-    (hl i h))
+    (λ i h.
+    let k : e - i + i ≡ e = omega arith in
+    rw (on-left (λ (i : ℕ). −1) −1 pos e (e - i) i k, on-left pos −1 (λ (i : ℕ). −1) e (e - i) i k) (hl i h))
     (rw (on-corner (λ (i : ℕ). −1) −1 pos e (e + 1) refl, on-corner pos −1 (λ (i : ℕ). −1) e (e + 1) refl) hc)
     (λ i h. rw (on-above (λ (i : ℕ). −1) −1 pos e (e + 2 + i) i refl, on-above pos −1 (λ (i : ℕ). −1) e (e + 2 + i) i refl) (hu i h))
 
@@ -118,8 +119,8 @@ line-at false e neutral f rows h full =
     on-values (λ (k : ℕ). neutral) e _ _ _ (λ i l. getD-replicate 65 i neutral 0 (omega arith)) refl
     (λ i l. getD-replicate 65 i neutral 0 (omega arith))
 
--- A luma block of a picture. Whether 6.4.1 marks its neighbour in column x and row y from its first sample as available, and the
--- sample there.
+-- A luma block of a picture. Whether 6.4.1 marks its neighbour in column x and row y from its first sample as available, and the sample
+-- there.
 abbrev markedBy : LumaRefGeometry → ℤ → ℤ → Bool
 markedBy g = marked (gridOf (g .picture)) (lumaAt (g .bits)) (g .«block_col» .0) (g .«block_row» .0)
 

@@ -48,12 +48,10 @@ module _ {has : ℤ → ℤ → Bool} (off : Bounded has) (s t : ℕ → ℕ →
       record {
         corner =
             same-at (pos row -ℤ pos 1) (pos col -ℤ pos 1) (row - 1) (col - 1) (back row) (back col)
-            (λ e. inl (
-              not-first-col off col (pos row -ℤ pos 1) e,
-              omega arith,
-              omega
-                  (arith, not-first-row off row (pos col -ℤ pos 1) e),
-            )) i;
+            (λ e.
+            let h = not-first-row off row (pos col -ℤ pos 1) e in
+            inl (not-first-col off col (pos row -ℤ pos 1) e, omega arith, omega arith))
+            i;
         above =
             fill-same _ _ (2 * n + 1) (replicate 65 0)
             (λ j l.
