@@ -45,11 +45,11 @@ use Rattle.promises.specs.demand2.Demand2.{LentSlice, LentTables, Holds,
 use Rattle.promises.specs.demand2.Demand2.{WithScratch, Demand2}
 use Rattle.promises.specs.demand2.Spelt2.{luma-size, luma-refs-spelt, planar-spelt, dc-spelt, angular-spelt, chroma-spelt}
 
-abbrev len : LentSlice → ℕ
+abbrev pub len : LentSlice → ℕ
 len s = length (now s)
 
 -- what a call lends: rows of so many entries, a block of so many, and three tables
-abbrev withTables : ℕ → ℕ → ℕ → LentTables → Lengths
+abbrev pub withTables : ℕ → ℕ → ℕ → LentTables → Lengths
 withTables above left pred t = lengths above left pred (len (t .0)) (len (t .1 .0)) (len (t .1 .1 .0))
 
 -- what a door with this number left of the block that it was lent
@@ -68,15 +68,15 @@ module _ (clause : ℕ → ℕ → ℕ) (n number : ℕ) (pred pred′ : LentSli
   flat above left e = in-its-place (ready n above left (len pred) (sym e ∙ zero) .1)
 
   module _ (bits mode : ℕ) (lent : Lengths) (same : lent .pred ≡ len pred) where
-    angled : number ≡ angularNo bits n mode lent → Holds n clause (now pred′)
+    pub angled : number ≡ angularNo bits n mode lent → Holds n clause (now pred′)
     angled e = in-its-place (let h = fit bits n mode lent (sym e ∙ zero) .room in omega arith)
 
-    moded : number ≡ predictNo bits n mode lent → Holds n clause (now pred′)
+    pub moded : number ≡ predictNo bits n mode lent → Holds n clause (now pred′)
     moded e = in-its-place (let h = given bits n mode lent (sym e ∙ zero) .room in omega arith)
 
 -- the luma gather
 module _ (plane : List ℕ) (geo : LumaRefGeometry) (g : Gathered) (met : g ≡ getReferenceSamples plane geo) (served-call : g .no ≡ 0) where
-  no-is : lumaNo (length plane) geo ≡ 0
+  pub no-is : lumaNo (length plane) geo ≡ 0
   unfolding getReferenceSamples
   no-is = ap (λ (d : Gathered). d .no) (sym met) ∙ served-call
 
