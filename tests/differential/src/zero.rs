@@ -51,7 +51,7 @@ fn block(t: &mut Tally, mut call: Luma) -> usize {
 
 /// Column 7 of rows 0 to 7 black, all else white: the block of side 8 beside it has that column for its only available
 /// neighbours. Its rows are black; by the other reading nothing would be there, and they would be neutral.
-fn smallest(t: &mut Tally) {
+fn parting(t: &mut Tally) {
     let picture = Picture::new(16, 16, 16, 4);
     let mut call = Luma { bits: 8, picture, row: 0, col: 8, n: 8, plane: vec![WHITE; 256] };
     (0..8).for_each(|row| call.plane[row * 16 + 7] = BLACK);
@@ -75,7 +75,7 @@ fn borders(side: u32, ctu: u32, n: u32) -> Vec<u32> {
 }
 
 pub fn zero(t: &mut Tally) {
-    smallest(t);
+    parting(t);
     for ctu in CTUS {
         for unit in UNITS {
             for n in SIZES.map(|n| n as u32).into_iter().filter(|&n| unit <= n && n <= ctu) {
