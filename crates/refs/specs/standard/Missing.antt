@@ -13,7 +13,6 @@ use lib.IntN.{ℤ, pos, natAbs, _+ℤ_}
 use lib.ListN.{length, getD, replicate, getD-replicate}
 use borrow.Author.Tests.{lt-ltb, le-ltb, ltb-true}
 use Rattle.laws.specs.Choose.{both-true}
-use Rattle.laws.specs.Fill.{fill}
 use Rattle.laws.specs.FillLaws.{fill-at, fill-past}
 use Rattle.h265.specs.Notation.{−1}
 use Rattle.h265.specs.Setting.{lumaAt}
