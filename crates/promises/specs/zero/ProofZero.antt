@@ -51,7 +51,7 @@ use Rattle.predict.specs.modes.Angular.{angular-alone}
 use Rattle.predict.specs.modes.Modes.{pred-alone}
 use Rattle.predict.specs.refusals.Refusals.{Lengths, predictNo, angularNo}
 use Rattle.promises.specs.demand2.Demand2.{LentSlice, inRows, lumaSamples, chromaSamples, standardNeighbours, Gathers, Holds}
-use Rattle.promises.specs.demand2.Proof2.{len, withTables, angled, moded, no-is, demand-2}
+use Rattle.promises.specs.demand2.Proof2.{entriesIn, withLentTables, angled, moded, no-is, demand-2}
 use Rattle.promises.specs.zero.Zero.{AgreeWhereAvailable, SameButEntry2n, Substituted}
 use Rattle.promises.specs.zero.Zero.{SameBlocks, SameLumaBlocks, SameWithScratch, Zero}
 
@@ -146,37 +146,37 @@ module _ (n corner corner₂ : ℕ) (above left above₂ left₂ : LentSlice) wh
           (demand-2 .predict-planar-into κs above left n pred pred′ last last′ number p e)
           (demand-2 .predict-planar-into κt above₂ left₂ n buf buf′ more more′ number₂ q f)
           (λ x y hx hy.
-          planar-alone n x y (ready n (len above) (len left) (len pred) (sym (p .0) ∙ e) .0 .size) hx hy _ _ (a .above) (a .left));
+          planar-alone n x y (ready n (entriesIn above) (entriesIn left) (entriesIn pred) (sym (p .0) ∙ e) .0 .size) hx hy _ _ (a .above) (a .left));
       by-dc = λ κs κt edge pred pred′ last last′ number p e buf buf′ more more′ number₂ q f.
           same-at n pred′ buf′ (dc edge n (inRows 0 above left)) (dc edge n (inRows 0 above₂ left₂))
           (demand-2 .predict-dc-into κs above left n edge pred pred′ last last′ number p e)
           (demand-2 .predict-dc-into κt above₂ left₂ n edge buf buf′ more more′ number₂ q f)
           (λ x y hx hy.
-          dc-alone n x y (ready n (len above) (len left) (len pred) (sym (p .0) ∙ e) .0 .size) hx hy _ _ (a .above) (a .left) edge);
+          dc-alone n x y (ready n (entriesIn above) (entriesIn left) (entriesIn pred) (sym (p .0) ∙ e) .0 .size) hx hy _ _ (a .above) (a .left) edge);
       by-angular-slices = λ κs κt mode edge bits pred pred′ last last′ number p e buf buf′ more more′ number₂ q f.
           same-at n pred′ buf′ (angular bits edge n mode one) (angular bits edge n mode two)
           (demand-2 .predict-angular-slices κs corner above left n mode edge bits pred pred′ last last′ number p e)
           (demand-2 .predict-angular-slices κt corner₂ above₂ left₂ n mode edge bits buf buf′ more more′ number₂ q f)
           (λ x y hx hy.
-          angled-alike n one two a x y hx hy bits mode edge (withTables (len above) (len left) (len pred) last) (sym (p .0) ∙ e));
+          angled-alike n one two a x y hx hy bits mode edge (withLentTables (entriesIn above) (entriesIn left) (entriesIn pred) last) (sym (p .0) ∙ e));
       by-angular-fresh = λ κs κt mode edge bits pred pred′ last last′ number p e buf buf′ more more′ number₂ q f.
           same-at n pred′ buf′ (angular bits edge n mode one) (angular bits edge n mode two)
           (demand-2 .predict-angular-fresh κs corner above left n mode edge bits pred pred′ last last′ number p e)
           (demand-2 .predict-angular-fresh κt corner₂ above₂ left₂ n mode edge bits buf buf′ more more′ number₂ q f)
           (λ x y hx hy.
-          angled-alike n one two a x y hx hy bits mode edge (withScratch (len above) (len left) (len pred)) (sym (p .0) ∙ e));
+          angled-alike n one two a x y hx hy bits mode edge (withScratch (entriesIn above) (entriesIn left) (entriesIn pred)) (sym (p .0) ∙ e));
       by-chroma-slices = λ κs κt mode bits pred pred′ last last′ number p e buf buf′ more more′ number₂ q f.
           same-at n pred′ buf′ (chromaSamples bits n mode one) (chromaSamples bits n mode two)
           (demand-2 .predict-chroma-tb-slices κs mode corner above left n bits pred pred′ last last′ number p e)
           (demand-2 .predict-chroma-tb-slices κt mode corner₂ above₂ left₂ n bits buf buf′ more more′ number₂ q f)
           (λ x y hx hy.
-          moded-alike n one two a x y hx hy (chromaAt bits) bits mode (withTables (len above) (len left) (len pred) last) (sym (p .0) ∙ e));
+          moded-alike n one two a x y hx hy (chromaAt bits) bits mode (withLentTables (entriesIn above) (entriesIn left) (entriesIn pred) last) (sym (p .0) ∙ e));
       by-chroma-fresh = λ κs κt mode bits pred pred′ last last′ number p e buf buf′ more more′ number₂ q f.
           same-at n pred′ buf′ (chromaSamples bits n mode one) (chromaSamples bits n mode two)
           (demand-2 .predict-chroma-tb-fresh κs mode corner above left n bits pred pred′ last last′ number p e)
           (demand-2 .predict-chroma-tb-fresh κt mode corner₂ above₂ left₂ n bits buf buf′ more more′ number₂ q f)
           (λ x y hx hy.
-          moded-alike n one two a x y hx hy (chromaAt bits) bits mode (withScratch (len above) (len left) (len pred)) (sym (p .0) ∙ e));
+          moded-alike n one two a x y hx hy (chromaAt bits) bits mode (withScratch (entriesIn above) (entriesIn left) (entriesIn pred)) (sym (p .0) ∙ e));
     }
 
 -- those that take gathered rows
@@ -186,12 +186,12 @@ same-luma n rows rows₂ a = record {
       same-at n pred′ buf′ (lumaSamples bits n mode (neighboursOf rows)) (lumaSamples bits n mode (neighboursOf rows₂))
       (demand-2 .predict-luma-tb-slices κs mode rows n bits pred pred′ last last′ number p e)
       (demand-2 .predict-luma-tb-slices κt mode rows₂ n bits buf buf′ more more′ number₂ q f)
-      (λ x y hx hy. moded-alike n _ _ a x y hx hy (lumaAt bits) bits mode (withTables 65 65 (len pred) last) (sym (p .0) ∙ e));
+      (λ x y hx hy. moded-alike n _ _ a x y hx hy (lumaAt bits) bits mode (withLentTables 65 65 (entriesIn pred) last) (sym (p .0) ∙ e));
   by-luma-fresh = λ κs κt mode bits pred pred′ last last′ number p e buf buf′ more more′ number₂ q f.
       same-at n pred′ buf′ (lumaSamples bits n mode (neighboursOf rows)) (lumaSamples bits n mode (neighboursOf rows₂))
       (demand-2 .predict-luma-tb-fresh κs mode rows n bits pred pred′ last last′ number p e)
       (demand-2 .predict-luma-tb-fresh κt mode rows₂ n bits buf buf′ more more′ number₂ q f)
-      (λ x y hx hy. moded-alike n _ _ a x y hx hy (lumaAt bits) bits mode (withScratch 65 65 (len pred)) (sym (p .0) ∙ e));
+      (λ x y hx hy. moded-alike n _ _ a x y hx hy (lumaAt bits) bits mode (withScratch 65 65 (entriesIn pred)) (sym (p .0) ∙ e));
 }
 
 -- those with the scratch as a struct
@@ -201,19 +201,19 @@ module _ {M : Type 1} (𝓤 : URA M) (H : Heap 𝓤) (A : Atoms 𝓤) (mem : Mem
     angular-held = λ n corner corner₂ above left above₂ left₂ a κs mode edge bits pred pred′ last last′ number zero.
         fact-mono 𝓤 _ _
         (λ p x y hx hy.
-        let lent = withScratch (len above) (len left) (len pred) in
+        let lent = withScratch (entriesIn above) (entriesIn left) (entriesIn pred) in
         angled (angular bits edge n mode (inRows corner above left)) n number pred pred′ zero (p .1 .0) bits mode lent refl (p .0) x y hx hy
         ∙ angled-alike n _ _ a x y hx hy bits mode edge lent (sym (p .0) ∙ zero));
     chroma-held = λ n corner corner₂ above left above₂ left₂ a κs mode bits pred pred′ last last′ number zero.
         fact-mono 𝓤 _ _
         (λ p x y hx hy.
-        let lent = withScratch (len above) (len left) (len pred) in
+        let lent = withScratch (entriesIn above) (entriesIn left) (entriesIn pred) in
         moded (chromaSamples bits n mode (inRows corner above left)) n number pred pred′ zero (p .1 .0) bits mode lent refl (p .0) x y hx hy
         ∙ moded-alike n _ _ a x y hx hy (chromaAt bits) bits mode lent (sym (p .0) ∙ zero));
     luma-held = λ n rows rows₂ a κs mode bits pred pred′ last last′ number zero.
         fact-mono 𝓤 _ _
         (λ p x y hx hy.
-        let lent = withScratch 65 65 (len pred) in
+        let lent = withScratch 65 65 (entriesIn pred) in
         moded (lumaSamples bits n mode (neighboursOf rows)) n number pred pred′ zero (p .1 .0) bits mode lent refl (p .0) x y hx hy
         ∙ moded-alike n _ _ a x y hx hy (lumaAt bits) bits mode lent (sym (p .0) ∙ zero));
   }

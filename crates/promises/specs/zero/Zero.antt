@@ -66,18 +66,18 @@ Available geo k = markedOn geo k ≡ true
 abbrev pub Missing : LumaRefGeometry → ℕ → Type 0
 Missing geo k = markedOn geo k ≡ false
 
-abbrev pub entry : LumaRefGeometry → Gathered → ℕ → ℕ
-entry geo g k = samplesOn (g .rows) (2 * geo .n) k
+abbrev pub entryAtPlace : LumaRefGeometry → Gathered → ℕ → ℕ
+entryAtPlace geo g k = samplesOn (g .rows) (2 * geo .n) k
 
 -- what a gather g of a plane holds along its line
 pub record Substituted (plane : LentSlice) (geo : LumaRefGeometry) (g : Gathered) : Type 0 where
   -- an available neighbour is its sample, black or not
-  pub available : (k : ℕ) → k < 4 * geo .n + 3 → Available geo k → entry geo g k ≡ sampleOn (now plane) geo k
+  pub available : (k : ℕ) → k < 4 * geo .n + 3 → Available geo k → entryAtPlace geo g k ≡ sampleOn (now plane) geo k
   -- entries before the first available one take its value
   pub before-first : (j : ℕ) → j < 4 * geo .n + 3 → Available geo j → ((i : ℕ) → i < j → Missing geo i)
-      → (k : ℕ) → k < j → entry geo g k ≡ entry geo g j
+      → (k : ℕ) → k < j → entryAtPlace geo g k ≡ entryAtPlace geo g j
   -- each later gap takes the entry before it
-  pub later-gap : (k : ℕ) → suc k < 4 * geo .n + 3 → Missing geo (suc k) → entry geo g (suc k) ≡ entry geo g k
+  pub later-gap : (k : ℕ) → suc k < 4 * geo .n + 3 → Missing geo (suc k) → entryAtPlace geo g (suc k) ≡ entryAtPlace geo g k
   -- none available: the corner and all 65 entries of both rows are neutral
   pub none-available : ((k : ℕ) → k < 4 * geo .n + 3 → Missing geo k) → g .rows ≡ levelRows (2 ^ (geo .bits - 1))
 
