@@ -259,18 +259,20 @@ zero-settled = record {
       let one = demand-2 .filter-references κs corner above left n r p e 0 in
       let two = demand-2 .filter-references κt corner₂ above₂ left₂ n s q f 0 in
       let pF = filtered-agrees n _ _ same false 0 (filter-some n corner (now above) (now left) r p e) in
-      same-blocks n c c a l a₂ l₂
-      (lent-agree n c c a l a₂ l₂ (r .above) (r .left) (s .above) (s .left) ea el ea₂ el₂
+      let agree =
+      lent-agree n c c a l a₂ l₂ (r .above) (r .left) (s .above) (s .left) ea el ea₂ el₂
       (record {
         corner = refl;
         above = λ i h. one i h .0 ∙ pF .above i h ∙ sym (two i h .0);
         left = λ i h. one i h .1 ∙ pF .left i h ∙ sym (two i h .1);
-      }));
+      }) in
+      (agree, same-blocks n c c a l a₂ l₂ agree);
   past-2n-unread-smoothed = λ n corner corner₂ above left above₂ left₂ same κs κt bits r s p e q f a l a₂ l₂ ea el ea₂ el₂.
       let rows-agree =
       joined n _ _ _ _ (demand-2 .filter-luma-refs κs corner above left n bits r p e)
       (filtered-agrees n _ _ same true bits (smooth-some n corner (now above) (now left) bits r p e))
       (demand-2 .filter-luma-refs κt corner₂ above₂ left₂ n bits s q f) in (
+        rows-agree,
         same-blocks n (r .rows .corner) (s .rows .corner) a l a₂ l₂
             (lent-agree n _ _ a l a₂ l₂ (r .rows .above) (r .rows .left) (s .rows .above) (s .rows .left) ea el ea₂ el₂ rows-agree),
         same-luma n (r .rows) (s .rows) rows-agree,

@@ -168,14 +168,15 @@ pub record Zero : Type 2 where
   pub past-2n-unread-held : {M : Type 1} (𝓤 : URA M) (H : Heap 𝓤) (A : Atoms 𝓤) (mem : Memory → SProp 𝓤) (run : Routine → Fun 𝓤)
       → SameWithScratch 𝓤 H A mem run
   -- Nor by way of smoothing, which the rule does not ask for at side 4 nor for DC and which the functions do there too: filter_references
-  -- and then a predictor, with any corner; filter_luma_refs, weak or strong, and then a predictor.
+  -- and then a predictor, with any corner; filter_luma_refs, weak or strong, and then a predictor. What was smoothed agrees again, so the
+  -- doors with the scratch as a struct follow too.
   pub past-2n-unread-filtered : (n corner corner₂ : ℕ) (above left above₂ left₂ : LentSlice)
       → Agree n (inRows corner above left) (inRows corner₂ above₂ left₂)
       → (κs κt : Lfts 2) (r s : FilteredRows)
       → weak-filter.Post κs (corner and above and left and n and none) r (corner and above and left and n and none) → r .no ≡ 0
       → weak-filter.Post κt (corner₂ and above₂ and left₂ and n and none) s (corner₂ and above₂ and left₂ and n and none) → s .no ≡ 0
       → (a l a₂ l₂ : LentSlice) → now a ≡ r .above → now l ≡ r .left → now a₂ ≡ s .above → now l₂ ≡ s .left
-      → (c : ℕ) → SameBlocks n c c a l a₂ l₂
+      → (c : ℕ) → Agree n (inRows c a l) (inRows c a₂ l₂) × SameBlocks n c c a l a₂ l₂
   pub past-2n-unread-smoothed : (n corner corner₂ : ℕ) (above left above₂ left₂ : LentSlice)
       → Agree n (inRows corner above left) (inRows corner₂ above₂ left₂)
       → (κs κt : Lfts 2) (bits : ℕ) (r s : Smoothed)
@@ -184,4 +185,5 @@ pub record Zero : Type 2 where
       → luma-filter.Post κt (corner₂ and above₂ and left₂ and n and bits and none) s (corner₂ and above₂ and left₂ and n and bits and none)
       → s .no ≡ 0
       → (a l a₂ l₂ : LentSlice) → now a ≡ r .rows .above → now l ≡ r .rows .left → now a₂ ≡ s .rows .above → now l₂ ≡ s .rows .left
-      → SameBlocks n (r .rows .corner) (s .rows .corner) a l a₂ l₂ × SameLumaBlocks n (r .rows) (s .rows)
+      → Agree n (neighboursOf (r .rows)) (neighboursOf (s .rows))
+      × SameBlocks n (r .rows .corner) (s .rows .corner) a l a₂ l₂ × SameLumaBlocks n (r .rows) (s .rows)
