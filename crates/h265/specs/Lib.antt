@@ -21,5 +21,7 @@ pub mod Angular
 pub mod Prediction
 -- neighbours that agree where prediction reads them, and predictors that are means
 pub mod Mean
+-- what neighbours and predictions are read from: the available samples beside a block
+pub mod Locality
 -- small evaluations, of other figures than document 01's
 pub mod Examples

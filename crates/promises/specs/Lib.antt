@@ -7,6 +7,8 @@ pub mod demand3
 pub mod OnBytes
 -- Program: intrawalk prints a refusal, or all blocks and `same`.
 pub mod Program
+-- Zero: a zero in a reference row is a black sample.
+pub mod zero
 pub mod tables
 pub mod run_tables
 pub mod one_answer

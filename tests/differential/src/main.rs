@@ -29,6 +29,7 @@ mod step;
 mod table;
 mod tally;
 mod walk;
+mod zero;
 
 /// The Rust of docs/src, unchanged; see build.rs.
 mod oracle {
@@ -59,6 +60,7 @@ const SUBJECTS: &[(&str, Subject)] = &[
     ("differences in prediction", differences::prediction),
     ("substitution", refs::substitution),
     ("luma gather", refs::luma),
+    ("zero", zero::zero),
     ("chroma pair gather", refs::chroma),
     ("chroma block", block::chroma),
     ("luma block", block::luma),

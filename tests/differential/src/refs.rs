@@ -15,8 +15,8 @@ use crate::tally::{Tally, Want};
 pub type Rows = (u16, [u16; 65], [u16; 65]);
 
 const ZEROS: Rows = (0, [0; 65], [0; 65]);
-const CTUS: [u32; 3] = [16, 32, 64];
-const UNITS: [u32; 2] = [4, 8];
+pub const CTUS: [u32; 3] = [16, 32, 64];
+pub const UNITS: [u32; 2] = [4, 8];
 /// Pictures whose every place is tried: smaller than a CTU, and of sides that are no multiple of one.
 const PICTURES: [(u32, u32); 6] = [(8, 8), (16, 24), (40, 24), (64, 40), (72, 40), (24, 72)];
 

@@ -8,9 +8,9 @@ use crate::table::Picture;
 use crate::tally::Tally;
 
 /// The corner, and entries 0 to 2n-1 of the row above and of the left column: the standard has no more.
-type Entries = (u16, Vec<u16>, Vec<u16>);
+pub type Entries = (u16, Vec<u16>, Vec<u16>);
 
-fn standard_part(rows: &Rows, n: usize) -> Entries {
+pub fn standard_part(rows: &Rows, n: usize) -> Entries {
     (rows.0, rows.1[..2 * n].to_vec(), rows.2[..2 * n].to_vec())
 }
 
@@ -28,7 +28,7 @@ fn substituted(mut line: Vec<Option<u16>>, n: usize, neutral: u16) -> Entries {
 }
 
 /// The line of a block whose neighbours are told by row and column relative to it.
-fn gathered(n: usize, neutral: u16, at: impl Fn(i64, i64) -> Option<u16>) -> Entries {
+pub fn gathered(n: usize, neutral: u16, at: impl Fn(i64, i64) -> Option<u16>) -> Entries {
     let most = 2 * n as i64;
     let left = (0..most).rev().map(|i| at(i, -1));
     let above = (0..most).map(|i| at(-1, i));
@@ -51,13 +51,16 @@ fn available(p: Picture, current: (u32, u32), row: i64, col: i64) -> bool {
     inside && of(row as u32, col as u32) <= of(current.0, current.1)
 }
 
-fn luma_entries(call: &Luma) -> Entries {
+/// The sample in a row and a column relative to a luma block, where it is available.
+pub fn luma_sample(call: &Luma, dr: i64, dc: i64) -> Option<u16> {
     let p = call.picture;
-    gathered(call.n, neutral(call.bits), |dr, dc| {
-        let (row, col) = (call.row as i64 + dr, call.col as i64 + dc);
-        let there = available(p, (call.row, call.col), row, col);
-        there.then(|| call.plane[row as usize * p.width as usize + col as usize])
-    })
+    let (row, col) = (call.row as i64 + dr, call.col as i64 + dc);
+    let there = available(p, (call.row, call.col), row, col);
+    there.then(|| call.plane[row as usize * p.width as usize + col as usize])
+}
+
+pub fn luma_entries(call: &Luma) -> Entries {
+    gathered(call.n, neutral(call.bits), |dr, dc| luma_sample(call, dr, dc))
 }
 
 /// The references of a chroma block in a picture of that CTU, whose least transform block is 4. The current place is the

@@ -45,12 +45,12 @@ use Rattle.promises.specs.demand2.Demand2.{LentSlice, LentTables, Holds,
 use Rattle.promises.specs.demand2.Demand2.{WithScratch, Demand2}
 use Rattle.promises.specs.demand2.Spelt2.{luma-size, luma-refs-spelt, planar-spelt, dc-spelt, angular-spelt, chroma-spelt}
 
-abbrev len : LentSlice → ℕ
-len s = length (now s)
+abbrev pub entriesIn : LentSlice → ℕ
+entriesIn s = length (now s)
 
 -- what a call lends: rows of so many entries, a block of so many, and three tables
-abbrev withTables : ℕ → ℕ → ℕ → LentTables → Lengths
-withTables above left pred t = lengths above left pred (len (t .0)) (len (t .1 .0)) (len (t .1 .1 .0))
+abbrev pub withLentTables : ℕ → ℕ → ℕ → LentTables → Lengths
+withLentTables above left pred t = lengths above left pred (entriesIn (t .0)) (entriesIn (t .1 .0)) (entriesIn (t .1 .1 .0))
 
 -- what a door with this number left of the block that it was lent
 abbrev Left : (ℕ → ℕ → ℕ) → ℕ → ℕ → LentSlice → LentSlice → Type 0
@@ -58,25 +58,25 @@ Left clause n number pred pred′ = now pred′ ≡ served number (block (λ (y 
 
 -- one with the number 0
 module _ (clause : ℕ → ℕ → ℕ) (n number : ℕ) (pred pred′ : LentSlice) (zero : number ≡ 0) (holds : Left clause n number pred pred′) where
-  in-its-place : n * n ≤ len pred → Holds n clause (now pred′)
+  in-its-place : n * n ≤ entriesIn pred → Holds n clause (now pred′)
   in-its-place room x y hx hy =
       ap (λ (l : List ℕ). getD l (y * n + x) 0) (holds ∙ sym (worked number (block (λ (y x : ℕ). clause x y) n (now pred)) (now pred) zero))
       ∙ rows-at (λ (y x : ℕ). clause x y) n n (now pred) y x 0 hy hx room
 
   -- by the kind of its number: planar and DC; angular; a block in any mode
-  flat : (above left : ℕ) → number ≡ flatNo n above left (len pred) → Holds n clause (now pred′)
-  flat above left e = in-its-place (ready n above left (len pred) (sym e ∙ zero) .1)
+  flat : (above left : ℕ) → number ≡ flatNo n above left (entriesIn pred) → Holds n clause (now pred′)
+  flat above left e = in-its-place (ready n above left (entriesIn pred) (sym e ∙ zero) .1)
 
-  module _ (bits mode : ℕ) (lent : Lengths) (same : lent .pred ≡ len pred) where
-    angled : number ≡ angularNo bits n mode lent → Holds n clause (now pred′)
+  module _ (bits mode : ℕ) (lent : Lengths) (same : lent .pred ≡ entriesIn pred) where
+    pub angled : number ≡ angularNo bits n mode lent → Holds n clause (now pred′)
     angled e = in-its-place (let h = fit bits n mode lent (sym e ∙ zero) .room in omega arith)
 
-    moded : number ≡ predictNo bits n mode lent → Holds n clause (now pred′)
+    pub moded : number ≡ predictNo bits n mode lent → Holds n clause (now pred′)
     moded e = in-its-place (let h = given bits n mode lent (sym e ∙ zero) .room in omega arith)
 
 -- the luma gather
 module _ (plane : List ℕ) (geo : LumaRefGeometry) (g : Gathered) (met : g ≡ getReferenceSamples plane geo) (served-call : g .no ≡ 0) where
-  no-is : lumaNo (length plane) geo ≡ 0
+  pub no-is : lumaNo (length plane) geo ≡ 0
   unfolding getReferenceSamples
   no-is = ap (λ (d : Gathered). d .no) (sym met) ∙ served-call
 
@@ -87,7 +87,7 @@ module _ (plane : List ℕ) (geo : LumaRefGeometry) (g : Gathered) (met : g ≡ 
   -- and a luma block over the rows that it gave
   whole : (mode number : ℕ) (pred pred′ : LentSlice) → number ≡ 0
       → Left (lumaSamples (geo .bits) (geo .n) mode (neighboursOf (g .rows))) (geo .n) number pred pred′
-      → (lent : Lengths) → lent .pred ≡ len pred → number ≡ predictNo (geo .bits) (geo .n) mode lent
+      → (lent : Lengths) → lent .pred ≡ entriesIn pred → number ≡ predictNo (geo .bits) (geo .n) mode lent
       → Holds (geo .n) (standardBlock plane geo mode) (now pred′)
   unfolding predicted
   whole mode number pred pred′ zero holds lent same e x y hx hy =
@@ -127,15 +127,15 @@ module _ {M : Type 1} (𝓤 : URA M) (H : Heap 𝓤) (A : Atoms 𝓤) (mem : Mem
   with-scratch = record {
     predict-angular-into = λ κs corner above left n mode edge bits pred pred′ last last′ number zero.
         fact-mono 𝓤 _ _
-        (λ p. angled _ n number pred pred′ zero (p .1 .0) bits mode (withScratch (len above) (len left) (len pred)) refl (p .0));
+        (λ p. angled _ n number pred pred′ zero (p .1 .0) bits mode (withScratch (entriesIn above) (entriesIn left) (entriesIn pred)) refl (p .0));
     predict-chroma-tb-into = λ κs mode corner above left n bits pred pred′ last last′ number zero.
         fact-mono 𝓤 _ _
-        (λ p. moded _ n number pred pred′ zero (p .1 .0) bits mode (withScratch (len above) (len left) (len pred)) refl (p .0));
+        (λ p. moded _ n number pred pred′ zero (p .1 .0) bits mode (withScratch (entriesIn above) (entriesIn left) (entriesIn pred)) refl (p .0));
     predict-luma-tb-into = λ κs mode rows n bits pred pred′ last last′ number zero.
-        fact-mono 𝓤 _ _ (λ p. moded _ n number pred pred′ zero (p .1 .0) bits mode (withScratch 65 65 (len pred)) refl (p .0));
+        fact-mono 𝓤 _ _ (λ p. moded _ n number pred pred′ zero (p .1 .0) bits mode (withScratch 65 65 (entriesIn pred)) refl (p .0));
     gathered-luma-into = λ κ plane geo g m κs mode pred pred′ last last′ number zero.
         fact-mono 𝓤 _ _
-        (λ p. whole (now plane) geo g (m .0) (m .1) mode number pred pred′ zero (p .1 .0) (withScratch 65 65 (len pred)) refl (p .0));
+        (λ p. whole (now plane) geo g (m .0) (m .1) mode number pred pred′ zero (p .1 .0) (withScratch 65 65 (entriesIn pred)) refl (p .0));
   }
 
 pub demand-2 : Demand2
@@ -145,25 +145,25 @@ demand-2 = record {
   filter-references = λ κs corner above left n. weakly corner (now above) (now left) n;
   filter-luma-refs = λ κs corner above left n. either-form corner (now above) (now left) n;
   predict-planar-into = λ κs above left n pred pred′ last last′ number p zero.
-      flat _ n number pred pred′ zero (p .1) (len above) (len left) (p .0);
+      flat _ n number pred pred′ zero (p .1) (entriesIn above) (entriesIn left) (p .0);
   predict-dc-into = λ κs above left n edge pred pred′ last last′ number p zero.
-      flat _ n number pred pred′ zero (p .1) (len above) (len left) (p .0);
+      flat _ n number pred pred′ zero (p .1) (entriesIn above) (entriesIn left) (p .0);
   predict-angular-slices = λ κs corner above left n mode edge bits pred pred′ last last′ number p zero.
-      angled _ n number pred pred′ zero (p .1 .0) bits mode (withTables (len above) (len left) (len pred) last) refl (p .0);
+      angled _ n number pred pred′ zero (p .1 .0) bits mode (withLentTables (entriesIn above) (entriesIn left) (entriesIn pred) last) refl (p .0);
   predict-angular-fresh = λ κs corner above left n mode edge bits pred pred′ last last′ number p zero.
-      angled _ n number pred pred′ zero (p .1) bits mode (withScratch (len above) (len left) (len pred)) refl (p .0);
+      angled _ n number pred pred′ zero (p .1) bits mode (withScratch (entriesIn above) (entriesIn left) (entriesIn pred)) refl (p .0);
   predict-chroma-tb-slices = λ κs mode corner above left n bits pred pred′ last last′ number p zero.
-      moded _ n number pred pred′ zero (p .1 .0) bits mode (withTables (len above) (len left) (len pred) last) refl (p .0);
+      moded _ n number pred pred′ zero (p .1 .0) bits mode (withLentTables (entriesIn above) (entriesIn left) (entriesIn pred) last) refl (p .0);
   predict-chroma-tb-fresh = λ κs mode corner above left n bits pred pred′ last last′ number p zero.
-      moded _ n number pred pred′ zero (p .1) bits mode (withScratch (len above) (len left) (len pred)) refl (p .0);
+      moded _ n number pred pred′ zero (p .1) bits mode (withScratch (entriesIn above) (entriesIn left) (entriesIn pred)) refl (p .0);
   predict-luma-tb-slices = λ κs mode rows n bits pred pred′ last last′ number p zero.
-      moded _ n number pred pred′ zero (p .1 .0) bits mode (withTables 65 65 (len pred) last) refl (p .0);
+      moded _ n number pred pred′ zero (p .1 .0) bits mode (withLentTables 65 65 (entriesIn pred) last) refl (p .0);
   predict-luma-tb-fresh = λ κs mode rows n bits pred pred′ last last′ number p zero.
-      moded _ n number pred pred′ zero (p .1) bits mode (withScratch 65 65 (len pred)) refl (p .0);
+      moded _ n number pred pred′ zero (p .1) bits mode (withScratch 65 65 (entriesIn pred)) refl (p .0);
   gathered-luma-slices = λ κ plane geo g m κs mode pred pred′ last last′ number p zero.
-      whole (now plane) geo g (m .0) (m .1) mode number pred pred′ zero (p .1 .0) (withTables 65 65 (len pred) last) refl (p .0);
+      whole (now plane) geo g (m .0) (m .1) mode number pred pred′ zero (p .1 .0) (withLentTables 65 65 (entriesIn pred) last) refl (p .0);
   gathered-luma-fresh = λ κ plane geo g m κs mode pred pred′ last last′ number p zero.
-      whole (now plane) geo g (m .0) (m .1) mode number pred pred′ zero (p .1) (withScratch 65 65 (len pred)) refl (p .0);
+      whole (now plane) geo g (m .0) (m .1) mode number pred pred′ zero (p .1) (withScratch 65 65 (entriesIn pred)) refl (p .0);
   with-scratch = with-scratch;
   salvrunde-luma-refs = λ κs bits width height ctu unit row col n plane bytes out out′ number.
       luma-refs-spelt (now plane) (lumaGeometry bits width height ctu unit row col n) (now out) bytes;

@@ -12,11 +12,11 @@ use borrow.Author.Tests.{lt-ltb, le-ltb}
 use Rattle.h265.specs.Substitution.{firstMarked, settled}
 use Rattle.refs.specs.substitution.Line.{told}
 
-clash : {b : Bool} → b ≡ true → b ≡ false → ⊥
+pub clash : {b : Bool} → b ≡ true → b ≡ false → ⊥
 clash p q = false≢true (sym q ∙ p)
 
 -- what is found is marked, and nothing before it is
-found-marked : (a : ℕ → Bool) (k m : ℕ) → firstMarked a k m < k + m → a (firstMarked a k m) ≡ true
+pub found-marked : (a : ℕ → Bool) (k m : ℕ) → firstMarked a k m < k + m → a (firstMarked a k m) ≡ true
 unfolding firstMarked
 found-marked a k zero h = absurd (omega arith)
 found-marked a k (suc m) h = go (a k) refl h (found-marked a (suc k) m)
@@ -39,7 +39,7 @@ before-found a k (suc m) q h l = go (a k) refl l (before-found a (suc k) m q) (�
     go false e r ih (no n) = ih (omega arith) r
 
 -- so it is no later than any marked place
-found-by : (a : ℕ → Bool) (m k : ℕ) → a k ≡ true → firstMarked a 0 m ≤ k
+pub found-by : (a : ℕ → Bool) (m k : ℕ) → a k ≡ true → firstMarked a 0 m ≤ k
 found-by a m k e = go (decLt k (firstMarked a 0 m))
   where
     go : Dec (k < firstMarked a 0 m) → firstMarked a 0 m ≤ k

@@ -41,15 +41,15 @@ use Rattle.refs.specs.standard.Shorter.{Shared, shorter}
 
 -- the places of our line
 module _ {A : Type 0} (l : ℕ → A) (c : A) (u : ℕ → A) (e : ℕ) where
-  on-left : (k i : ℕ) → k + i ≡ e → onLine l c u e k ≡ l i
+  pub on-left : (k i : ℕ) → k + i ≡ e → onLine l c u e k ≡ l i
   unfolding onLine
   on-left k i h = simp (le-leb k e (omega arith)) (ap l (omega arith))
 
-  on-corner : (k : ℕ) → k ≡ e + 1 → onLine l c u e k ≡ c
+  pub on-corner : (k : ℕ) → k ≡ e + 1 → onLine l c u e k ≡ c
   unfolding onLine
   on-corner k h = simp (lt-leb k e (omega arith), eq-eqb k (e + 1) h)
 
-  on-above : (k i : ℕ) → k ≡ e + 2 + i → onLine l c u e k ≡ u i
+  pub on-above : (k i : ℕ) → k ≡ e + 2 + i → onLine l c u e k ≡ u i
   unfolding onLine
   on-above k i h = simp (lt-leb k e (omega arith), ne-eqb k (e + 1) (λ q. omega (arith, q))) (ap u (omega arith))
 
@@ -171,13 +171,13 @@ there p limit (pos r) (pos c) h = (refl, refl)
 there p limit (pos r) (negsuc c) h = absurd (false≢true h)
 there p limit (negsuc r) c h = absurd (false≢true h)
 
-back : (m : ℕ) → pos m -ℤ pos 1 ≡ pos (natAbs (pos m -ℤ pos 1)) → m - 1 ≡ natAbs (pos m -ℤ pos 1)
+pub back : (m : ℕ) → pos m -ℤ pos 1 ≡ pos (natAbs (pos m -ℤ pos 1)) → m - 1 ≡ natAbs (pos m -ℤ pos 1)
 back m h = omega (arith, one-less m (natAbs (pos m -ℤ pos 1)) h)
 
-filled : {A : Type 0} (f : ℕ → A) (z : A) (n i : ℕ) → n ≤ 32 → i ≤ 2 * n → getD (fill f (2 * n + 1) (replicate 65 z)) i z ≡ f i
+pub filled : {A : Type 0} (f : ℕ → A) (z : A) (n i : ℕ) → n ≤ 32 → i ≤ 2 * n → getD (fill f (2 * n + 1) (replicate 65 z)) i z ≡ f i
 filled f z n i h l = fill-at f (2 * n + 1) (replicate 65 z) i z (omega arith) (omega (arith, length-replicate 65 z))
 
-filled-length : (f : ℕ → ℕ) (n : ℕ) → length (fill f n (replicate 65 0)) ≡ 65
+pub filled-length : (f : ℕ → ℕ) (n : ℕ) → length (fill f n (replicate 65 0)) ≡ 65
 filled-length f n = length-fill f n (replicate 65 0) ∙ length-replicate {A = ℕ} 65 0
 
 -- a missing sample's value is looked at nowhere
@@ -245,7 +245,7 @@ module _ {p : Picture} {row : LumaRow} {col : LumaCol} {n : ℕ} (placed : Gathe
     abbrev read : ℤ → ℤ → ℕ
     read x y = sample (natAbs (pos (row .0) +ℤ y)) (natAbs (pos (col .0) +ℤ x))
 
-    mark-is : (x y : ℤ) → (y ≡ negsuc 0) ⊎ (x ≡ negsuc 0) → has (pos (row .0) +ℤ y) (pos (col .0) +ℤ x) ≡ mark x y
+    pub mark-is : (x y : ℤ) → (y ≡ negsuc 0) ⊎ (x ≡ negsuc 0) → has (pos (row .0) +ℤ y) (pos (col .0) +ℤ x) ≡ mark x y
     unfolding marked
     mark-is x y off = sym (available-is (pos (row .0) +ℤ y) (pos (col .0) +ℤ x) near)
         ∙ at-one (col .0) (row .0) (pos (col .0) +ℤ x) (pos (row .0) +ℤ y)
@@ -264,7 +264,7 @@ module _ {p : Picture} {row : LumaRow} {col : LumaCol} {n : ℕ} (placed : Gathe
         (mark-is (negsuc 0) (negsuc 0) (inl refl))
         (λ i l. filled _ false n i (placed .size .1) (omega arith) ∙ mark-is (pos i) (negsuc 0) (inl refl))
 
-    read-is : (x y : ℤ) (r c : ℕ) → (y ≡ negsuc 0) ⊎ (x ≡ negsuc 0)
+    pub read-is : (x y : ℤ) (r c : ℕ) → (y ≡ negsuc 0) ⊎ (x ≡ negsuc 0)
         → (pos (row .0) +ℤ y ≡ pos (natAbs (pos (row .0) +ℤ y)) → r ≡ natAbs (pos (row .0) +ℤ y))
         → (pos (col .0) +ℤ x ≡ pos (natAbs (pos (col .0) +ℤ x)) → c ≡ natAbs (pos (col .0) +ℤ x))
         → cond (has (pos (row .0) +ℤ y) (pos (col .0) +ℤ x)) (sample r c) 0 ≡ cond (mark x y) (read x y) 0
@@ -321,7 +321,7 @@ aligned unit n v u s l e = ⊎-elim (at 4 four) (at 8 eight) u
     at k f q = subst (λ (m : ℕ). v % m ≡ 0) (sym q) (f (omega arith) e)
 
 -- what the gather's number 0 says
-placed-of : (len : ℕ) (g : LumaRefGeometry) → lumaNo len g ≡ 0 → GatherPlaced (g .picture) (g .«block_row») (g .«block_col») (g .n)
+pub placed-of : (len : ℕ) (g : LumaRefGeometry) → lumaNo len g ≡ 0 → GatherPlaced (g .picture) (g .«block_row») (g .«block_col») (g .n)
 unfolding lumaNo
 placed-of len g e =
     let p = g .picture in

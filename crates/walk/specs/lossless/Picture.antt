@@ -100,7 +100,7 @@ module _ (s : Still) (plan : ℕ → Block) (count : ℕ) (ok : Accepted (s .fra
       → ((i : ℕ) (t : Sample s) → i < k → OfS s plan i t → look s a t ≡ look s b t) → (t : Sample s) → OfS s plan k t
       → predict s plan k a t ≡ predict s plan k b t
   unfolding before
-  local k a b l oa ob same t o = at a oa ∙ ap from (luma-unread (geometryOf s (plan k)) a b there) ∙ sym (at b ob)
+  local k a b l oa ob same t o = at a oa ∙ ap from (luma-unread (geometryOf s (plan k)) a b (λ r c near. there r c)) ∙ sym (at b ob)
     where
       from : Rows → ℕ
       from u = predSamples (lumaAt (s .bits)) firstEditionStrong (plan k .side) (plan k .mode) (neighboursOf u) (t .col - plan k .col)
