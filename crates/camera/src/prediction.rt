@@ -107,7 +107,8 @@ fn mode_block(
 )
     requires { ⌜ Predictable bits n mode × SampleRoom n (length (now above)) (length (now left)) (length (now pred)) ⌝ }
     ensures { λ _. ⌜ now (pred .exit)
-        ≡ block (λ (y x : ℕ). byMode bits edge edge n mode (lentNeighbours corner above left) x y) n (now (pred .entry)) ⌝ }
+        ≡ block (λ (y x : ℕ). byMode bits edge edge n mode (lentNeighbours corner above left) x y) n
+        (now (pred .entry)) ⌝ }
 {
     match mode {
         0 => {

@@ -22,7 +22,7 @@ ghost use Rattle.walk.specs.block_rows.Ready.{RowIn, RowsIn};
 ghost use Rattle.walk.specs.block.Rebuilt.{rebuilt, replayUnit};
 ghost use Rattle.walk.specs.calls.Steps.{doingOf};
 ghost use Rattle.walk.specs.calls.Ready.{Sound};
-ghost use Rattle.camera.specs.replay.Verdict.{wholeBy, byteVerdict, answered};
+ghost use Rattle.camera.specs.replay.Verdict.{wholeBy, lentBytes, byteVerdict, answered};
 ghost use Rattle.camera.specs.replay.VerdictLaws.{putWord, byteNo};
 ghost use Rattle.camera.specs.replay.Door.{replayed};
 use crate::gather;
@@ -208,13 +208,7 @@ fn are_whole(s: Still, plane: usize, residuals: usize) -> bool
 
 // The number of the checks before the plan's: 1, 4, 5, 8.
 fn byte_no(s: Still, plan: &[u8], residuals: &[u8], plane: usize, result: usize) -> u32
-    ensures { λ r. ⌜ r ≡ byteNo s (record {
-      plan = now (plan .entry);
-      residuals = now (residuals .entry);
-      plane =
-          plane;
-      result = result;
-    }) ⌝ }
+    ensures { λ r. ⌜ r ≡ byteNo s (lentBytes (now (plan .entry)) (now (residuals .entry)) plane result) ⌝ }
 {
     let planes = are_whole(s, plane, residuals.len());
     let no = checks::opening_no(s, planes & (plan.len() % 6 == 0) & (result >= 8));
@@ -233,12 +227,7 @@ fn verdict(
     plane: usize,
     result: usize,
 ) -> Verdict
-    ensures { λ v. ⌜ v ≡ byteVerdict s done (record {
-      plan = now (plan .entry);
-      residuals = now (residuals .entry);
-      plane = plane;
-      result = result;
-    }) ⌝ }
+    ensures { λ v. ⌜ v ≡ byteVerdict s done (lentBytes (now (plan .entry)) (now (residuals .entry)) plane result) ⌝ }
 {
     let early = byte_no(s, plan, residuals, plane, result);
     let found = plan::check_plan_bytes(s.frame, plan);

@@ -22,9 +22,11 @@ pub(crate) fn by_mode(
     pred: &mut [u16],
     refs: &mut [u16],
 )
-    requires { ⌜ ModeReady bits n mode (length (now above)) (length (now left)) (length (now pred)) (length (now refs)) ⌝ }
+    requires { ⌜ ModeReady bits n mode (length (now above)) (length (now left)) (length (now pred))
+        (length (now refs)) ⌝ }
     ensures { λ _. ⌜ now (pred .exit)
-        ≡ block (λ (y x : ℕ). byMode bits edge edge n mode (lentNeighbours corner above left) x y) n (now (pred .entry)) ⌝ }
+        ≡ block (λ (y x : ℕ). byMode bits edge edge n mode (lentNeighbours corner above left) x y) n
+        (now (pred .entry)) ⌝ }
 {
     match mode {
         0 => planar_dc::planar_block(above, left, n, &mut *pred),

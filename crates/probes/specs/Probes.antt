@@ -127,6 +127,13 @@ pairReferencesOf a =
       «cr_left» = planeOf a 1 .left;
     }
 
+-- rows and flags as an entry is handed them
+abbrev pub rowsWith : ℕ → List ℕ → List ℕ → Rows
+rowsWith corner above left = record { corner = corner; above = above; left = left }
+
+abbrev pub flagsWith : Bool → List Bool → List Bool → Flags
+flagsWith corner above left = record { corner = corner; above = above; left = left }
+
 abbrev pub substituteAnswer : Rows → Flags → ℕ → ℕ → References
 substituteAnswer rows flags n bits = gatheredOf (substituteRefs rows flags n bits)
 

@@ -6,7 +6,7 @@ pub mod walk_probes;
 ghost use mathlib.Core.Path.{_≡_};
 ghost use Rattle.probes.specs.Probes.{depthFigures, formatFigures, onLuma, onChroma, orderAnswer, availableAnswer};
 ghost use Rattle.probes.specs.Probes.{ruleAnswer, filterAnswer, lumaAnswer};
-ghost use Rattle.probes.specs.Probes.{substituteAnswer, gatherAnswer, pairAnswer};
+ghost use Rattle.probes.specs.Probes.{rowsWith, flagsWith, substituteAnswer, gatherAnswer, pairAnswer};
 ghost use Rattle.refs.specs.Door.{lumaGeometry, chromaGeometry};
 use domain::rows::Rows;
 use fmt::ChromaCol;
@@ -280,16 +280,8 @@ pub extern "C" fn salvrunde_probe_substitute_refs(
     n: usize,
     bits: u32,
 ) -> References
-    ensures { λ r. ⌜ r ≡ substituteAnswer (record {
-      corner = corner;
-      above = now (above .entry);
-      left = now (left
-          .entry);
-    }) (record {
-      corner = «has_corner»;
-      above = now («has_above» .entry);
-      left = now («has_left» .entry);
-    }) n bits ⌝ }
+    ensures { λ r. ⌜ r ≡ substituteAnswer (rowsWith corner (now (above .entry)) (now (left .entry)))
+        (flagsWith «has_corner» (now («has_above» .entry)) (now («has_left» .entry))) n bits ⌝ }
 {
     let rows = Rows {
         corner,

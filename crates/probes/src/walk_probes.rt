@@ -3,8 +3,8 @@
 ghost use mathlib.Core.Path.{_≡_};
 ghost use Rattle.plan.specs.tiling.Plan.{listed};
 ghost use Rattle.walk.specs.Lent.{scratchTables, lentPlan, worldBefore, worldAfter};
-ghost use Rattle.probes.specs.walk_probes.Probes.{planAnswer, stillOf, stepAnswer, ProbeReplay, ProbeReplayLent, ProbeWalk};
-ghost use Rattle.probes.specs.walk_probes.Probes.{ProbeWalkLent};
+ghost use Rattle.probes.specs.walk_probes.Probes.{planAnswer, stillOf, progressOf, stepAnswer};
+ghost use Rattle.probes.specs.walk_probes.Probes.{ProbeReplay, ProbeReplayLent, ProbeWalk, ProbeWalkLent};
 use plan::tiling::Block;
 use plan::tiling::Frame;
 use predict::scratch::AngularScratch;
@@ -66,7 +66,7 @@ pub extern "C" fn salvrunde_probe_walk(
     fractions: &mut [u32],
     grant: u32,
 ) -> StepAnswer
-    ensures { λ r. ⌜ ProbeWalkLent (stillOf bits width height ctu) (lentPlan rows cols sides modes) (record { done = done })
+    ensures { λ r. ⌜ ProbeWalkLent (stillOf bits width height ctu) (lentPlan rows cols sides modes) (progressOf done)
         grant source work residuals refs indices fractions r ⌝ }
 {
     let frame = Frame { width, height, ctu };
@@ -111,7 +111,7 @@ pub extern "C" fn salvrunde_probe_replay(
     fractions: &mut [u32],
     grant: u32,
 ) -> StepAnswer
-    ensures { λ r. ⌜ ProbeReplayLent (stillOf bits width height ctu) (lentPlan rows cols sides modes) (record { done = done })
+    ensures { λ r. ⌜ ProbeReplayLent (stillOf bits width height ctu) (lentPlan rows cols sides modes) (progressOf done)
         grant residuals plane refs indices fractions r ⌝ }
 {
     let frame = Frame { width, height, ctu };
@@ -175,10 +175,9 @@ pub extern "C" fn salvrunde_probe_replay_records(
     scratch: &mut AngularScratch,
     grant: u32,
 ) -> StepAnswer
-    ensures { λ r. ⌜ ProbeReplay (stillOf bits width height ctu) (listed (now (plan .entry))) scratchTables (record {
-      done = done;
-    }) grant (now (residuals .entry)) (now (plane .entry)) (now (plane .exit)) r (now (scratch .exit)
-        ≡ now (scratch .entry)) ⌝ }
+    ensures { λ r. ⌜ ProbeReplay (stillOf bits width height ctu) (listed (now (plan .entry))) scratchTables
+        (progressOf done) grant (now (residuals .entry)) (now (plane .entry)) (now (plane .exit)) r
+        (now (scratch .exit) ≡ now (scratch .entry)) ⌝ }
 {
     let p = progress_of(done);
     let s = still_of(bits, width, height, ctu);
@@ -200,8 +199,8 @@ pub extern "C" fn salvrunde_probe_walk_records(
     scratch: &mut AngularScratch,
     grant: u32,
 ) -> StepAnswer
-    ensures { λ r. ⌜ ProbeWalk (stillOf bits width height ctu) (listed (now (plan .entry))) scratchTables (record { done = done })
-        grant (now (source .entry)) (worldBefore work residuals) (worldAfter work residuals) r
+    ensures { λ r. ⌜ ProbeWalk (stillOf bits width height ctu) (listed (now (plan .entry))) scratchTables
+        (progressOf done) grant (now (source .entry)) (worldBefore work residuals) (worldAfter work residuals) r
         (now (scratch .exit) ≡ now (scratch .entry)) ⌝ }
 {
     let p = progress_of(done);

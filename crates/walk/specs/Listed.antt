@@ -33,22 +33,23 @@ bare count = record { whole = true; count = count; block = λ _. noBlock }
 unfoldable pub callOf : Verdict → Plan → Progress → ℕ → Call
 callOf v plan p grant = record { answer = steppedBy v plan p grant; upto = stepOf v (plan .count) (p .done) grant .upto }
 
+-- a step's numbers with the record that the call hands back
+abbrev pub callBy : Step → Progress → Call
+callBy t next = record { answer = record { no = t .no; block = t .block; did = t .did; next = next }; upto = t .upto }
+
 -- the two ways of a call
 module _ (v : Verdict) (plan : Plan) (p : Progress) (grant : ℕ) where
-  abbrev pub made : Step → Progress → Call
-  made t next = record { answer = record { no = t .no; block = t .block; did = t .did; next = next }; upto = t .upto }
-
-  pub refused-call : (t : Step) → t ≡ stepOf v (plan .count) (p .done) grant → (v .no ≡ 0 → ⊥) → made t p ≡ callOf v plan p grant
+  pub refused-call : (t : Step) → t ≡ stepOf v (plan .count) (p .done) grant → (v .no ≡ 0 → ⊥) → callBy t p ≡ callOf v plan p grant
   unfolding callOf stepOf
   refused-call t e d =
-      ap (λ (x : Step). made x p) (e ∙ sym (unserved (v .no) _ _ d))
+      ap (λ (x : Step). callBy x p) (e ∙ sym (unserved (v .no) _ _ d))
       ∙ ap₂ (λ (x : Stepped) (u : Step). record { answer = x; upto = u .upto }) (unserved (v .no) _ _ d) (unserved (v .no) _ _ d)
 
-  pub granted-call : (t : Step) → t ≡ stepOf v (plan .count) (p .done) grant → v .no ≡ 0 → made t (record { done = t .upto })
+  pub granted-call : (t : Step) → t ≡ stepOf v (plan .count) (p .done) grant → v .no ≡ 0 → callBy t (record { done = t .upto })
       ≡ callOf v plan p grant
   unfolding callOf stepOf
   granted-call t e z =
-      ap (λ (x : Step). made x (record { done = x .upto })) (e ∙ sym (worked (v .no) _ _ z))
+      ap (λ (x : Step). callBy x (record { done = x .upto })) (e ∙ sym (worked (v .no) _ _ z))
       ∙ ap₂ (λ (x : Stepped) (u : Step). record { answer = x; upto = u .upto }) (worked (v .no) _ _ z) (worked (v .no) _ _ z)
 
 -- its answer, and how far it goes; what holds where no block is done holds of a refused call

@@ -19,7 +19,7 @@ ghost use Rattle.walk.specs.calls.Ready.{ReplayReady, WalkReady, ReplayB
 ghost use Rattle.walk.specs.Door.{ReplayGives, ReplayLent, WalkGives, WalkLent};
 ghost use Rattle.predict.specs.Lent.{Untouched};
 ghost use Rattle.walk.specs.Lent.{tables, scratchTables, lentPlan, world, worldBefore, worldAfter};
-ghost use Rattle.walk.specs.Listed.{bare, callOf};
+ghost use Rattle.walk.specs.Listed.{bare, callBy, callOf};
 use crate::calls::Step;
 use crate::checks::Still;
 use plan::tiling::Block;
@@ -47,11 +47,7 @@ struct Call {
 
 // A step's numbers with the record that the call hands back.
 fn call_by(t: Step, next: Progress) -> Call
-    ensures { λ r. ⌜ r ≡ record {
-      answer = record { no = t .no; block = t .block; did = t .did; next = next };
-      upto =
-          t .upto;
-    } ⌝ }
+    ensures { λ r. ⌜ r ≡ callBy t next ⌝ }
 {
     let answer = Stepped {
         no: t.no,

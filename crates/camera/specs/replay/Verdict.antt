@@ -24,6 +24,9 @@ pub record Lent : Type 0 where
   pub plane : ℕ
   pub result : ℕ
 
+abbrev pub lentBytes : List ℕ → List ℕ → ℕ → ℕ → Lent
+lentBytes plan residuals plane result = record { plan = plan; residuals = residuals; plane = plane; result = result }
+
 -- number 5: so many bytes for each of the picture's samples
 abbrev pub wholeBy : Still → ℕ → ℕ → Bool
 wholeBy s each len = eqb len (each * (s .frame .height * s .frame .width))

@@ -31,6 +31,9 @@ planAnswer width height ctu plan = planAnswerOf (planVerdict (record { width = w
 abbrev pub stillOf : ℕ → ℕ → ℕ → ℕ → Still
 stillOf bits width height ctu = record { bits = bits; frame = record { width = width; height = height; ctu = ctu } }
 
+abbrev pub progressOf : ℕ → Progress
+progressOf done = record { done = done }
+
 abbrev pub stepAnswer : Stepped → StepAnswer
 stepAnswer a = record { no = a .no; block = a .block; did = a .did; done = a .next .done }
 
