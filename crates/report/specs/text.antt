@@ -1,5 +1,3 @@
 -- Text: the lines that are printed, and text laid over a buffer. Laws: what joins the functions that lay it.
 pub mod Text
 pub mod Laws
--- Room: whether a text has room.
-pub mod Room

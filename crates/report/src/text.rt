@@ -1,10 +1,8 @@
-// The lines that intrawalk prints (document 01, 'The program'), laid over a lent buffer where it has room for them. Total. Rests on
-// the kit's contract for decimal numbers.
-ghost use mathlib.Core.Path.{_≡_};
+// The lines that intrawalk prints (document 01, 'The program'), laid over a lent buffer. Whoever calls knows that it has room for
+// them. Rests on the kit's contract for decimal numbers.
 ghost use Prim.Native.Nat.{_+_, _≤_};
-ghost use lib.Dec.{leb};
 ghost use lib.ListN.{length};
-ghost use Rattle.report.specs.text.Text.{number, blockLine, refusal, ending, laidIn, endIn};
+ghost use Rattle.report.specs.text.Text.{number, blockLine, refusal, ending};
 ghost use Rattle.report.specs.text.Laws.{Laid};
 use plan::tiling::Block;
 
@@ -33,7 +31,8 @@ fn lay_number(out: &mut [u8], at: usize, n: u64, after: u8) -> usize
     lay(&mut *out, next, &last)
 }
 
-fn line_at(out: &mut [u8], at: usize, b: Block, sum: u64) -> usize
+// A line for a block from `at` on. Each of these tells where its text ends.
+pub(crate) fn lay_line(out: &mut [u8], at: usize, b: Block, sum: u64) -> usize
     requires { ⌜ at + 105 ≤ length (now out) ⌝ }
     ensures { λ r. ⌜ Laid at (blockLine b sum) (now (out .entry)) (now (out .exit)) r 105 ⌝ }
 {
@@ -44,7 +43,8 @@ fn line_at(out: &mut [u8], at: usize, b: Block, sum: u64) -> usize
     lay_number(&mut *out, mode, sum, b'\n')
 }
 
-fn refusal_at(out: &mut [u8], number: u32, block: u32) -> usize
+// `refused N B` at the front.
+pub(crate) fn lay_refusal(out: &mut [u8], number: u32, block: u32) -> usize
     requires { ⌜ 50 ≤ length (now out) ⌝ }
     ensures { λ r. ⌜ Laid 0 (refusal number block) (now (out .entry)) (now (out .exit)) r 50 ⌝ }
 {
@@ -53,7 +53,8 @@ fn refusal_at(out: &mut [u8], number: u32, block: u32) -> usize
     lay_number(&mut *out, next, block as u64, b'\n')
 }
 
-fn ending_at(out: &mut [u8], at: usize, blocks: usize, same: bool) -> usize
+// `end COUNT same` or `end COUNT differs` from `at` on.
+pub(crate) fn lay_ending(out: &mut [u8], at: usize, blocks: usize, same: bool) -> usize
     requires { ⌜ at + 33 ≤ length (now out) ⌝ }
     ensures { λ r. ⌜ Laid at (ending blocks same) (now (out .entry)) (now (out .exit)) r 33 ⌝ }
 {
@@ -63,47 +64,4 @@ fn ending_at(out: &mut [u8], at: usize, blocks: usize, same: bool) -> usize
         return lay(&mut *out, next, b"same\n");
     }
     lay(&mut *out, next, b"differs\n")
-}
-
-// Whether k entries from `at` on lie among so many.
-fn lies(at: usize, k: usize, len: usize) -> bool
-    ensures { λ r. ⌜ r ≡ leb (at + k) len ⌝ }
-{
-    if at > len {
-        return false;
-    }
-    k <= len - at
-}
-
-// A line for a block from `at` on. Each of these tells where its text ends; where there is no room it writes nothing and gives `at` back.
-pub(crate) fn lay_line(out: &mut [u8], at: usize, b: Block, sum: u64) -> usize
-    ensures { λ r. ⌜ (now (out .exit) ≡ laidIn 105 at (blockLine b sum) (now (out .entry))) × (r ≡ endIn 105 at (blockLine b
-        sum) (now (out .entry))) ⌝ }
-{
-    if !lies(at, 105, out.len()) {
-        return at;
-    }
-    line_at(&mut *out, at, b, sum)
-}
-
-// `refused N B` at the front.
-pub(crate) fn lay_refusal(out: &mut [u8], number: u32, block: u32) -> usize
-    ensures { λ r. ⌜ (now (out .exit) ≡ laidIn 50 0 (refusal number block) (now (out .entry))) × (r ≡ endIn 50 0
-        (refusal number block) (now (out .entry))) ⌝ }
-{
-    if !lies(0, 50, out.len()) {
-        return 0;
-    }
-    refusal_at(&mut *out, number, block)
-}
-
-// `end COUNT same` or `end COUNT differs` from `at` on.
-pub(crate) fn lay_ending(out: &mut [u8], at: usize, blocks: usize, same: bool) -> usize
-    ensures { λ r. ⌜ (now (out .exit) ≡ laidIn 33 at (ending blocks same) (now (out .entry))) × (r ≡ endIn 33 at
-        (ending blocks same) (now (out .entry))) ⌝ }
-{
-    if !lies(at, 33, out.len()) {
-        return at;
-    }
-    ending_at(&mut *out, at, blocks, same)
 }

@@ -1,21 +1,22 @@
 -- `report::lay_lines` meets its contract. The loop keeps the lines of the blocks passed, and where the next residuals begin.
 use borrow.Author.Needs.{needs}
 use Prim.Native.Nat.{_-_, _*_, _≤_}
-use mathlib.Core.Path.{_≡_, ap, _∙_}
+use mathlib.Core.Path.{_≡_, ap}
 use native.Mathlib.Omega.{arith}
 use lib.ListN.{length}
 use Rattle.plan.specs.tiling.Plan.{planOf}
 use Rattle.plan.specs.tiling.Tiling.{place}
 use Rattle.walk.specs.calls.Places.{place-none, place-more}
 use Rattle.report.specs.Told.{lines}
-use Rattle.report.specs.text.Laws.{Laid, said, line-room, lands-at}
+use Rattle.report.specs.text.Laws.{Laid, said}
 use Rattle.report.specs.Laws.{lines-none, square, among, next-line}
 use Rattle.report.proofs.lay_lines.Statement.{statement}
 use Rattle.report.proofs.lay_lines.Tie as tie
 
 abbrev Inv-loop : tie.InvT-loop
 Inv-loop out₀ rows cols sides modes residuals end₀ at₀ k₀ out end at k =
-    (k ≤ length rows) × ((at ≡ place (planOf rows cols sides modes .block) k) × ((length out ≡ length out₀) × Laid 0 (lines (planOf rows cols sides modes .block) residuals k) out₀ out end (105 * k)))
+    (k ≤ length rows) × ((at ≡ place (planOf rows cols sides modes .block) k) × ((length out ≡ length out₀)
+    × Laid 0 (lines (planOf rows cols sides modes .block) residuals k) out₀ out end (105 * k)))
 
 abbrev μ-loop : tie.MeasureT-loop
 μ-loop out₀ rows cols sides modes residuals end₀ at₀ k₀ out end at k = length rows - k
@@ -30,7 +31,14 @@ cast-n : tie.Need-cast-n Inv-loop μ-loop
 cast-n c = search needs
 
 mul-sum-of : tie.Need-mul-sum-of Inv-loop μ-loop
-mul-sum-of c = record { fits = omega (arith, square (planOf (c .before .before .before .before .before .before .before .before .before .before .args .rows .now) (c .before .before .before .before .before .before .before .before .before .before .args .cols .now) (c .before .before .before .before .before .before .before .before .before .before .args .sides .now) (c .before .before .before .before .before .before .before .before .before .before .args .modes .now)) (c .before .before .before .before .before .before .before .before .before .before .args .residuals .now) (c .before .before .before .before .before .before .before .before .before .before .pre .0) (c .before .before .before .before .loop .k) _ _ (c .before .before .before .loop-test .taken) (c .before .before .before .before .loop .inv .1 .0) (c .before .before .block-at .ensures)) }
+mul-sum-of c =
+    let a = c .before .before .before .before .before .before .before .before .before .before .args in
+    let ok = c .before .before .before .before .before .before .before .before .before .before .pre .0 in
+    let p = planOf (a .rows .now) (a .cols .now) (a .sides .now) (a .modes .now) in
+    let l = c .before .before .before .before .loop in
+    let t = c .before .before .before .loop-test .taken in
+    let b = c .before .before .block-at .ensures in
+    record { fits = omega (arith, square p (a .residuals .now) ok (l .k) _ _ t (l .inv .1 .0) b) }
 
 sum-of-requires : tie.Need-sum-of-requires Inv-loop μ-loop
 sum-of-requires c κs =
@@ -44,13 +52,29 @@ sum-of-requires c κs =
     (among p v ok (l .k) (l .at) _ t (l .inv .1 .0) b, square p v ok (l .k) (l .at) _ t (l .inv .1 .0) b)
 
 lay-line-requires : tie.Need-lay-line-requires Inv-loop μ-loop
-lay-line-requires c κs = search needs
+lay-line-requires c κs =
+    let few = c .before .before .before .before .before .before .before .before .before .before .before .pre .0 .few in
+    let i = c .before .before .before .before .before .loop .inv .1 .1 in
+    omega (arith, few, i .0, i .1 .ends, i .1 .short)
 
 mul-at : tie.Need-mul-at Inv-loop μ-loop
-mul-at c = record { fits = omega (arith, square (planOf (c .before .before .before .before .before .before .before .before .before .before .before .before .before .before .args .rows .now) (c .before .before .before .before .before .before .before .before .before .before .before .before .before .before .args .cols .now) (c .before .before .before .before .before .before .before .before .before .before .before .before .before .before .args .sides .now) (c .before .before .before .before .before .before .before .before .before .before .before .before .before .before .args .modes .now)) (c .before .before .before .before .before .before .before .before .before .before .before .before .before .before .args .residuals .now) (c .before .before .before .before .before .before .before .before .before .before .before .before .before .before .pre .0) (c .before .before .before .before .before .before .before .before .loop .k) _ _ (c .before .before .before .before .before .before .before .loop-test .taken) (c .before .before .before .before .before .before .before .before .loop .inv .1 .0) (c .before .before .before .before .before .before .block-at .ensures)) }
+mul-at c =
+    let a = c .before .before .before .before .before .before .before .before .before .before .before .before .before .before .args in
+    let ok = c .before .before .before .before .before .before .before .before .before .before .before .before .before .before .pre .0 in
+    let p = planOf (a .rows .now) (a .cols .now) (a .sides .now) (a .modes .now) in
+    let l = c .before .before .before .before .before .before .before .before .loop in
+    let t = c .before .before .before .before .before .before .before .loop-test .taken in
+    let b = c .before .before .before .before .before .before .block-at .ensures in
+    record { fits = omega (arith, square p (a .residuals .now) ok (l .k) _ _ t (l .inv .1 .0) b) }
 
 add-at : tie.Need-add-at Inv-loop μ-loop
-add-at c = record { fits = omega (arith, among (planOf (c .before .before .before .before .before .before .before .before .before .before .before .before .before .before .args .rows .now) (c .before .before .before .before .before .before .before .before .before .before .before .before .before .before .args .cols .now) (c .before .before .before .before .before .before .before .before .before .before .before .before .before .before .args .sides .now) (c .before .before .before .before .before .before .before .before .before .before .before .before .before .before .args .modes .now)) (c .before .before .before .before .before .before .before .before .before .before .before .before .before .before .args .residuals .now) (c .before .before .before .before .before .before .before .before .before .before .before .before .before .before .pre .0) (c .before .before .before .before .before .before .before .before .loop .k) _ _ (c .before .before .before .before .before .before .before .loop-test .taken) (c .before .before .before .before .before .before .before .before .loop .inv .1 .0) (c .before .before .before .before .before .before .block-at .ensures)) }
+add-at c =
+    let first = c .before .before .before .before .before .before .before .before .before .before .before .before .before .before in
+    let p = planOf (first .args .rows .now) (first .args .cols .now) (first .args .sides .now) (first .args .modes .now) in
+    let l = c .before .before .before .before .before .before .before .before .loop in
+    let t = c .before .before .before .before .before .before .before .loop-test .taken in
+    let b = c .before .before .before .before .before .before .block-at .ensures in
+    record { fits = omega (arith, among p (first .args .residuals .now) (first .pre .0) (l .k) _ _ t (l .inv .1 .0) b) }
 
 add-k : tie.Need-add-k Inv-loop μ-loop
 add-k c = search needs
@@ -68,14 +92,19 @@ loop-again c =
     let t = c .before .before .before .before .before .before .before .loop-test .taken in
     let b = c .before .before .before .before .before .before .block-at .ensures in
     let sum = c .before .before .before .sum-of .ensures in
-    let this = lands-at (c .before .before .lay-line .ensures) (omega (arith, l .inv .1 .1 .0, l .inv .1 .1 .1 .ends, l .inv .1 .1 .1 .short, ok .few)) (line-room _ _) in
-    (search needs, (place-more (p .block) (l .k) (l .at) _ (l .inv .1 .0) b, (search needs, next-line p v ok (l .k) (l .at) _ t (l .inv .1 .0) b (l .inv .1 .1 .1) sum this (omega (arith, ok .few)))))
+    let this = c .before .before .lay-line .ensures in
+    let next = next-line p v ok (l .k) (l .at) _ t (l .inv .1 .0) b (l .inv .1 .1 .1) sum this (omega (arith, ok .few)) in
+    (search needs, (place-more (p .block) (l .k) (l .at) _ (l .inv .1 .0) b, (search needs, next)))
 
 same-length : tie.Need-same-length Inv-loop μ-loop
 same-length c = search needs
 
 returns : tie.Need-returns Inv-loop μ-loop
-returns c = let e : c .before .loop .k ≡ length (c .before .before .before .before .before .before .before .args .rows .now) = omega arith in said _ 53760 (c .before .loop .inv .1 .1 .1) (ap (lines _ _) e) (omega (arith, c .before .before .before .before .before .before .before .pre .0 .few))
+returns c =
+    let first = c .before .before .before .before .before .before .before in
+    let l = c .before .loop in
+    let e : l .k ≡ length (first .args .rows .now) = omega arith in
+    said _ 53760 (l .inv .1 .1 .1) (ap (lines _ _) e) (omega (arith, first .pre .0 .few))
 
 pub lay-lines-spec : {M : Type 1} → statement M
 lay-lines-spec =

@@ -3,7 +3,7 @@ use mathlib.Core.Path.{sym, _∙_}
 use mathlib.Core.Bool.{true, false}
 use native.Mathlib.Omega.{arith}
 use borrow.Author.Tests.{not-true, not-false}
-use Rattle.report.specs.text.Laws.{said, refusal-room, lands-at}
+use Rattle.report.specs.text.Laws.{said}
 use Rattle.report.specs.Whole.{held-file, printed-is}
 use borrow.Author.Needs.{needs}
 use Rattle.report.proofs.lay_report.Statement.{statement}
@@ -19,19 +19,28 @@ same-length : tie.Need-same-length
 same-length c = search needs
 
 returns : tie.Need-returns
-returns c = said _ 65536 (lands-at {at = 0} {room = 50} (c .before .before .lay-refusal .ensures) (omega arith) (refusal-room 12 0)) (printed-is _ false (sym (c .before .before .before .before .before .file-ok .ensures) ∙ not-true _ (c .before .before .before .before .if1 .taken))) (omega arith)
+returns c =
+    let test = c .before .before .before .before in
+    let no = sym (test .before .file-ok .ensures) ∙ not-true _ (test .if1 .taken) in
+    said _ 65536 (c .before .before .lay-refusal .ensures) (printed-is _ false no) (omega arith)
 
 trailer-of-requires : tie.Need-trailer-of-requires
 trailer-of-requires c κs = search needs
 
 tell-file-requires : tie.Need-tell-file-requires
-tell-file-requires c κs = (held-file _ _ (sym (c .before .before .before .file-ok .ensures) ∙ not-false _ (c .before .before .if1 .left)) (c .before .trailer-of .ensures), search needs)
+tell-file-requires c κs =
+    let test = c .before .before in
+    let ok = sym (test .before .file-ok .ensures) ∙ not-false _ (test .if1 .left) in
+    (held-file _ _ ok (c .before .trailer-of .ensures), search needs)
 
 same-length-2 : tie.Need-same-length-2
 same-length-2 c = search needs
 
 returns-2 : tie.Need-returns-2
-returns-2 c = said _ 65536 (c .before .before .tell-file .ensures) (printed-is _ true (sym (c .before .before .before .before .before .before .file-ok .ensures) ∙ not-false _ (c .before .before .before .before .before .if1 .left))) (omega arith)
+returns-2 c =
+    let test = c .before .before .before .before .before in
+    let ok = sym (test .before .file-ok .ensures) ∙ not-false _ (test .if1 .left) in
+    said _ 65536 (c .before .before .tell-file .ensures) (printed-is _ true ok) (omega arith)
 
 pub lay-report-spec : {M : Type 1} → statement M
 lay-report-spec =

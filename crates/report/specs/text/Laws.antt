@@ -6,14 +6,12 @@ use Prim.Native.Nat.{ℕ, zero, suc, _+_, _-_, _*_, _/_, _%_, _^_, _≤_, _<_}
 use native.Mathlib.Nat.{pow-succ'}
 use native.Mathlib.Numerals.{add-one}
 use native.Mathlib.Omega.{arith}
-use lib.Dec.{leb, ltb}
+use lib.Dec.{ltb}
 use lib.ListN.{length, getD, set, take, drop, length-append}
 use lib.Seq.{take-at, drop-append-add, drop-drop, length-take-le, take-length, paste, paste-suc}
-use borrow.Author.Tests.{lt-ltb, ltb-true, ltb-false, le-leb}
+use borrow.Author.Tests.{lt-ltb, ltb-true, ltb-false}
 use Rattle.io.specs.Digits.{digits, glyph, Fewest}
-use Rattle.laws.specs.Choose.{if-yes, if-no}
-use Rattle.plan.specs.declared.tiling.Block.{Block}
-use Rattle.report.specs.text.Text.{spell, number, blockLine, refusal, ending, laid, laidIn, endIn}
+use Rattle.report.specs.text.Text.{spell, laid}
 
 -- a text s lies over d from `at` on, which makes e of it; it ends at `upto` and has at most `room` bytes
 pub record Laid (at : ℕ) (s d e : List ℕ) (upto room : ℕ) : Type 0 where
@@ -131,55 +129,3 @@ pub paste-more : (at : ℕ) (s d e : List ℕ) (i : ℕ) → at + length s ≤ l
     → set e (at + i) (getD s i 0) ≡ paste d at s (i + 1)
 paste-more at s d e i h l p =
     ap (λ (x : List ℕ). set x (at + i) (getD s i 0)) p ∙ paste-suc d at s i 0 (omega arith) l ∙ ap (paste d at s) (sym (add-one i))
-
--- the room that each text may take
-number-room : (n after : ℕ) → length (number n after) ≤ 21
-number-room n after = omega (arith, length-append (spell 19 n) (after ∷ []), spell-short 19 n)
-
-joined : (m n : ℕ) (s t : List ℕ) → length s ≤ m → length t ≤ n → length (s ++ t) ≤ m + n
-joined m n s t h k = omega (arith, length-append s t)
-
-pub line-room : (b : Block) (sum : ℕ) → length (blockLine b sum) ≤ 105
-line-room b sum =
-    let row = number (b .row) 32 in
-    let col = number (b .col) 32 in
-    let side = number (b .side) 32 in
-    let mode = number (b .mode) 32 in
-    joined 84 21 (row ++ col ++ side ++ mode) (number sum 10)
-    (joined 63 21 (row ++ col ++ side) mode (joined 42 21 (row ++ col) side
-    (joined 21 21 row col (number-room (b .row) 32) (number-room (b .col) 32)) (number-room (b .side) 32)) (number-room (b .mode) 32))
-    (number-room sum 10)
-
-pub refusal-room : (n block : ℕ) → length (refusal n block) ≤ 50
-refusal-room n block =
-    let word : List ℕ = 114 ∷ 101 ∷ 102 ∷ 117 ∷ 115 ∷ 101 ∷ 100 ∷ 32 ∷ [] in
-    joined 29 21 (word ++ number n 32) (number block 10) (joined 8 21 word (number n 32) (omega arith) (number-room n 32))
-    (number-room block 10)
-
-pub ending-room : (count : ℕ) (same : Bool) → length (ending count same) ≤ 33
-ending-room count same =
-    let word : List ℕ = 101 ∷ 110 ∷ 100 ∷ 32 ∷ [] in
-    joined 25 8 (word ++ number count 32) (last same) (joined 4 21 word (number count 32) (omega arith) (number-room count 32)) (short same)
-  where
-    last : Bool → List ℕ
-    last t = cond t (115 ∷ 97 ∷ 109 ∷ 101 ∷ 10 ∷ []) (100 ∷ 105 ∷ 102 ∷ 102 ∷ 101 ∷ 114 ∷ 115 ∷ 10 ∷ [])
-
-    short : (t : Bool) → length (last t) ≤ 8
-    short true = omega arith
-    short false = omega arith
-
--- a text that is laid where there is room, and one that is not
-module _ {at room p : ℕ} {s d e : List ℕ} where
-  pub lands : leb (at + room) (length d) ≡ true → Laid at s d e p room → (e ≡ laidIn room at s d) × (p ≡ endIn room at s d)
-  unfolding laidIn endIn
-  lands t x = (if-yes _ _ _ _ t (x .over), if-yes _ _ _ _ t (x .ends))
-
-  pub lands-at : (e ≡ laidIn room at s d) × (p ≡ endIn room at s d) → at + room ≤ length d → length s ≤ room → Laid at s d e p room
-  unfolding laidIn endIn
-  lands-at x h k =
-      let t = le-leb (at + room) (length d) h in
-      record { over = x .0 ∙ sym (if-yes _ _ _ _ t refl); ends = x .1 ∙ sym (if-yes _ _ _ _ t refl); short = k }
-
-pub stays : (at room : ℕ) (s d : List ℕ) → leb (at + room) (length d) ≡ false → (d ≡ laidIn room at s d) × (at ≡ endIn room at s d)
-unfolding laidIn endIn
-stays at room s d t = (if-no _ _ _ _ t refl, if-no _ _ _ _ t refl)

@@ -2,7 +2,7 @@
 use Prim.Native.Nat.{ℕ, zero, suc, _+_, _/_, _%_}
 use mathlib.Core.Bool.{Bool, cond}
 use mathlib.Core.List.{List, [], _∷_, _++_}
-use lib.Dec.{leb, ltb}
+use lib.Dec.{ltb}
 use lib.ListN.{length, take, drop}
 use Rattle.plan.specs.declared.tiling.Block.{Block}
 
@@ -32,10 +32,3 @@ ending count same =
 -- d with the text s in place of its bytes from `at` on
 unfoldable pub laid : ℕ → List ℕ → List ℕ → List ℕ
 laid at s d = take at d ++ s ++ drop (at + length s) d
-
--- the same where d has so much room from `at` on, and where the text ends; where it has not, d and `at`
-unfoldable pub laidIn : ℕ → ℕ → List ℕ → List ℕ → List ℕ
-laidIn room at s d = cond (leb (at + room) (length d)) (laid at s d) d
-
-unfoldable pub endIn : ℕ → ℕ → List ℕ → List ℕ → ℕ
-endIn room at s d = cond (leb (at + room) (length d)) (at + length s) at

@@ -1,25 +1,38 @@
--- `text::lay_refusal` meets its contract: the room, then the text. Rests on `refusal_at`.
-use mathlib.Core.Path.{sym, _∙_}
-use borrow.Author.Tests.{not-true, not-false, leb-true}
-use Rattle.report.specs.text.Laws.{lands, stays}
+-- `text::lay_refusal` meets its contract: a word and two numbers, one after the other.
+use native.Mathlib.Omega.{arith}
+use Rattle.report.specs.text.Laws.{then}
 use borrow.Author.Needs.{needs}
 use Rattle.report.proofs.text.lay_refusal.Statement.{statement}
 use Rattle.report.proofs.text.lay_refusal.Tie as tie
 
-lies-requires : tie.Need-lies-requires
-lies-requires c κs = search needs
+slice-aggregate-lay : tie.Need-slice-aggregate-lay
+slice-aggregate-lay c = search needs
 
-returns : tie.Need-returns
-returns c = stays 0 50 _ _ (sym (c .before .lies .ensures) ∙ not-true _ (c .if1 .taken))
+lay-requires : tie.Need-lay-requires
+lay-requires c κs = search needs
 
-refusal-at-requires : tie.Need-refusal-at-requires
-refusal-at-requires c κs = leb-true _ _ (sym (c .before .before .lies .ensures) ∙ not-false _ (c .before .if1 .left))
+lay-number-requires : tie.Need-lay-number-requires
+lay-number-requires c κs = search needs
+
+lay-number-requires-2 : tie.Need-lay-number-requires-2
+lay-number-requires-2 c κs = search needs
 
 same-length : tie.Need-same-length
 same-length c = search needs
 
-returns-2 : tie.Need-returns-2
-returns-2 c = lands {at = 0} {room = 50} (sym (c .before .before .before .before .before .lies .ensures) ∙ not-false _ (c .before .before .before .before .if1 .left)) (c .before .before .refusal-at .ensures)
+returns : tie.Need-returns
+returns c =
+    let word = c .before .before .before .before .before .before .before .before .before .before .lay .ensures in
+    let two = then word (c .before .before .before .before .before .before .lay-number .ensures) (omega arith) in
+    then two (c .before .before .lay-number2 .ensures) (omega arith)
 
 pub lay-refusal-spec : {M : Type 1} → statement M
-lay-refusal-spec = tie.close (tie.spec lies-requires returns refusal-at-requires same-length returns-2)
+lay-refusal-spec =
+    tie.close
+    (tie.spec
+    slice-aggregate-lay
+    lay-requires
+    lay-number-requires
+    lay-number-requires-2
+    same-length
+    returns)
