@@ -2,7 +2,7 @@
 use mathlib.Core.Path.{_≡_, refl, sym, ap, ap₂, _∙_, subst}
 use mathlib.Core.Bool.{Bool, true, false, cond, _&&_}
 use mathlib.Core.List.{List, _++_}
-use Prim.Native.Nat.{ℕ, _+_, _-_, _*_, _≤_, min}
+use Prim.Native.Nat.{ℕ, _+_, _-_, _*_, _≤_}
 use native.Mathlib.Omega.{arith}
 use lib.Dec.{leb, eqb}
 use lib.IntN.{ℤ, pos}
@@ -141,9 +141,8 @@ part-long n d e h = sym (length-take-le n d (omega arith))
 pub zeros-long : {A : Type 0} (n m : ℕ) (z : A) {d : List A} → d ≡ replicate m z → n ≤ m → n ≡ length (take n d)
 zeros-long n m z {d} e h = part-long n d (ap length e ∙ length-replicate m z) h
 
-pub fill-long : {A : Type 0} (f : ℕ → A) (k m : ℕ) (z : A) {d : List A} → d ≡ fill f (min k m) (replicate m z) → k ≤ m → k
-    ≡ length (take k d)
-fill-long f k m z {d} e h = part-long k d (ap length e ∙ length-fill f (min k m) (replicate m z) ∙ length-replicate m z) h
+pub fill-long : {A : Type 0} (f : ℕ → A) (k m : ℕ) (z : A) {d : List A} → d ≡ fill f k (replicate m z) → k ≤ m → k ≡ length (take k d)
+fill-long f k m z {d} e h = part-long k d (ap length e ∙ length-fill f k (replicate m z) ∙ length-replicate m z) h
 
 pub fill-room : {A : Type 0} (f : ℕ → A) (k m n : ℕ) (z : A) {d : List A} → d ≡ fill f k (replicate m z) → n ≤ m → n ≤ length d
 fill-room f k m n z {d} e h = omega (arith, ap length e ∙ length-fill f k (replicate m z) ∙ length-replicate m z)
@@ -164,31 +163,27 @@ blank-part s t n blocks room d e v h i m k r p q u =
     let c : take n e ≡ zeros s = ap (take n) u ∙ take-zeros n 8192 0 l ∙ ap (λ (x : ℕ). replicate x 0) g in
     record { few = omega (arith, k, h .blocks-few); world = λ x. record { work = a x; residuals = b x }; plane-zero = c; roomy = r }
 
--- a field that is read is that of the file's records
-field-is : (f : ℕ → ℕ) (n : ℕ) (d : List ℕ) → n ≤ 512 → d ≡ fill f (min n 512) (replicate 512 0) → take n d ≡ tabulated f n 0
-field-is f n d h p =
-    let few : min n 512 ≡ n = omega arith in
-    ap (take n) p ∙ ap (λ (j : ℕ). take n (fill f j (replicate 512 0))) few ∙ take-fill f n n 512 0 (omega arith) h
+-- what is read of the file, without the zeros after it
+read-is : (f : ℕ → ℕ) (n m : ℕ) (d : List ℕ) → n ≤ m → d ≡ fill f n (replicate m 0) → take n d ≡ tabulated f n 0
+read-is f n m d h p = ap (take n) p ∙ take-fill f n n m 0 (omega arith) h
 
 -- what is read is what the file asks to be walked
 pub job-is : (b : List ℕ) (t : Trailer) (s : Still) (n : ℕ) (rows cols sides modes source : List ℕ) → GoodFile b t → s ≡ stillIn t → n
     ≡ areaOf t
-    → rows ≡ fill (λ (k : ℕ). leAt 2 b (t .plan + 6 * k)) (min (t .blocks) 512) (replicate 512 0)
-    → cols ≡ fill (λ (k : ℕ). leAt 2 b (t .plan + 2 + 6 * k)) (min (t .blocks) 512) (replicate 512 0)
-    → sides ≡ fill (λ (k : ℕ). getD b (t .plan + 4 + 6 * k) 0) (min (t .blocks) 512) (replicate 512 0)
-    → modes ≡ fill (λ (k : ℕ). getD b (t .plan + 5 + 6 * k) 0) (min (t .blocks) 512) (replicate 512 0)
-    → source ≡ fill (λ (i : ℕ). leAt 2 b (t .samples + 2 * i)) (min n 8192) (replicate 8192 0)
+    → rows ≡ fill (λ (k : ℕ). leAt 2 b (t .plan + 6 * k)) (t .blocks) (replicate 512 0)
+    → cols ≡ fill (λ (k : ℕ). leAt 2 b (t .plan + 2 + 6 * k)) (t .blocks) (replicate 512 0)
+    → sides ≡ fill (λ (k : ℕ). getD b (t .plan + 4 + 6 * k) 0) (t .blocks) (replicate 512 0)
+    → modes ≡ fill (λ (k : ℕ). getD b (t .plan + 5 + 6 * k) 0) (t .blocks) (replicate 512 0)
+    → source ≡ fill (λ (i : ℕ). leAt 2 b (t .samples + 2 * i)) n (replicate 8192 0)
     → let m = t .blocks in
     record { still = s; plan = planOf (take m rows) (take m cols) (take m sides) (take m modes); source = take n source } ≡ jobOf b
 job-is b t s n rows cols sides modes source h e m p₀ p₁ p₂ p₃ q =
-    let all : min n 8192 ≡ areaOf t = omega (arith, h .samples-few, m) in
-    let x₀ = field-is _ (t .blocks) rows (h .blocks-few) p₀ in
-    let x₁ = field-is _ (t .blocks) cols (h .blocks-few) p₁ in
-    let x₂ = field-is _ (t .blocks) sides (h .blocks-few) p₂ in
-    let x₃ = field-is _ (t .blocks) modes (h .blocks-few) p₃ in
-    let y : take n source ≡ sourceOf b t = ap (take n) q
-    ∙ ap₂ (λ (j k : ℕ). take j (fill (λ (i : ℕ). leAt 2 b (t .samples + 2 * i)) k (replicate 8192 0))) m all
-    ∙ take-fill _ (areaOf t) (areaOf t) 8192 0 (omega arith) (h .samples-few) in
+    let x₀ = read-is _ (t .blocks) 512 rows (h .blocks-few) p₀ in
+    let x₁ = read-is _ (t .blocks) 512 cols (h .blocks-few) p₁ in
+    let x₂ = read-is _ (t .blocks) 512 sides (h .blocks-few) p₂ in
+    let x₃ = read-is _ (t .blocks) 512 modes (h .blocks-few) p₃ in
+    let y : take n source ≡ sourceOf b t = read-is _ n 8192 source (omega (arith, h .samples-few)) q
+    ∙ ap (λ (k : ℕ). tabulated (λ (i : ℕ). leAt 2 b (t .samples + 2 * i)) k 0) m in
     (λ i. record { still = e i; plan = planOf (x₀ i) (x₁ i) (x₂ i) (x₃ i); source = y i })
     ∙ ap (λ (u : Trailer). record { still = stillIn u; plan = planIn b u; source = sourceOf b u }) (h .trailer)
 

@@ -1,12 +1,11 @@
 // The program's input (document 01, 'The program'): its trailer, number 12, and the samples and block records in it. A byte past
-// the end counts as 0, so every reader takes every input. Rests on the numbers in bytes.
+// the end counts as 0, so every reader takes every input, and with it counts that number 12 lets pass. Rests on the numbers in bytes.
 ghost use mathlib.Core.Path.{_≡_};
-ghost use Prim.Native.Nat.{ℕ, _+_, _-_, _*_, _≤_, _<_, min};
+ghost use Prim.Native.Nat.{ℕ, _+_, _-_, _*_, _≤_, _<_};
 ghost use lib.ListN.{getD, replicate};
 ghost use Rattle.laws.specs.Fill.{fill};
 ghost use Rattle.laws.specs.Bytes.{leAt};
 ghost use Rattle.report.specs.file.File.{trailerOf, areaOf, regionsOk, fileOk};
-use domain::helpers;
 
 // The last 16 bytes of the input.
 pub struct Trailer {
@@ -108,15 +107,15 @@ pub(crate) fn file_ok(b: &[u8]) -> bool
     regions_ok(trailer_of(b), b.len() - 16)
 }
 
-// So many samples from `at` on, 8,192 at most.
+// So many samples from `at` on.
 pub(crate) fn read_samples(b: &[u8], at: u32, many: usize) -> [u16; 8192]
-    ensures { λ r. ⌜ r ≡ fill (λ (i : ℕ). leAt 2 (now (b .entry)) (at + 2 * i)) (min many 8192) (replicate 8192 0) ⌝ }
+    requires { ⌜ many ≤ 8192 ⌝ }
+    ensures { λ r. ⌜ r ≡ fill (λ (i : ℕ). leAt 2 (now (b .entry)) (at + 2 * i)) many (replicate 8192 0) ⌝ }
 {
     let mut source = [0u16; 8192];
     let start = at as usize;
-    let end = helpers::min_len(many, 8192);
     let mut i = 0;
-    while i < end {
+    while i < many {
         source[i] = two_at(b, start + 2 * i);
         i += 1;
     }
@@ -129,15 +128,14 @@ fn wide(x: u8) -> u32
     x as u32
 }
 
-// A field of so many block records, 512 at most: two bytes of each, from `at` on, six bytes apart.
+// A field of so many block records: two bytes of each, from `at` on, six bytes apart.
 pub(crate) fn read_twos(b: &[u8], at: usize, many: usize) -> [u32; 512]
-    requires { ⌜ at ≤ 4294967300 ⌝ }
-    ensures { λ r. ⌜ r ≡ fill (λ (k : ℕ). leAt 2 (now (b .entry)) (at + 6 * k)) (min many 512) (replicate 512 0) ⌝ }
+    requires { ⌜ (at ≤ 4294967300) × (many ≤ 512) ⌝ }
+    ensures { λ r. ⌜ r ≡ fill (λ (k : ℕ). leAt 2 (now (b .entry)) (at + 6 * k)) many (replicate 512 0) ⌝ }
 {
     let mut field = [0u32; 512];
-    let end = helpers::min_len(many, 512);
     let mut k = 0;
-    while k < end {
+    while k < many {
         field[k] = two_at(b, at + 6 * k) as u32;
         k += 1;
     }
@@ -146,13 +144,12 @@ pub(crate) fn read_twos(b: &[u8], at: usize, many: usize) -> [u32; 512]
 
 // The same of one byte.
 pub(crate) fn read_ones(b: &[u8], at: usize, many: usize) -> [u32; 512]
-    requires { ⌜ at ≤ 4294967300 ⌝ }
-    ensures { λ r. ⌜ r ≡ fill (λ (k : ℕ). getD (now (b .entry)) (at + 6 * k) 0) (min many 512) (replicate 512 0) ⌝ }
+    requires { ⌜ (at ≤ 4294967300) × (many ≤ 512) ⌝ }
+    ensures { λ r. ⌜ r ≡ fill (λ (k : ℕ). getD (now (b .entry)) (at + 6 * k) 0) many (replicate 512 0) ⌝ }
 {
     let mut field = [0u32; 512];
-    let end = helpers::min_len(many, 512);
     let mut k = 0;
-    while k < end {
+    while k < many {
         field[k] = wide(byte_at(b, at + 6 * k));
         k += 1;
     }

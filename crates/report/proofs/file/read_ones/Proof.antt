@@ -1,8 +1,7 @@
 -- `file::read_ones` meets its contract. The loop keeps an equation with `fill`.
 use borrow.Author.Needs.{needs}
-use Prim.Native.Nat.{ℕ, _+_, _-_, _*_, _≤_, min}
+use Prim.Native.Nat.{ℕ, _+_, _-_, _*_, _≤_}
 use mathlib.Core.Path.{_≡_, _∙_}
-use native.Mathlib.Omega.{arith}
 use lib.ListN.{getD, replicate}
 use Rattle.laws.specs.Fill.{fill}
 use Rattle.laws.specs.FillLaws.{fill-none, fill-more, fill-done}
@@ -10,16 +9,13 @@ use Rattle.report.proofs.file.read_ones.Statement.{statement}
 use Rattle.report.proofs.file.read_ones.Tie as tie
 
 abbrev Inv-loop : tie.InvT-loop
-Inv-loop b at many field₀ end k₀ field k = (k ≤ end) × (end ≡ min many 512) × (field ≡ fill (λ (j : ℕ). getD b (at + 6 * j) 0) k (replicate 512 0))
+Inv-loop b at many field₀ k₀ field k = (k ≤ many) × (field ≡ fill (λ (j : ℕ). getD b (at + 6 * j) 0) k (replicate 512 0))
 
 abbrev μ-loop : tie.MeasureT-loop
-μ-loop b at many field₀ end k₀ field k = end - k
-
-min-len-requires : tie.Need-min-len-requires Inv-loop μ-loop
-min-len-requires c κs = search needs
+μ-loop b at many field₀ k₀ field k = many - k
 
 loop-holds : tie.Need-loop-holds Inv-loop μ-loop
-loop-holds c = (search needs, c .min-len .ensures, fill-none _ _)
+loop-holds c = (search needs, fill-none _ _)
 
 mul-byte-at : tie.Need-mul-byte-at Inv-loop μ-loop
 mul-byte-at c = search needs
@@ -46,10 +42,10 @@ loop-less : tie.Need-loop-less Inv-loop μ-loop
 loop-less c = search needs
 
 loop-again : tie.Need-loop-again Inv-loop μ-loop
-loop-again c = (search needs, c .before .before .before .loop .inv .1, fill-more _ _ (c .before .before .before .loop .inv .2) (c .wide .ensures ∙ c .before .byte-at .ensures))
+loop-again c = (search needs, fill-more _ _ (c .before .before .before .loop .inv .1) (c .wide .ensures ∙ c .before .byte-at .ensures))
 
 returns : tie.Need-returns Inv-loop μ-loop
-returns c = let v = c .before .loop .inv in fill-done _ _ (omega (arith, v .0, v .1)) (omega (arith, c .loop-test .left, v .1)) (v .2)
+returns c = let v = c .before .loop .inv in fill-done _ _ (v .0) (c .loop-test .left) (v .1)
 
 pub read-ones-spec : {M : Type 1} → statement M
 read-ones-spec =
@@ -57,7 +53,6 @@ read-ones-spec =
     (tie.spec
     Inv-loop
     μ-loop
-    min-len-requires
     loop-holds
     mul-byte-at
     add-byte-at

@@ -1,8 +1,7 @@
 -- `file::read_samples` meets its contract. The loop keeps an equation with `fill`.
 use borrow.Author.Needs.{needs}
-use Prim.Native.Nat.{ℕ, _+_, _-_, _*_, _≤_, min}
+use Prim.Native.Nat.{ℕ, _+_, _-_, _*_, _≤_}
 use mathlib.Core.Path.{_≡_, refl}
-use native.Mathlib.Omega.{arith}
 use lib.ListN.{replicate}
 use Rattle.laws.specs.Fill.{fill}
 use Rattle.laws.specs.FillLaws.{fill-none, fill-more, fill-done}
@@ -11,16 +10,14 @@ use Rattle.report.proofs.file.read_samples.Statement.{statement}
 use Rattle.report.proofs.file.read_samples.Tie as tie
 
 abbrev Inv-loop : tie.InvT-loop
-Inv-loop b at many source₀ start end i₀ source i = (i ≤ end) × (start ≡ at) × (end ≡ min many 8192) × (source ≡ fill (λ (j : ℕ). leAt 2 b (at + 2 * j)) i (replicate 8192 0))
+Inv-loop b at many source₀ start i₀ source i = (i ≤ many) × (start ≡ at)
+    × (source ≡ fill (λ (j : ℕ). leAt 2 b (at + 2 * j)) i (replicate 8192 0))
 
 abbrev μ-loop : tie.MeasureT-loop
-μ-loop b at many source₀ start end i₀ source i = end - i
-
-min-len-requires : tie.Need-min-len-requires Inv-loop μ-loop
-min-len-requires c κs = search needs
+μ-loop b at many source₀ start i₀ source i = many - i
 
 loop-holds : tie.Need-loop-holds Inv-loop μ-loop
-loop-holds c = (search needs, refl, c .min-len .ensures, fill-none _ _)
+loop-holds c = (search needs, refl, fill-none _ _)
 
 mul-two-at : tie.Need-mul-two-at Inv-loop μ-loop
 mul-two-at c = search needs
@@ -44,10 +41,10 @@ loop-less : tie.Need-loop-less Inv-loop μ-loop
 loop-less c = search needs
 
 loop-again : tie.Need-loop-again Inv-loop μ-loop
-loop-again c = (search needs, c .before .before .loop .inv .1, c .before .before .loop .inv .2, fill-more _ _ (c .before .before .loop .inv .3) (c .two-at .ensures))
+loop-again c = let v = c .before .before .loop .inv in (search needs, v .1, fill-more _ _ (v .2) (c .two-at .ensures))
 
 returns : tie.Need-returns Inv-loop μ-loop
-returns c = let v = c .before .loop .inv in fill-done _ _ (omega (arith, v .0, v .2)) (omega (arith, c .loop-test .left, v .2)) (v .3)
+returns c = let v = c .before .loop .inv in fill-done _ _ (v .0) (c .loop-test .left) (v .2)
 
 pub read-samples-spec : {M : Type 1} → statement M
 read-samples-spec =
@@ -55,7 +52,6 @@ read-samples-spec =
     (tie.spec
     Inv-loop
     μ-loop
-    min-len-requires
     loop-holds
     mul-two-at
     add-two-at

@@ -1,8 +1,7 @@
 -- `file::read_twos` meets its contract. The loop keeps an equation with `fill`.
 use borrow.Author.Needs.{needs}
-use Prim.Native.Nat.{ℕ, _+_, _-_, _*_, _≤_, min}
+use Prim.Native.Nat.{ℕ, _+_, _-_, _*_, _≤_}
 use mathlib.Core.Path.{_≡_}
-use native.Mathlib.Omega.{arith}
 use lib.ListN.{replicate}
 use Rattle.laws.specs.Fill.{fill}
 use Rattle.laws.specs.Bytes.{leAt}
@@ -11,16 +10,13 @@ use Rattle.report.proofs.file.read_twos.Statement.{statement}
 use Rattle.report.proofs.file.read_twos.Tie as tie
 
 abbrev Inv-loop : tie.InvT-loop
-Inv-loop b at many field₀ end k₀ field k = (k ≤ end) × (end ≡ min many 512) × (field ≡ fill (λ (j : ℕ). leAt 2 b (at + 6 * j)) k (replicate 512 0))
+Inv-loop b at many field₀ k₀ field k = (k ≤ many) × (field ≡ fill (λ (j : ℕ). leAt 2 b (at + 6 * j)) k (replicate 512 0))
 
 abbrev μ-loop : tie.MeasureT-loop
-μ-loop b at many field₀ end k₀ field k = end - k
-
-min-len-requires : tie.Need-min-len-requires Inv-loop μ-loop
-min-len-requires c κs = search needs
+μ-loop b at many field₀ k₀ field k = many - k
 
 loop-holds : tie.Need-loop-holds Inv-loop μ-loop
-loop-holds c = (search needs, c .min-len .ensures, fill-none _ _)
+loop-holds c = (search needs, fill-none _ _)
 
 mul-two-at : tie.Need-mul-two-at Inv-loop μ-loop
 mul-two-at c = search needs
@@ -47,10 +43,10 @@ loop-less : tie.Need-loop-less Inv-loop μ-loop
 loop-less c = search needs
 
 loop-again : tie.Need-loop-again Inv-loop μ-loop
-loop-again c = (search needs, c .before .before .loop .inv .1, fill-more _ _ (c .before .before .loop .inv .2) (c .two-at .ensures))
+loop-again c = (search needs, fill-more _ _ (c .before .before .loop .inv .1) (c .two-at .ensures))
 
 returns : tie.Need-returns Inv-loop μ-loop
-returns c = let v = c .before .loop .inv in fill-done _ _ (omega (arith, v .0, v .1)) (omega (arith, c .loop-test .left, v .1)) (v .2)
+returns c = let v = c .before .loop .inv in fill-done _ _ (v .0) (c .loop-test .left) (v .1)
 
 pub read-twos-spec : {M : Type 1} → statement M
 read-twos-spec =
@@ -58,7 +54,6 @@ read-twos-spec =
     (tie.spec
     Inv-loop
     μ-loop
-    min-len-requires
     loop-holds
     mul-two-at
     add-two-at
