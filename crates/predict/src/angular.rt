@@ -336,7 +336,8 @@ fn vertical(
     requires { ⌜ Size n × ((d < 17) × ((2 * n ≤ length (now main)) × ((2 * n ≤ length (now side))
         × ((n * n ≤ length (now pred)) × (65 + n ≤ length (now refs)))))) ⌝ }
     ensures { λ _. ⌜ now (pred .exit)
-        ≡ block (verticalAt (lentNeighbours corner main side) (getD turns d 0) (getD bends d 0)) n (now (pred .entry)) ⌝ }
+        ≡ block (verticalAt (lentNeighbours corner main side) (getD turns d 0) (getD bends d 0)) n (now (pred .entry))
+        ⌝ }
 {
     let e = angles::turn(d);
     if d < 8 {

@@ -57,7 +57,8 @@ fn planar_row(
 )
     requires { ⌜ Size n × ((row < n) × ((n ≤ 32) × ((n ≤ length (now above)) × (n ≤ length (now out))))) ⌝ }
     ensures { λ _. ⌜ now (out .exit)
-        ≡ fill (λ (x : ℕ). planarSample n row x left «top_right» (entryAt above x) «bottom_left») n (now (out .entry)) ⌝ }
+        ≡ fill (λ (x : ℕ). planarSample n row x left «top_right» (entryAt above x) «bottom_left») n (now (out .entry))
+        ⌝ }
 {
     for col in 0..n {
         out[col] = planar_sample(

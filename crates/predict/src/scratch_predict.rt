@@ -75,7 +75,8 @@ pub fn predict_chroma_tb_fresh(
     pred: &mut [u16],
 ) -> u32
     ensures { λ r. ⌜ (r ≡ predictNo bits n mode (withScratch (len above) (len left) (len pred)))
-        × Predicts r n (predSamples (chromaAt bits) firstEditionStrong n mode (lentNeighbours corner above left)) pred ⌝ }
+        × Predicts r n (predSamples (chromaAt bits) firstEditionStrong n mode (lentNeighbours corner above left)) pred
+        ⌝ }
 {
     let mut scratch = AngularScratch::new();
     predict_chroma_tb_into(mode, corner, above, left, n, bits, pred, &mut scratch)

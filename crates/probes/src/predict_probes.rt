@@ -207,7 +207,8 @@ pub extern "C" fn salvrunde_probe_predict_chroma_tb_scratch(
     pred: &mut [u16],
 ) -> u32
     ensures { λ r. ⌜ (r ≡ predictNo bits n mode (withScratch (len above) (len left) (len pred)))
-        × Predicts r n (predSamples (chromaAt bits) firstEditionStrong n mode (lentNeighbours corner above left)) pred ⌝ }
+        × Predicts r n (predSamples (chromaAt bits) firstEditionStrong n mode (lentNeighbours corner above left)) pred
+        ⌝ }
 {
     scratch_predict::predict_chroma_tb_fresh(mode, corner, above, left, n, bits, &mut *pred)
 }

@@ -5,6 +5,8 @@ use mathlib.Core.List.{List, [], _++_}
 use lib.Dec.{eqb}
 use lib.IntN.{ℤ, pos}
 use lib.ListN.{length, replicate}
+use denote.Ref.{RefT, now}
+use denote.Triple.Both.{Both}
 use Rattle.plan.specs.declared.tiling.Verdict.{Verdict}
 use Rattle.plan.specs.declared.tiling.Block.{Block}
 use Rattle.plan.specs.tiling.Tiling.{place}
@@ -12,7 +14,7 @@ use Rattle.plan.specs.tiling.Plan.{Plan}
 use Rattle.walk.specs.declared.checks.Still.{Still}
 use Rattle.walk.specs.declared.Progress.{Progress}
 use Rattle.walk.specs.block.Walked.{World}
-use Rattle.walk.specs.Lent.{scratchTables}
+use Rattle.walk.specs.Lent.{scratchTables, lentPlan}
 use Rattle.walk.specs.calls.Door.{walkVerdict, walkAfter, replayAfter}
 use Rattle.report.specs.declared.Printout.{Printout}
 use Rattle.report.specs.declared.file.Trailer.{Trailer}
@@ -25,6 +27,13 @@ pub record Job : Type 0 where
   pub still : Still
   pub plan : Plan
   pub source : List ℕ
+
+-- the same in a still and lent slices, as they stand in an `ensures`
+abbrev pub Numbers : Type 0
+Numbers = Both (RefT (List ℕ)) (RefT (List ℕ))
+
+abbrev pub lentJob : Still → Numbers → Numbers → Numbers → Numbers → Numbers → Job
+lentJob still rows cols sides modes source = record { still = still; plan = lentPlan rows cols sides modes; source = now (source .entry) }
 
 -- the still that a trailer names
 abbrev pub stillIn : Trailer → Still

@@ -10,9 +10,9 @@ ghost use lib.ListN.{replicate};
 ghost use lib.ListN.{length as count};
 ghost use lib.IntN.{pos};
 ghost use Rattle.plan.specs.tiling.Plan.{planOf};
-ghost use Rattle.walk.specs.Lent.{scratchTables, world};
+ghost use Rattle.walk.specs.Lent.{scratchTables, world, worldBefore, worldAfter};
 ghost use Rattle.walk.specs.calls.Door.{replayAfter};
-ghost use Rattle.report.specs.Told.{stillIn, lines, told, jobOf, printed, reportOf};
+ghost use Rattle.report.specs.Told.{stillIn, lentJob, lines, told, jobOf, printed, reportOf};
 ghost use Rattle.report.specs.text.Laws.{Laid};
 ghost use Rattle.report.specs.Laws.{Listed, WholeWalk};
 ghost use Rattle.report.specs.Whole.{Blank, GoodFile};
@@ -87,13 +87,8 @@ fn walk_all(
     residuals: &mut [i32],
 ) -> Stepped
     requires { ⌜ count (now rows) ≤ 512 ⌝ }
-    ensures { λ r. ⌜ WholeWalk (record {
-      still = still;
-      plan = planOf (now (rows .entry)) (now (cols .entry)) (now
-          (sides .entry)) (now (modes .entry));
-      source = now (source .entry);
-    }) (world (now (work .entry)) (now
-        (residuals .entry))) (world (now (work .exit)) (now (residuals .exit))) r ⌝ }
+    ensures { λ r. ⌜ WholeWalk (lentJob still rows cols sides modes source) (worldBefore work residuals)
+        (worldAfter work residuals) r ⌝ }
 {
     let mut refs = [0u16; 193];
     let mut indices = [0u32; 32];
@@ -161,12 +156,7 @@ fn tell(
     plane: &mut [u16],
 ) -> usize
     requires { ⌜ Blank still (count (now rows)) (world (now work) (now residuals)) (now plane) (count (now out)) ⌝ }
-    ensures { λ r. ⌜ Laid 0 (told (record {
-      still = still;
-      plan = planOf (now (rows .entry)) (now (cols .entry)) (now
-          (sides .entry)) (now (modes .entry));
-      source = now (source .entry);
-    })) (now (out .entry)) (now (out .exit)) r
+    ensures { λ r. ⌜ Laid 0 (told (lentJob still rows cols sides modes source)) (now (out .entry)) (now (out .exit)) r
         65536 ⌝ }
 {
     let walked = walk_all(

@@ -188,7 +188,8 @@ fn store_samples(from: [u16; 16], at: usize, out: &mut [u16])
 }
 
 fn rebuild(pred: &[u16], residual: &[i32], runs: usize, largest: u16, out: &mut [u16])
-    requires { ⌜ RunsFit runs (length (now pred)) (length (now residual)) (length (now out)) × ((i : ℕ) → i < runs * 16 →
+    requires { ⌜ RunsFit runs (length (now pred)) (length (now residual)) (length (now out))
+        × ((i : ℕ) → i < runs * 16 →
         natAbs (getD (now residual) i (pos 0)) ≤ 65535) ⌝ }
     ensures { λ _. ⌜ now (out .exit) ≡ fill (rebuiltTo largest (now (pred .entry)) (now (residual .entry))) (runs *
         16) (now (out .entry)) ⌝ }
