@@ -1,14 +1,15 @@
 // Substitution of missing reference samples, H.265 8.4.4.2.2 (document 01, module 3). Rests on the domain's tests and the depths; a
 // sample's value never says whether it is there.
 ghost use mathlib.Core.Path.{_≡_};
-ghost use Prim.Native.Nat.{ℕ, _+_, _-_, _*_, _≤_, _<_};
+ghost use Prim.Native.Nat.{_+_, _*_, _≤_, _<_};
 ghost use mathlib.Core.Bool.{false, cond};
-ghost use lib.ListN.{getD, replicate};
-ghost use Rattle.laws.specs.Fill.{fill};
+ghost use lib.ListN.{length, getD, set};
 ghost use Rattle.h265.specs.Substitution.{firstMarked, settled};
-ghost use Rattle.refs.specs.substitution.Substitution.{substituted};
+ghost use Rattle.refs.specs.Seen.{withCorner};
+ghost use Rattle.refs.specs.substitution.Substitution.{fromLine, substituted};
 ghost use Rattle.refs.specs.substitution.Door.{substituteNo, substituteRefs};
 ghost use Rattle.refs.specs.substitution.Line.{lineOf};
+ghost use Rattle.refs.specs.substitution.InPlace.{pastLeft, leftSettled, aboveSettled};
 use domain::rows;
 use domain::rows::Gathered;
 use domain::rows::Rows;
@@ -22,42 +23,42 @@ pub struct Flags {
 }
 
 // The sample at place p of the line: left[e] down to left[0], the corner, above[0] to above[e].
-fn sample_on(left: &[u16; 65], corner: u16, above: &[u16; 65], e: usize, p: usize) -> u16
+fn sample_on(two: &[[u16; 65]; 2], corner: u16, e: usize, p: usize) -> u16
     requires { ⌜ (e ≤ 64) × (p < 2 * e + 3) ⌝ }
-    ensures { λ r. ⌜ r ≡ lineOf 0 (now (left .entry)) corner (now (above .entry)) e p ⌝ }
+    ensures { λ r. ⌜ r ≡ lineOf 0 (now (two .entry)) corner e p ⌝ }
 {
     if p <= e {
-        return left[e - p];
+        return two[1][e - p];
     }
     if p == e + 1 {
         return corner;
     }
-    above[p - (e + 2)]
+    two[0][p - (e + 2)]
 }
 
 // Whether place p of the line is there.
-fn flag_on(left: &[bool; 65], corner: bool, above: &[bool; 65], e: usize, p: usize) -> bool
+fn flag_on(has: &[[bool; 65]; 2], corner: bool, e: usize, p: usize) -> bool
     requires { ⌜ (e ≤ 64) × (p < 2 * e + 3) ⌝ }
-    ensures { λ r. ⌜ r ≡ lineOf false (now (left .entry)) corner (now (above .entry)) e p ⌝ }
+    ensures { λ r. ⌜ r ≡ lineOf false (now (has .entry)) corner e p ⌝ }
 {
     if p <= e {
-        return left[e - p];
+        return has[1][e - p];
     }
     if p == e + 1 {
         return corner;
     }
-    above[p - (e + 2)]
+    has[0][p - (e + 2)]
 }
 
 // The first place that is there, or the count of places.
-fn first_marked(left: &[bool; 65], corner: bool, above: &[bool; 65], e: usize) -> usize
+fn first_marked(has: &[[bool; 65]; 2], corner: bool, e: usize) -> usize
     requires { ⌜ e ≤ 64 ⌝ }
-    ensures { λ r. ⌜ r ≡ firstMarked (lineOf false (now (left .entry)) corner (now (above .entry)) e) 0 (2 * e + 3) ⌝ }
+    ensures { λ r. ⌜ r ≡ firstMarked (lineOf false (now (has .entry)) corner e) 0 (2 * e + 3) ⌝ }
 {
     let total = 2 * e + 3;
     let mut p = 0;
     while p < total {
-        if flag_on(left, corner, above, e, p) {
+        if flag_on(has, corner, e, p) {
             return p;
         }
         p += 1;
@@ -72,61 +73,66 @@ pub(crate) fn choose(there: bool, v: u16, other: u16) -> u16
     if there { v } else { other }
 }
 
-// The line in the end: each missing place takes the one before it, the places before the first take that one.
-fn settle(
-    left: &[u16; 65],
-    corner: u16,
-    above: &[u16; 65],
-    has_left: &[bool; 65],
-    has_corner: bool,
-    has_above: &[bool; 65],
-    e: usize,
-    found: usize,
-) -> [u16; 131]
-    requires { ⌜ (e ≤ 64) × (found < 2 * e + 3) ⌝ }
-    ensures { λ r. ⌜ r ≡ fill (settled (lineOf false (now («has_left» .entry)) «has_corner» (now («has_above» .entry))
-        e) (lineOf 0 (now (left .entry)) corner (now (above .entry)) e) found) (2 * e + 3) (replicate 131 0) ⌝ }
+// Entry i takes what is carried to it where it is missing; what it has in the end is carried on.
+fn settle_at(row: &mut [u16; 65], has: &[bool; 65], i: usize, carried: u16) -> u16
+    requires { ⌜ i < 65 ⌝ }
+    ensures { λ r. ⌜ (r ≡ cond (getD (now (has .entry)) i false) (getD (now (row .entry)) i 0) carried)
+        × (now (row .exit) ≡ set (now (row .entry)) i r) ⌝ }
 {
-    let total = 2 * e + 3;
-    let mut vals = [0u16; 131];
-    let mut carried = sample_on(left, corner, above, e, found);
+    let there = has[i];
+    let own = row[i];
+    let v = choose(there, own, carried);
+    row[i] = v;
+    v
+}
+
+// The left row where it stands, from left[e] down to left[0]; gives what left[0] has in the end. Entries past e stay as they came.
+fn fill_left(row: &mut [u16; 65], has: &[bool; 65], e: usize, start: u16) -> u16
+    requires { ⌜ e ≤ 64 ⌝ }
+    ensures { λ r. ⌜ (r ≡ pastLeft (now (has .entry)) (now (row .entry)) e start (e + 1))
+        × (now (row .exit) ≡ leftSettled (now (has .entry)) e start (now (row .entry))) ⌝ }
+{
+    let mut carried = start;
     let mut p = 0;
-    while p < total {
-        let there = flag_on(has_left, has_corner, has_above, e, p);
-        let v = sample_on(left, corner, above, e, p);
-        carried = choose(there, v, carried);
-        vals[p] = carried;
+    while p <= e {
+        carried = settle_at(&mut *row, has, e - p, carried);
         p += 1;
     }
-    vals
+    carried
 }
 
-// The left row out of the line, its entries past e as they came.
-fn left_of(line: &[u16; 131], old: [u16; 65], e: usize) -> [u16; 65]
+// The row above where it stands, from above[0] to above[e]. Entries past e stay as they came.
+fn fill_above(row: &mut [u16; 65], has: &[bool; 65], e: usize, start: u16)
     requires { ⌜ e ≤ 64 ⌝ }
-    ensures { λ r. ⌜ r ≡ fill (λ (i : ℕ). getD (now (line .entry)) (e - i) 0) (e + 1) old ⌝ }
+    ensures { λ _. ⌜ now (row .exit) ≡ aboveSettled (now (has .entry)) e start (now (row .entry)) ⌝ }
 {
-    let mut out = old;
+    let mut carried = start;
     let mut i = 0;
     while i <= e {
-        out[i] = line[e - i];
+        carried = settle_at(&mut *row, has, i, carried);
         i += 1;
     }
-    out
 }
 
-// The row above out of the line, its entries past e as they came.
-fn above_of(line: &[u16; 131], old: [u16; 65], e: usize) -> [u16; 65]
-    requires { ⌜ e ≤ 64 ⌝ }
-    ensures { λ r. ⌜ r ≡ fill (λ (i : ℕ). getD (now (line .entry)) (e + 2 + i) 0) (e + 1) old ⌝ }
+// Completes the two rows, above and left, where they stand, and gives the corner: each missing place of the line takes the one before
+// it, the places before the first take that one, which is read before any is written.
+fn settle(
+    two: &mut [[u16; 65]; 2],
+    corner: u16,
+    has: &[[bool; 65]; 2],
+    has_corner: bool,
+    e: usize,
+    found: usize,
+) -> u16
+    requires { ⌜ (e ≤ 64) × (found < 2 * e + 3) × (length (now two) ≡ 2) ⌝ }
+    ensures { λ c. ⌜ withCorner c (now (two .exit)) ≡ fromLine e (settled (lineOf false (now (has .entry)) «has_corner» e)
+        (lineOf 0 (now (two .entry)) corner e) found) (withCorner corner (now (two .entry))) ⌝ }
 {
-    let mut out = old;
-    let mut i = 0;
-    while i <= e {
-        out[i] = line[e + 2 + i];
-        i += 1;
-    }
-    out
+    let start = sample_on(&*two, corner, e, found);
+    let beside = fill_left(&mut two[1], &has[1], e, start);
+    let between = choose(has_corner, corner, beside);
+    fill_above(&mut two[0], &has[0], e, between);
+    between
 }
 
 fn substitute(rows: Rows, flags: Flags, n: usize, neutral: u16) -> Rows
@@ -134,28 +140,21 @@ fn substitute(rows: Rows, flags: Flags, n: usize, neutral: u16) -> Rows
     ensures { λ r. ⌜ r ≡ substituted n neutral flags rows ⌝ }
 {
     let e = 2 * n;
-    let left = rows.left;
-    let above = rows.above;
-    let has_left = flags.left;
     let has_above = flags.above;
-    let found = first_marked(&has_left, flags.corner, &has_above, e);
+    let has_left = flags.left;
+    let has = [has_above, has_left];
+    let found = first_marked(&has, flags.corner, e);
     if found >= 2 * e + 3 {
         return rows::level_rows(neutral);
     }
-    let line = settle(
-        &left,
-        rows.corner,
-        &above,
-        &has_left,
-        flags.corner,
-        &has_above,
-        e,
-        found,
-    );
+    let above = rows.above;
+    let left = rows.left;
+    let mut two = [above, left];
+    let corner = settle(&mut two, rows.corner, &has, flags.corner, e, found);
     Rows {
-        corner: line[e + 1],
-        above: above_of(&line, above, e),
-        left: left_of(&line, left, e),
+        corner,
+        above: two[0],
+        left: two[1],
     }
 }
 
