@@ -6,7 +6,7 @@ ghost use mathlib.Core.Bool.{false, cond};
 ghost use lib.ListN.{length, getD, set};
 ghost use Rattle.h265.specs.Substitution.{firstMarked, settled};
 ghost use Rattle.refs.specs.Seen.{withCorner};
-ghost use Rattle.refs.specs.substitution.Substitution.{fromLine, substituted};
+ghost use Rattle.refs.specs.substitution.Substitution.{samplesOn, fromLine, substituted};
 ghost use Rattle.refs.specs.substitution.Door.{substituteNo, substituteRefs};
 ghost use Rattle.refs.specs.substitution.Line.{lineOf};
 ghost use Rattle.refs.specs.substitution.InPlace.{pastLeft, leftSettled, aboveSettled};
@@ -25,7 +25,7 @@ pub struct Flags {
 // The sample at place p of the line: left[e] down to left[0], the corner, above[0] to above[e].
 fn sample_on(two: &[[u16; 65]; 2], corner: u16, e: usize, p: usize) -> u16
     requires { ⌜ (e ≤ 64) × (p < 2 * e + 3) ⌝ }
-    ensures { λ r. ⌜ r ≡ lineOf 0 (now (two .entry)) corner e p ⌝ }
+    ensures { λ r. ⌜ r ≡ samplesOn (withCorner corner (now (two .entry))) e p ⌝ }
 {
     if p <= e {
         return two[1][e - p];
@@ -37,28 +37,28 @@ fn sample_on(two: &[[u16; 65]; 2], corner: u16, e: usize, p: usize) -> u16
 }
 
 // Whether place p of the line is there.
-fn flag_on(has: &[[bool; 65]; 2], corner: bool, e: usize, p: usize) -> bool
+fn flag_on(left: &[bool; 65], corner: bool, above: &[bool; 65], e: usize, p: usize) -> bool
     requires { ⌜ (e ≤ 64) × (p < 2 * e + 3) ⌝ }
-    ensures { λ r. ⌜ r ≡ lineOf false (now (has .entry)) corner e p ⌝ }
+    ensures { λ r. ⌜ r ≡ lineOf false (now (left .entry)) corner (now (above .entry)) e p ⌝ }
 {
     if p <= e {
-        return has[1][e - p];
+        return left[e - p];
     }
     if p == e + 1 {
         return corner;
     }
-    has[0][p - (e + 2)]
+    above[p - (e + 2)]
 }
 
 // The first place that is there, or the count of places.
-fn first_marked(has: &[[bool; 65]; 2], corner: bool, e: usize) -> usize
+fn first_marked(left: &[bool; 65], corner: bool, above: &[bool; 65], e: usize) -> usize
     requires { ⌜ e ≤ 64 ⌝ }
-    ensures { λ r. ⌜ r ≡ firstMarked (lineOf false (now (has .entry)) corner e) 0 (2 * e + 3) ⌝ }
+    ensures { λ r. ⌜ r ≡ firstMarked (lineOf false (now (left .entry)) corner (now (above .entry)) e) 0 (2 * e + 3) ⌝ }
 {
     let total = 2 * e + 3;
     let mut p = 0;
     while p < total {
-        if flag_on(has, corner, e, p) {
+        if flag_on(left, corner, above, e, p) {
             return p;
         }
         p += 1;
@@ -119,19 +119,21 @@ fn fill_above(row: &mut [u16; 65], has: &[bool; 65], e: usize, start: u16)
 fn settle(
     two: &mut [[u16; 65]; 2],
     corner: u16,
-    has: &[[bool; 65]; 2],
+    has_left: &[bool; 65],
     has_corner: bool,
+    has_above: &[bool; 65],
     e: usize,
     found: usize,
 ) -> u16
     requires { ⌜ (e ≤ 64) × (found < 2 * e + 3) × (length (now two) ≡ 2) ⌝ }
-    ensures { λ c. ⌜ withCorner c (now (two .exit)) ≡ fromLine e (settled (lineOf false (now (has .entry)) «has_corner» e)
-        (lineOf 0 (now (two .entry)) corner e) found) (withCorner corner (now (two .entry))) ⌝ }
+    ensures { λ c. ⌜ withCorner c (now (two .exit)) ≡ fromLine e (settled (lineOf false (now («has_left» .entry))
+        «has_corner» (now («has_above» .entry)) e) (samplesOn (withCorner corner (now (two .entry))) e) found)
+        (withCorner corner (now (two .entry))) ⌝ }
 {
     let start = sample_on(&*two, corner, e, found);
-    let beside = fill_left(&mut two[1], &has[1], e, start);
+    let beside = fill_left(&mut two[1], has_left, e, start);
     let between = choose(has_corner, corner, beside);
-    fill_above(&mut two[0], &has[0], e, between);
+    fill_above(&mut two[0], has_above, e, between);
     between
 }
 
@@ -140,17 +142,24 @@ fn substitute(rows: Rows, flags: Flags, n: usize, neutral: u16) -> Rows
     ensures { λ r. ⌜ r ≡ substituted n neutral flags rows ⌝ }
 {
     let e = 2 * n;
-    let has_above = flags.above;
     let has_left = flags.left;
-    let has = [has_above, has_left];
-    let found = first_marked(&has, flags.corner, e);
+    let has_above = flags.above;
+    let found = first_marked(&has_left, flags.corner, &has_above, e);
     if found >= 2 * e + 3 {
         return rows::level_rows(neutral);
     }
     let above = rows.above;
     let left = rows.left;
     let mut two = [above, left];
-    let corner = settle(&mut two, rows.corner, &has, flags.corner, e, found);
+    let corner = settle(
+        &mut two,
+        rows.corner,
+        &has_left,
+        flags.corner,
+        &has_above,
+        e,
+        found,
+    );
     Rows {
         corner,
         above: two[0],

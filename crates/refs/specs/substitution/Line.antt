@@ -2,7 +2,7 @@
 -- counts along each edge. Assumes nothing.
 use mathlib.Core.Path.{_≡_, refl, sym, ap, ap₂, _∙_}
 use mathlib.Core.Bool.{Bool, true, false, cond, _||_, true≢false}
-use mathlib.Core.List.{List, []}
+use mathlib.Core.List.{List}
 use mathlib.Core.Logic.{_⊎_, inl, inr, ⊎-elim}
 use Prim.Native.Nat.{ℕ, zero, suc, _+_, _-_, _*_, _≤_, _<_}
 use native.Mathlib.Nat.{add-zero}
@@ -18,9 +18,9 @@ use Rattle.refs.specs.declared.substitution.Flags.{Flags}
 use Rattle.domain.specs.rows.Neighbours.{levelRows}
 use Rattle.refs.specs.substitution.Substitution.{onLine, flagsOn, samplesOn, fromLine, substituted}
 
--- the line of two rows, above and left, and a corner
-abbrev pub lineOf : {A : Type 0} → A → List (List A) → A → ℕ → ℕ → A
-lineOf d two corner e = onLine (λ i. getD (getD two 1 []) i d) corner (λ i. getD (getD two 0 []) i d) e
+-- the line of two lists and a corner
+abbrev pub lineOf : {A : Type 0} → A → List A → A → List A → ℕ → ℕ → A
+lineOf d left corner above e = onLine (λ i. getD left i d) corner (λ i. getD above i d) e
 
 -- what stands on it
 module _ {A : Type 0} (left above : ℕ → A) (corner : A) (e : ℕ) where

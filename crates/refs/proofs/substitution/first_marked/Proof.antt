@@ -10,11 +10,11 @@ use Rattle.refs.proofs.substitution.first_marked.Statement.{statement}
 use Rattle.refs.proofs.substitution.first_marked.Tie as tie
 
 abbrev Inv-loop : tie.InvT-loop
-Inv-loop has corner e total p₀ p =
-    (p ≤ total) × (firstMarked (lineOf false has corner e) 0 total ≡ firstMarked (lineOf false has corner e) p (total - p))
+Inv-loop left corner above e total p₀ p =
+    (p ≤ total) × (firstMarked (lineOf false left corner above e) 0 total ≡ firstMarked (lineOf false left corner above e) p (total - p))
 
 abbrev μ-loop : tie.MeasureT-loop
-μ-loop has corner e total p₀ p = total - p
+μ-loop left corner above e total p₀ p = total - p
 
 mul-total : tie.Need-mul-total Inv-loop μ-loop
 mul-total c = search needs

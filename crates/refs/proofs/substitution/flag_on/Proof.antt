@@ -5,11 +5,8 @@ use borrow.Author.Needs.{needs}
 use Rattle.refs.proofs.substitution.flag_on.Statement.{statement}
 use Rattle.refs.proofs.substitution.flag_on.Tie as tie
 
-index-1-result : tie.Need-index-1-result
-index-1-result c = search needs
-
-index-2-result : tie.Need-index-2-result
-index-2-result c = search needs
+element-copy-out-result : tie.Need-element-copy-out-result
+element-copy-out-result c = search needs
 
 returns : tie.Need-returns
 unfolding onLine
@@ -28,11 +25,8 @@ add-result c = search needs
 sub-result : tie.Need-sub-result
 sub-result c = search needs
 
-index-1-result-2 : tie.Need-index-1-result-2
-index-1-result-2 c = search needs
-
-index-2-result-2 : tie.Need-index-2-result-2
-index-2-result-2 c = search needs
+element-copy-out-result-2 : tie.Need-element-copy-out-result-2
+element-copy-out-result-2 c = search needs
 
 returns-3 : tie.Need-returns-3
 unfolding onLine
@@ -42,13 +36,11 @@ pub flag-on-spec : {M : Type 1} → statement M
 flag-on-spec =
     tie.close
     (tie.spec
-    index-1-result
-    index-2-result
+    element-copy-out-result
     returns
     add-if2
     returns-2
     add-result
     sub-result
-    index-1-result-2
-    index-2-result-2
+    element-copy-out-result-2
     returns-3)

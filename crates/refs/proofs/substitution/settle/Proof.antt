@@ -1,7 +1,5 @@
 -- Left, the corner, above. Assumes nothing.
 use mathlib.Core.Path.{ap, _∙_}
-use mathlib.Core.List.{[]}
-use lib.ListN.{getD}
 use Rattle.refs.specs.Seen.{withCorner, two-set-back, first-kept}
 use Rattle.refs.specs.substitution.InPlace.{aboveSettled, settled-rows}
 use borrow.Author.Needs.{needs}
@@ -14,9 +12,6 @@ sample-on-requires c κs = search needs
 index-1-fill-left : tie.Need-index-1-fill-left
 index-1-fill-left c = search needs
 
-index-1-fill-left-2 : tie.Need-index-1-fill-left-2
-index-1-fill-left-2 c = search needs
-
 fill-left-requires : tie.Need-fill-left-requires
 fill-left-requires c κs = search needs
 
@@ -26,22 +21,19 @@ choose-requires c κs = search needs
 index-1-fill-above : tie.Need-index-1-fill-above
 index-1-fill-above c = search needs
 
-index-1-fill-above-2 : tie.Need-index-1-fill-above-2
-index-1-fill-above-2 c = search needs
-
 fill-above-requires : tie.Need-fill-above-requires
 fill-above-requires c κs = search needs
 
 returns : tie.Need-returns
 returns c =
-    let s = c .before .before .before .before .before .before .before .before .before in
+    let s = c .before .before .before .before .before .before .before in
     let a = s .args in
-    let l = c .before .before .before .before .fill-left in
-    let k = c .before .before .before .choose in
+    let l = c .before .before .before .fill-left in
+    let k = c .before .before .choose in
     two-set-back (a .two .now) _ _ _ (s .pre .2)
-    ∙ settled-rows (getD (a .has .now) 1 []) (getD (a .has .now) 0 []) (a .has-corner) (withCorner (a .corner) (a .two .now)) (a .e)
-    (a .found) (c .before .before .before .before .before .before .before .sample-on .ensures) (l .ensures .0) (l .ensures .1) (k .ensures)
-    (c .fill-above .ensures ∙ ap (aboveSettled (getD (a .has .now) 0 []) (a .e) (k .result)) (first-kept (a .two .now) _))
+    ∙ settled-rows (a .has-left .now) (a .has-above .now) (a .has-corner) (withCorner (a .corner) (a .two .now)) (a .e) (a .found)
+    (c .before .before .before .before .before .sample-on .ensures) (l .ensures .0) (l .ensures .1) (k .ensures)
+    (c .fill-above .ensures ∙ ap (aboveSettled (a .has-above .now) (a .e) (k .result)) (first-kept (a .two .now) _))
 
 pub settle-spec : {M : Type 1} → statement M
 settle-spec =
@@ -49,10 +41,8 @@ settle-spec =
     (tie.spec
     sample-on-requires
     index-1-fill-left
-    index-1-fill-left-2
     fill-left-requires
     choose-requires
     index-1-fill-above
-    index-1-fill-above-2
     fill-above-requires
     returns)

@@ -22,23 +22,23 @@ level-rows-requires c κs = search needs
 
 returns : tie.Need-returns
 returns c =
-    let a = c .before .before .before .before .before .before .args in
+    let a = c .before .before .before .before .before .before .before .args in
     let m = c .before .before .first-marked in
     c .level-rows .ensures ∙ none-there (a .n) (a .neutral) (a .flags) (a .rows) (m .ensures) (c .before .if1 .taken)
 
 settle-requires : tie.Need-settle-requires
 settle-requires c κs = search needs
 
-array-copy-out-t22 : tie.Need-array-copy-out-t22
-array-copy-out-t22 c = search needs
+array-copy-out-t23 : tie.Need-array-copy-out-t23
+array-copy-out-t23 c = search needs
 
-array-copy-out-t25 : tie.Need-array-copy-out-t25
-array-copy-out-t25 c = search needs
+array-copy-out-t26 : tie.Need-array-copy-out-t26
+array-copy-out-t26 c = search needs
 
 returns-2 : tie.Need-returns-2
 returns-2 c =
-    let t = c .before .before .before .before .before .before .before in
-    let a = t .before .before .before .before .before .args in
+    let t = c .before .before .before .before .before .before .before .before in
+    let a = t .before .before .before .before .before .before .args in
     c .before .before .settle .ensures
     ∙ some-there (a .n) (a .neutral) (a .flags) (a .rows) (t .before .first-marked .ensures) (t .if1 .left)
 
@@ -53,6 +53,6 @@ substitute-spec =
     level-rows-requires
     returns
     settle-requires
-    array-copy-out-t22
-    array-copy-out-t25
+    array-copy-out-t23
+    array-copy-out-t26
     returns-2)
