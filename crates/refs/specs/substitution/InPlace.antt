@@ -57,16 +57,16 @@ module _ (has : List Bool) (start : ℕ) (row : List ℕ) {carried next : ℕ} {
 
 -- both rows and the corner
 module _ (has-left has-above : List Bool) (there : Bool) (rows : Rows) (e found : ℕ) where
-  abbrev marks : ℕ → Bool
-  marks = onLine (λ i. getD has-left i false) there (λ i. getD has-above i false) e
+  abbrev marksOn : ℕ → Bool
+  marksOn = onLine (λ i. getD has-left i false) there (λ i. getD has-above i false) e
 
-  abbrev start : ℕ
-  start = samplesOn rows e found
+  abbrev firstOn : ℕ
+  firstOn = samplesOn rows e found
 
-  abbrev past : ℕ → ℕ
-  past = carriedTo marks (samplesOn rows e) start
+  abbrev pastOn : ℕ → ℕ
+  pastOn = carriedTo marksOn (samplesOn rows e) firstOn
 
-  past-left : (k : ℕ) → k ≤ e + 1 → pastLeft has-left (rows .left) e start k ≡ past k
+  past-left : (k : ℕ) → k ≤ e + 1 → pastLeft has-left (rows .left) e firstOn k ≡ pastOn k
   unfolding carriedTo
   past-left zero h = refl
   past-left (suc k) h =
@@ -76,47 +76,47 @@ module _ (has-left has-above : List Bool) (there : Bool) (rows : Rows) (e found 
         past-left k (omega arith),
       )
 
-  past-corner : cond there (rows .corner) (pastLeft has-left (rows .left) e start (e + 1)) ≡ past (e + 1 + 1)
+  past-corner : cond there (rows .corner) (pastLeft has-left (rows .left) e firstOn (e + 1)) ≡ pastOn (e + 1 + 1)
   past-corner =
-      carried-next marks (samplesOn rows e) start (e + 1) (past-left (e + 1) (omega arith))
+      carried-next marksOn (samplesOn rows e) firstOn (e + 1) (past-left (e + 1) (omega arith))
       (simp (
         on-corner (λ i. getD has-left i false) (λ i. getD has-above i false) there e,
         on-corner (λ i. getD (rows .left) i 0) (λ i. getD (rows .above) i 0) (rows .corner) e,
       ))
 
-  past-above : {corner : ℕ} → corner ≡ past (e + 1 + 1) → (k : ℕ) → pastAbove has-above (rows .above) corner k ≡ past (e + 2 + k)
+  past-above : {corner : ℕ} → corner ≡ pastOn (e + 1 + 1) → (k : ℕ) → pastAbove has-above (rows .above) corner k ≡ pastOn (e + 2 + k)
   unfolding carriedTo
-  past-above is zero = let q : e + 1 + 1 ≡ e + 2 + 0 = omega arith in is ∙ ap past q
+  past-above is zero = let q : e + 1 + 1 ≡ e + 2 + 0 = omega arith in is ∙ ap pastOn q
   past-above is (suc k) =
       let q : e + 2 + k + 1 ≡ e + 2 + suc k = omega arith in
-      carried-next marks (samplesOn rows e) start (e + 2 + k) (past-above is k)
+      carried-next marksOn (samplesOn rows e) firstOn (e + 2 + k) (past-above is k)
       (simp (
         on-above (λ i. getD has-left i false) (λ i. getD has-above i false) there e k,
         on-above (λ i. getD (rows .left) i 0) (λ i. getD (rows .above) i 0) (rows .corner) e k,
       ))
-      ∙ ap past q
+      ∙ ap pastOn q
 
-  pub settled-rows : {first beside corner : ℕ} {above left : List ℕ} → first ≡ start
+  pub settled-rows : {first beside corner : ℕ} {above left : List ℕ} → first ≡ firstOn
       → beside ≡ pastLeft has-left (rows .left) e first (e + 1) → left ≡ leftSettled has-left e first (rows .left)
       → corner ≡ cond there (rows .corner) beside → above ≡ aboveSettled has-above e corner (rows .above)
-      → _≡_ {A = Rows} (record { corner = corner; above = above; left = left }) (fromLine e (settled marks (samplesOn rows e) found) rows)
+      → _≡_ {A = Rows} (record { corner = corner; above = above; left = left }) (fromLine e (settled marksOn (samplesOn rows e) found) rows)
   settled-rows {first} {beside} {corner} is-first is-beside is-left is-corner is-above =
       λ i.
       record {
-        corner = (is ∙ settled-is marks (samplesOn rows e) found (e + 1)) i;
+        corner = (is ∙ settled-is marksOn (samplesOn rows e) found (e + 1)) i;
         above = (is-above ∙ fill-same _ _ (e + 1) (rows .above) (λ j l. past-above is (j + 1) ∙ after j)) i;
         left =
             (is-left ∙ ap (λ (s : ℕ). leftSettled has-left e s (rows .left)) is-first ∙ fill-same _ _ (e + 1) (rows .left)
-            (λ j l. past-left (e - j + 1) (omega arith) ∙ settled-is marks (samplesOn rows e) found (e - j)))
+            (λ j l. past-left (e - j + 1) (omega arith) ∙ settled-is marksOn (samplesOn rows e) found (e - j)))
             i;
       }
     where
-      is : corner ≡ past (e + 1 + 1)
+      is : corner ≡ pastOn (e + 1 + 1)
       is =
           is-corner
           ∙ ap (cond there (rows .corner)) (is-beside ∙ ap (λ (s : ℕ). pastLeft has-left (rows .left) e s (e + 1)) is-first)
           ∙ past-corner
 
-      after : (j : ℕ) → past (e + 2 + (j + 1)) ≡ settled marks (samplesOn rows e) found (e + 2 + j)
+      after : (j : ℕ) → pastOn (e + 2 + (j + 1)) ≡ settled marksOn (samplesOn rows e) found (e + 2 + j)
       after j =
-          let q : e + 2 + (j + 1) ≡ e + 2 + j + 1 = omega arith in ap past q ∙ settled-is marks (samplesOn rows e) found (e + 2 + j)
+          let q : e + 2 + (j + 1) ≡ e + 2 + j + 1 = omega arith in ap pastOn q ∙ settled-is marksOn (samplesOn rows e) found (e + 2 + j)
