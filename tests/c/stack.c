@@ -1,5 +1,6 @@
 /* How much stack each of the firmware's entries takes, on x86-64, with the archive as it is shipped: paints the stack below, calls, and looks how
- * far down the paint is gone. Needs start.c and no C library, so that the kit's compiler builds it on any processor and its emulator runs it. */
+ * far down the paint is gone. Substitution, which no entry of the firmware reaches, is measured as the tests' archive has it. Needs start.c and no
+ * C library, so that the kit's compiler builds it on any processor and its emulator runs it. */
 #include <stddef.h>
 #include <stdint.h>
 
@@ -45,6 +46,25 @@ static uint32_t replay(void) {
     uint32_t count = WIDTH / side * (HEIGHT / side);
     return salvrunde_replay(0, 8, WIDTH, HEIGHT, 64, count, plan, 6 * count, residuals, sizeof residuals, plane, sizeof plane, result,
                             sizeof result);
+}
+
+/* The tests' entry of substitution. Its answer is stored where the first argument points to, as a struct of this size comes back on x86-64: so no copy
+ * of the caller's is counted. */
+struct references {
+    uint32_t no;
+    uint16_t corner, above[65], left[65];
+};
+void *salvrunde_probe_substitute_refs(struct references *answer, uint16_t corner, const uint16_t *above, const uint16_t *left, _Bool has_corner,
+                                      const _Bool *has_above, const _Bool *has_left, size_t n, uint32_t bits);
+
+/* The modes stand for flags: none there, all, entry 2n of each row alone, and one in three. */
+static uint32_t substitution(void) {
+    static struct references answer;
+    static uint16_t samples[65];
+    static _Bool there[65];
+    for (uint32_t i = 0; i < 65; i++) there[i] = mode == 1 || (mode == 2 && i == 2 * side) || (mode == 3 && i % 3 == 1);
+    salvrunde_probe_substitute_refs(&answer, 7, samples, samples, mode == 1, there, there, side, 8);
+    return answer.no;
 }
 
 /* The plan of one CTU in blocks of `side`, all of one mode: block i lies where the bits of i say, column bit below row bit. */
@@ -93,5 +113,6 @@ int main(void) {
     tell("angular", angular, 2, 34, 6144);
     tell("chroma_block", chroma_block, 0, 34, 6144);
     tell("replay", replay, 0, 34, 8192);
+    tell("substitution", substitution, 0, 3, 768);
     return over;
 }

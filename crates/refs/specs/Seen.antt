@@ -151,6 +151,16 @@ two-set (_ ∷ _ ∷ _) c a l h = refl
 two-set (_ ∷ []) c a l h = absurd (omega arith)
 two-set [] c a l h = absurd (omega arith)
 
+pub two-set-back : (two : List (List ℕ)) (c : ℕ) (a l : List ℕ) → length two ≡ 2 → withCorner c (set (set two 1 l) 0 a)
+    ≡ record { corner = c; above = a; left = l }
+two-set-back (_ ∷ _ ∷ _) c a l h = refl
+two-set-back (_ ∷ []) c a l h = absurd (omega arith)
+two-set-back [] c a l h = absurd (omega arith)
+
+pub first-kept : (two : List (List ℕ)) (l : List ℕ) → getD (set two 1 l) 0 [] ≡ getD two 0 []
+first-kept [] l = refl
+first-kept (_ ∷ _) l = refl
+
 pub second-kept : (two : List (List ℕ)) (a : List ℕ) → getD (set two 0 a) 1 [] ≡ getD two 1 []
 second-kept [] a = refl
 second-kept (_ ∷ _) a = refl

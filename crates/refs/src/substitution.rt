@@ -1,14 +1,15 @@
 // Substitution of missing reference samples, H.265 8.4.4.2.2 (document 01, module 3). Rests on the domain's tests and the depths; a
 // sample's value never says whether it is there.
 ghost use mathlib.Core.Path.{_≡_};
-ghost use Prim.Native.Nat.{ℕ, _+_, _-_, _*_, _≤_, _<_};
+ghost use Prim.Native.Nat.{_+_, _*_, _≤_, _<_};
 ghost use mathlib.Core.Bool.{false, cond};
-ghost use lib.ListN.{getD, replicate};
-ghost use Rattle.laws.specs.Fill.{fill};
+ghost use lib.ListN.{length, getD, set};
 ghost use Rattle.h265.specs.Substitution.{firstMarked, settled};
-ghost use Rattle.refs.specs.substitution.Substitution.{substituted};
+ghost use Rattle.refs.specs.Seen.{withCorner};
+ghost use Rattle.refs.specs.substitution.Substitution.{samplesOn, fromLine, substituted};
 ghost use Rattle.refs.specs.substitution.Door.{substituteNo, substituteRefs};
 ghost use Rattle.refs.specs.substitution.Line.{lineOf};
+ghost use Rattle.refs.specs.substitution.InPlace.{pastLeft, leftSettled, aboveSettled};
 use domain::rows;
 use domain::rows::Gathered;
 use domain::rows::Rows;
@@ -22,17 +23,17 @@ pub struct Flags {
 }
 
 // The sample at place p of the line: left[e] down to left[0], the corner, above[0] to above[e].
-fn sample_on(left: &[u16; 65], corner: u16, above: &[u16; 65], e: usize, p: usize) -> u16
+fn sample_on(two: &[[u16; 65]; 2], corner: u16, e: usize, p: usize) -> u16
     requires { ⌜ (e ≤ 64) × (p < 2 * e + 3) ⌝ }
-    ensures { λ r. ⌜ r ≡ lineOf 0 (now (left .entry)) corner (now (above .entry)) e p ⌝ }
+    ensures { λ r. ⌜ r ≡ samplesOn (withCorner corner (now (two .entry))) e p ⌝ }
 {
     if p <= e {
-        return left[e - p];
+        return two[1][e - p];
     }
     if p == e + 1 {
         return corner;
     }
-    above[p - (e + 2)]
+    two[0][p - (e + 2)]
 }
 
 // Whether place p of the line is there.
@@ -72,61 +73,68 @@ pub(crate) fn choose(there: bool, v: u16, other: u16) -> u16
     if there { v } else { other }
 }
 
-// The line in the end: each missing place takes the one before it, the places before the first take that one.
+// Entry i takes what is carried to it where it is missing; what it has in the end is carried on.
+fn settle_at(row: &mut [u16; 65], has: &[bool; 65], i: usize, carried: u16) -> u16
+    requires { ⌜ i < 65 ⌝ }
+    ensures { λ r. ⌜ (r ≡ cond (getD (now (has .entry)) i false) (getD (now (row .entry)) i 0) carried)
+        × (now (row .exit) ≡ set (now (row .entry)) i r) ⌝ }
+{
+    let there = has[i];
+    let own = row[i];
+    let v = choose(there, own, carried);
+    row[i] = v;
+    v
+}
+
+// The left row where it stands, from left[e] down to left[0]; gives what left[0] has in the end. Entries past e stay as they came.
+fn fill_left(row: &mut [u16; 65], has: &[bool; 65], e: usize, start: u16) -> u16
+    requires { ⌜ e ≤ 64 ⌝ }
+    ensures { λ r. ⌜ (r ≡ pastLeft (now (has .entry)) (now (row .entry)) e start (e + 1))
+        × (now (row .exit) ≡ leftSettled (now (has .entry)) e start (now (row .entry))) ⌝ }
+{
+    let mut carried = start;
+    let mut p = 0;
+    while p <= e {
+        carried = settle_at(&mut *row, has, e - p, carried);
+        p += 1;
+    }
+    carried
+}
+
+// The row above where it stands, from above[0] to above[e]. Entries past e stay as they came.
+fn fill_above(row: &mut [u16; 65], has: &[bool; 65], e: usize, start: u16)
+    requires { ⌜ e ≤ 64 ⌝ }
+    ensures { λ _. ⌜ now (row .exit) ≡ aboveSettled (now (has .entry)) e start (now (row .entry)) ⌝ }
+{
+    let mut carried = start;
+    let mut i = 0;
+    while i <= e {
+        carried = settle_at(&mut *row, has, i, carried);
+        i += 1;
+    }
+}
+
+// Completes the two rows, above and left, where they stand, and gives the corner: each missing place of the line takes the one before
+// it, the places before the first take that one, which is read before any is written.
 fn settle(
-    left: &[u16; 65],
+    two: &mut [[u16; 65]; 2],
     corner: u16,
-    above: &[u16; 65],
     has_left: &[bool; 65],
     has_corner: bool,
     has_above: &[bool; 65],
     e: usize,
     found: usize,
-) -> [u16; 131]
-    requires { ⌜ (e ≤ 64) × (found < 2 * e + 3) ⌝ }
-    ensures { λ r. ⌜ r ≡ fill (settled (lineOf false (now («has_left» .entry)) «has_corner» (now («has_above» .entry))
-        e) (lineOf 0 (now (left .entry)) corner (now (above .entry)) e) found) (2 * e + 3) (replicate 131 0) ⌝ }
+) -> u16
+    requires { ⌜ (e ≤ 64) × (found < 2 * e + 3) × (length (now two) ≡ 2) ⌝ }
+    ensures { λ c. ⌜ withCorner c (now (two .exit)) ≡ fromLine e (settled (lineOf false (now («has_left» .entry))
+        «has_corner» (now («has_above» .entry)) e) (samplesOn (withCorner corner (now (two .entry))) e) found)
+        (withCorner corner (now (two .entry))) ⌝ }
 {
-    let total = 2 * e + 3;
-    let mut vals = [0u16; 131];
-    let mut carried = sample_on(left, corner, above, e, found);
-    let mut p = 0;
-    while p < total {
-        let there = flag_on(has_left, has_corner, has_above, e, p);
-        let v = sample_on(left, corner, above, e, p);
-        carried = choose(there, v, carried);
-        vals[p] = carried;
-        p += 1;
-    }
-    vals
-}
-
-// The left row out of the line, its entries past e as they came.
-fn left_of(line: &[u16; 131], old: [u16; 65], e: usize) -> [u16; 65]
-    requires { ⌜ e ≤ 64 ⌝ }
-    ensures { λ r. ⌜ r ≡ fill (λ (i : ℕ). getD (now (line .entry)) (e - i) 0) (e + 1) old ⌝ }
-{
-    let mut out = old;
-    let mut i = 0;
-    while i <= e {
-        out[i] = line[e - i];
-        i += 1;
-    }
-    out
-}
-
-// The row above out of the line, its entries past e as they came.
-fn above_of(line: &[u16; 131], old: [u16; 65], e: usize) -> [u16; 65]
-    requires { ⌜ e ≤ 64 ⌝ }
-    ensures { λ r. ⌜ r ≡ fill (λ (i : ℕ). getD (now (line .entry)) (e + 2 + i) 0) (e + 1) old ⌝ }
-{
-    let mut out = old;
-    let mut i = 0;
-    while i <= e {
-        out[i] = line[e + 2 + i];
-        i += 1;
-    }
-    out
+    let start = sample_on(&*two, corner, e, found);
+    let beside = fill_left(&mut two[1], has_left, e, start);
+    let between = choose(has_corner, corner, beside);
+    fill_above(&mut two[0], has_above, e, between);
+    between
 }
 
 fn substitute(rows: Rows, flags: Flags, n: usize, neutral: u16) -> Rows
@@ -134,18 +142,18 @@ fn substitute(rows: Rows, flags: Flags, n: usize, neutral: u16) -> Rows
     ensures { λ r. ⌜ r ≡ substituted n neutral flags rows ⌝ }
 {
     let e = 2 * n;
-    let left = rows.left;
-    let above = rows.above;
     let has_left = flags.left;
     let has_above = flags.above;
     let found = first_marked(&has_left, flags.corner, &has_above, e);
     if found >= 2 * e + 3 {
         return rows::level_rows(neutral);
     }
-    let line = settle(
-        &left,
+    let above = rows.above;
+    let left = rows.left;
+    let mut two = [above, left];
+    let corner = settle(
+        &mut two,
         rows.corner,
-        &above,
         &has_left,
         flags.corner,
         &has_above,
@@ -153,9 +161,9 @@ fn substitute(rows: Rows, flags: Flags, n: usize, neutral: u16) -> Rows
         found,
     );
     Rows {
-        corner: line[e + 1],
-        above: above_of(&line, above, e),
-        left: left_of(&line, left, e),
+        corner,
+        above: two[0],
+        left: two[1],
     }
 }
 

@@ -69,6 +69,18 @@ impl Marked {
         }
     }
 
+    /// Sets the sample at a place of the line.
+    fn put(&mut self, n: usize, place: usize, sample: u16) {
+        let e = 2 * n;
+        if place <= e {
+            self.rows.2[e - place] = sample;
+        } else if place == e + 1 {
+            self.rows.0 = sample;
+        } else {
+            self.rows.1[place - e - 2] = sample;
+        }
+    }
+
     pub fn answer(&self, n: usize, bits: u32) -> (u32, Rows) {
         match table::first(&[(1, table::depth(bits)), (2, table::size(n))]) {
             0 => {
@@ -101,6 +113,48 @@ pub fn ask_substitute(t: &mut Tally, m: &Marked, n: usize, bits: u32) {
         Number(bits as u64),
     ];
     t.call("salvrunde_probe_substitute_refs", &args, Want::word(0, 0).then(answer_bytes(no, &[rows])));
+}
+
+/// Places that are there with their samples, no other; what stands elsewhere on the line and past it is any, past it flags too. The
+/// rows that are wanted are `line` on the line, and past it what stood there before.
+fn figure(t: &mut Tally, random: &mut Random, n: usize, there: &[(usize, u16)], line: impl Fn(usize) -> u16) {
+    let mut m = Marked::any(random);
+    (0..places(n)).for_each(|place| m.mark(n, place, false));
+    for &(place, sample) in there {
+        m.mark(n, place, true);
+        m.put(n, place, sample);
+    }
+    let mut wanted = m.clone();
+    (0..places(n)).for_each(|place| wanted.put(n, place, line(place)));
+    assert_eq!(m.answer(n, 8), (0, wanted.rows), "the Rust at side {n}");
+    ask_substitute(t, &m, n, 8);
+}
+
+/// The figures for rows that are filled where they stand: what is there lies behind all that is filled first.
+fn figures(t: &mut Tally, random: &mut Random) {
+    let above = |n: usize, i: usize| 2 * n + 2 + i;
+    figure(t, random, 4, &[(above(4, 3), 9)], |_| 9);
+    for n in SIZES {
+        let (left, last) = (2 * n, above(n, 2 * n));
+        for sample in [7, 0] {
+            figure(t, random, n, &[(last, sample)], |_| sample);
+            figure(t, random, n, &[(left, 5), (last, sample)], |place| if place == last { sample } else { 5 });
+            figure(t, random, n, &[(left, 0), (last, sample)], |place| if place == last { sample } else { 0 });
+        }
+    }
+}
+
+/// Every pattern of flags at side 4; the Rust takes them all. The samples differ from place to place, one in four is 0.
+fn every_pattern(t: &mut Tally, random: &mut Random) {
+    let n = 4;
+    for pattern in 0..1u32 << places(n) {
+        let mut m = Marked::any(random);
+        for place in 0..places(n) {
+            m.mark(n, place, pattern >> place & 1 == 1);
+            m.put(n, place, if random.below(4) == 0 { 0 } else { 100 + place as u16 });
+        }
+        ask_substitute(t, &m, n, random.pick(&DEPTHS));
+    }
 }
 
 pub fn substitution(t: &mut Tally) {
@@ -155,6 +209,8 @@ pub fn substitution(t: &mut Tally) {
             ask_substitute(t, &Marked::any(&mut random), n, bits);
         }
     }
+    figures(t, &mut random);
+    every_pattern(t, &mut random);
 }
 
 /// What the luma gather is given.

@@ -9,16 +9,14 @@ use native.Mathlib.Nat.{add-zero}
 use native.Mathlib.Numerals.{add-one}
 use native.Mathlib.Omega.{arith}
 use lib.Dec.{ltb}
-use lib.ListN.{getD, replicate, length-replicate}
+use lib.ListN.{getD}
 use borrow.Author.Tests.{lt-ltb, le-ltb, ltb-true, ltb-false, le-leb, lt-leb, eq-eqb, ne-eqb}
 use Rattle.laws.specs.Diff.{order}
-use Rattle.laws.specs.Fill.{fill}
-use Rattle.laws.specs.FillLaws.{fill-at, fill-same}
 use Rattle.h265.specs.Substitution.{firstMarked, settled}
 use Rattle.domain.specs.declared.rows.Rows.{Rows}
 use Rattle.refs.specs.declared.substitution.Flags.{Flags}
 use Rattle.domain.specs.rows.Neighbours.{levelRows}
-use Rattle.refs.specs.substitution.Substitution.{onLine, flagsOn, samplesOn, substituted}
+use Rattle.refs.specs.substitution.Substitution.{onLine, flagsOn, samplesOn, fromLine, substituted}
 
 -- the line of two lists and a corner
 abbrev pub lineOf : {A : Type 0} → A → List A → A → List A → ℕ → ℕ → A
@@ -71,36 +69,36 @@ first-skip marked p t h gone =
 pub first-end : (marked : ℕ → Bool) (p t : ℕ) → t ≤ p → firstMarked marked p (t - p) ≡ p
 first-end marked p t h = first-none marked p (t - p) (λ j a b. absurd (omega arith)) ∙ (omega arith)
 
--- what is carried to place p: before the first place what was found, then what the place before it has
+-- what is carried past k places: a place that is there hands on its own sample, a missing one what is carried to it
 unfoldable pub carriedTo : (ℕ → Bool) → (ℕ → ℕ) → ℕ → ℕ → ℕ
-carriedTo marked value found zero = value found
-carriedTo marked value found (suc k) = settled marked value found k
+carriedTo marked value start zero = start
+carriedTo marked value start (suc k) = cond (marked k) (value k) (carriedTo marked value start k)
 
-module _ (marked : ℕ → Bool) (value : ℕ → ℕ) (found : ℕ) where
-  pub carried-start : value found ≡ carriedTo marked value found 0
+module _ (marked : ℕ → Bool) (value : ℕ → ℕ) (start : ℕ) where
+  pub carried-start : start ≡ carriedTo marked value start 0
   unfolding carriedTo
   carried-start = refl
 
-  pub carried-on : (p : ℕ) → carriedTo marked value found (p + 1) ≡ settled marked value found p
+  pub carried-next : (p : ℕ) {carried next : ℕ} → carried ≡ carriedTo marked value start p → next ≡ cond (marked p) (value p) carried
+      → next ≡ carriedTo marked value start (p + 1)
   unfolding carriedTo
-  carried-on p = rw (add-one p)
+  carried-next p c e = e ∙ ap (cond (marked p) (value p)) c ∙ rw (add-one p)
 
-  -- past a place: its own sample where it is there, what is carried where it is not
-  carried-past : (p : ℕ) → cond (marked p) (value p) (carriedTo marked value found p) ≡ carriedTo marked value found (p + 1)
-  carried-past p = sym (carried-on p ∙ at p)
-    where
-      own : (b : Bool) → value (cond b 0 found) ≡ cond b (value 0) (value found)
-      own true = refl
-      own false = refl
+  pub carried-done : {p k carried : ℕ} → p ≤ k → k ≤ p → carried ≡ carriedTo marked value start p → carried
+      ≡ carriedTo marked value start k
+  carried-done {p} {k} a b c = let q : p ≡ k = omega arith in c ∙ ap (carriedTo marked value start) q
 
-      at : (k : ℕ) → settled marked value found k ≡ cond (marked k) (value k) (carriedTo marked value found k)
-      at zero = unfold settled in unfold carriedTo in own (marked 0)
-      at (suc k) = unfold settled in unfold carriedTo in refl
-
-  pub carried-next : (p : ℕ) {there : Bool} {v carried next : ℕ} → there ≡ marked p → v ≡ value p → carried
-      ≡ carriedTo marked value found p → next ≡ cond there v carried
-      → next ≡ carriedTo marked value found (p + 1)
-  carried-next p a b c e = e ∙ (λ i. cond (a i) (b i) (c i)) ∙ carried-past p
+-- a place has in the end what is carried past it, from the sample of the place that was found
+pub settled-is : (marked : ℕ → Bool) (value : ℕ → ℕ) (found k : ℕ) → carriedTo marked value (value found) (k + 1)
+    ≡ settled marked value found k
+unfolding carriedTo settled
+settled-is marked value found zero = own (marked 0)
+  where
+    own : (b : Bool) → cond b (value 0) (value found) ≡ value (cond b 0 found)
+    own true = refl
+    own false = refl
+settled-is marked value found (suc k) =
+    rw (add-one (suc k)) (ap (cond (marked (suc k)) (value (suc k))) (rw (add-one k) at (settled-is marked value found k)))
 
 -- what a search from the first place of the line finds where nothing is there
 pub found-none : (marked : ℕ → Bool) (m : ℕ) → ((j : ℕ) → j < m → marked j ≡ false) → firstMarked marked 0 m ≡ m
@@ -277,21 +275,7 @@ module _ (n neutral : ℕ) (flags : Flags) (rows : Rows) {found : ℕ}
   unfolding substituted
   none-there h = simp (← is-found, le-ltb found (2 * (2 * n) + 3) h)
 
-  pub put-back : {line above left : List ℕ} → n ≤ 32 → found < 2 * (2 * n) + 3
-      → line ≡ fill (settled (flagsOn flags (2 * n)) (samplesOn rows (2 * n)) found) (2 * (2 * n) + 3) (replicate 131 0)
-      → above ≡ fill (λ (i : ℕ). getD line (2 * n + 2 + i) 0) (2 * n + 1) (rows .above)
-      → left ≡ fill (λ (i : ℕ). getD line (2 * n - i) 0) (2 * n + 1) (rows .left)
-      → _≡_ {A = Rows} (record { corner = getD line (2 * n + 1) 0; above = above; left = left }) (substituted n neutral flags rows)
+  pub some-there : found < 2 * (2 * n) + 3 → fromLine (2 * n) (settled (flagsOn flags (2 * n)) (samplesOn rows (2 * n)) found) rows
+      ≡ substituted n neutral flags rows
   unfolding substituted
-  put-back {line} small h is-line is-above is-left =
-      simp (← is-found, lt-ltb found (2 * (2 * n) + 3) h)
-      (λ i.
-      record {
-        corner = at (2 * n + 1) (omega arith) i;
-        above = (is-above ∙ fill-same _ _ (2 * n + 1) (rows .above) (λ j l. at (2 * n + 2 + j) (omega arith))) i;
-        left = (is-left ∙ fill-same _ _ (2 * n + 1) (rows .left) (λ j l. at (2 * n - j) (omega arith))) i;
-      })
-    where
-      at : (p : ℕ) → p < 2 * (2 * n) + 3 → getD line p 0 ≡ settled (flagsOn flags (2 * n)) (samplesOn rows (2 * n)) found p
-      at p l = ap (λ (t : List ℕ). getD t p 0) is-line
-          ∙ fill-at _ (2 * (2 * n) + 3) (replicate 131 0) p 0 l (omega (arith, length-replicate {A = ℕ} 131 0))
+  some-there h = simp (← is-found, lt-ltb found (2 * (2 * n) + 3) h)

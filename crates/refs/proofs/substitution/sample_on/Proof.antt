@@ -8,8 +8,11 @@ use Rattle.refs.proofs.substitution.sample_on.Tie as tie
 mul-result : tie.Need-mul-result
 mul-result c = search needs
 
-element-copy-out-result : tie.Need-element-copy-out-result
-element-copy-out-result c = search needs
+index-1-result : tie.Need-index-1-result
+index-1-result c = search needs
+
+index-2-result : tie.Need-index-2-result
+index-2-result c = search needs
 
 returns : tie.Need-returns
 unfolding onLine
@@ -31,8 +34,11 @@ sub-result c = search needs
 mul-result-2 : tie.Need-mul-result-2
 mul-result-2 c = search needs
 
-element-copy-out-result-2 : tie.Need-element-copy-out-result-2
-element-copy-out-result-2 c = search needs
+index-1-result-2 : tie.Need-index-1-result-2
+index-1-result-2 c = search needs
+
+index-2-result-2 : tie.Need-index-2-result-2
+index-2-result-2 c = search needs
 
 returns-3 : tie.Need-returns-3
 unfolding onLine
@@ -43,12 +49,14 @@ sample-on-spec =
     tie.close
     (tie.spec
     mul-result
-    element-copy-out-result
+    index-1-result
+    index-2-result
     returns
     add-if2
     returns-2
     add-result
     sub-result
     mul-result-2
-    element-copy-out-result-2
+    index-1-result-2
+    index-2-result-2
     returns-3)

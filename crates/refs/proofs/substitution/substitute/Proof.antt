@@ -1,6 +1,6 @@
--- Substitution from its parts. Assumes nothing.
+-- The search, then the rows where they stand. Assumes nothing.
 use mathlib.Core.Path.{_∙_}
-use Rattle.refs.specs.substitution.Line.{none-there, put-back}
+use Rattle.refs.specs.substitution.Line.{none-there, some-there}
 use borrow.Author.Needs.{needs}
 use Rattle.refs.proofs.substitution.substitute.Statement.{statement}
 use Rattle.refs.proofs.substitution.substitute.Tie as tie
@@ -21,28 +21,26 @@ level-rows-requires : tie.Need-level-rows-requires
 level-rows-requires c κs = search needs
 
 returns : tie.Need-returns
-returns c = let a = c .before .before .before .before .before .before .before .before .before .args in c .level-rows .ensures ∙ none-there (a .n) (a .neutral) (a .flags) (a .rows) (c .before .before .first-marked .ensures) (c .before .if1 .taken)
+returns c =
+    let a = c .before .before .before .before .before .before .before .args in
+    let m = c .before .before .first-marked in
+    c .level-rows .ensures ∙ none-there (a .n) (a .neutral) (a .flags) (a .rows) (m .ensures) (c .before .if1 .taken)
 
 settle-requires : tie.Need-settle-requires
 settle-requires c κs = search needs
 
-add-t14 : tie.Need-add-t14
-add-t14 c = search needs
+array-copy-out-t23 : tie.Need-array-copy-out-t23
+array-copy-out-t23 c = search needs
 
-mul-t15 : tie.Need-mul-t15
-mul-t15 c = search needs
-
-array-read-t24 : tie.Need-array-read-t24
-array-read-t24 c = search needs
-
-above-of-requires : tie.Need-above-of-requires
-above-of-requires c κs = search needs
-
-left-of-requires : tie.Need-left-of-requires
-left-of-requires c κs = search needs
+array-copy-out-t26 : tie.Need-array-copy-out-t26
+array-copy-out-t26 c = search needs
 
 returns-2 : tie.Need-returns-2
-returns-2 c = let s = c .before .before .before .before .before .before .before .before .before .before .before .before .before .before .before .before .before in put-back (s .args .n) (s .args .neutral) (s .args .flags) (s .args .rows) (c .before .before .before .before .before .before .before .before .before .before .first-marked .ensures) (s .pre) (c .before .before .before .before .before .before .before .before .before .if1 .left) (c .before .before .before .before .settle .ensures) (c .before .before .above-of .ensures) (c .left-of .ensures)
+returns-2 c =
+    let t = c .before .before .before .before .before .before .before .before in
+    let a = t .before .before .before .before .before .before .args in
+    c .before .before .settle .ensures
+    ∙ some-there (a .n) (a .neutral) (a .flags) (a .rows) (t .before .first-marked .ensures) (t .if1 .left)
 
 pub substitute-spec : {M : Type 1} → statement M
 substitute-spec =
@@ -55,9 +53,6 @@ substitute-spec =
     level-rows-requires
     returns
     settle-requires
-    add-t14
-    mul-t15
-    array-read-t24
-    above-of-requires
-    left-of-requires
+    array-copy-out-t23
+    array-copy-out-t26
     returns-2)
