@@ -14,7 +14,7 @@ use Rattle.laws.specs.Bytes.{byteOf}
 use Rattle.bytes.specs.Bytes.{samplesOf}
 use Rattle.bytes.specs.pairs.Into.{readInto, storeInto}
 use Rattle.bytes.specs.pairs.Laws.{read-done, store-done}
-use Rattle.domain.specs.Facts.{size-small}
+use Rattle.domain.specs.Facts.{Size, size-small}
 use Rattle.h265.specs.Notation.{fromRows}
 use Rattle.h265.specs.Planar.{planar}
 use Rattle.h265.specs.Dc.{dc, dcVal}
@@ -30,6 +30,10 @@ pub record SampleRoom (n above left pred : ℕ) : Type 0 where
   pub above-long : 2 * n ≤ above
   pub left-long : 2 * n ≤ left
   pub block-long : n * n ≤ pred
+
+-- rows of 64 entries are long enough at every side
+pub sample-room : {n above left pred : ℕ} → Size n → 64 ≤ above → 64 ≤ left → n * n ≤ pred → SampleRoom n above left pred
+sample-room {n} s a l p = let m = size-small n s in record { above-long = omega arith; left-long = omega arith; block-long = p }
 
 -- the doors serve them, angular prediction with tables as long as the scratch's
 module _ {bits n mode a l p : ℕ} (b : Predictable bits n mode) (h : SampleRoom n a l p) where

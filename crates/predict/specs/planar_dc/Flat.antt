@@ -29,14 +29,16 @@ ready n a l p e =
     let u = both-true (leb (predictorRow n) a && leb (predictorRow n) l) (leb (n * n) p) (t .0) in
     let v = both-true (leb (predictorRow n) a) (leb (predictorRow n) l) (u .0) in
     let size = size-of n (s .0) in
-    let small = size-small n size in
-    (record {
-      size = size;
-      some = small .0;
-      most = small .1;
-      above = leb-true (predictorRow n) a (v .0);
-      left = leb-true (predictorRow n) l (v .1);
-    }, leb-true (n * n) p (u .1))
+    let small = size-small n size in (
+      record {
+        size = size;
+        some = small .0;
+        most = small .1;
+        above = leb-true (predictorRow n) a (v .0);
+        left = leb-true (predictorRow n) l (v .1);
+      },
+      leb-true (n * n) p (u .1),
+    )
 
 -- the first row is within the block
 pub wide : (n p : ℕ) → 0 < n → n * n ≤ p → n ≤ p
