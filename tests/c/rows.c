@@ -1,6 +1,7 @@
 /* Rows of exactly 2n entries, every side and mode: the doors at native types and the byte entries, with every buffer flush against a
- * page that may not be touched, behind it and then before it, so that one entry too many ends the program. The block is that of the same
- * rows made longer. One entry, or one byte, too few beside a row that is long, and rows of none, are refused with 5 and nothing is written. */
+ * page that may not be touched, behind it and then before it, so that one entry too many ends the program. The block is that of the
+ * same rows made longer. One entry, or one byte, too few beside a row that is long, and rows of none, are refused with 5, and nothing
+ * is written. */
 #define _DEFAULT_SOURCE
 #include <stdint.h>
 #include <stdio.h>
@@ -45,18 +46,21 @@ static uint8_t *page_between(size_t page) {
 /* Where a buffer of so many bytes lies: at the page's end or at its start. */
 static uint8_t *flush(uint8_t *page_at, size_t page, size_t bytes, int at_end) { return at_end ? page_at + page - bytes : page_at; }
 
+/* Such a buffer of samples; it begins at an even address. */
+static uint16_t *words(uint8_t *at) { return (uint16_t *)(void *)at; }
+
 /* A call: n, mode, edge, depth and corner; `chroma` asks for the chroma block, else the mode says which door. */
 struct call { uint32_t n, mode, edge, bits; uint16_t corner; int chroma; };
 
 static uint32_t door(struct call c, const uint16_t *a, size_t up, const uint16_t *l, size_t side, uint16_t *pred, size_t room) {
     calls++;
     if (c.chroma)
-        return salvrunde_probe_predict_chroma_tb_slices((uint8_t)c.mode, c.corner, a, up, l, side, c.n, c.bits, pred, room, refs, REFS, indices,
-            TABLE, fractions, TABLE);
+        return salvrunde_probe_predict_chroma_tb_slices((uint8_t)c.mode, c.corner, a, up, l, side, c.n, c.bits, pred, room, refs, REFS,
+            indices, TABLE, fractions, TABLE);
     if (c.mode == 0) return salvrunde_probe_predict_planar_into(a, up, l, side, c.n, pred, room);
     if (c.mode == 1) return salvrunde_probe_predict_dc_into(a, up, l, side, c.n, c.edge != 0, pred, room);
-    return salvrunde_probe_predict_angular_slices(c.corner, a, up, l, side, c.n, (uint8_t)c.mode, c.edge != 0, c.bits, pred, room, refs, REFS,
-        indices, TABLE, fractions, TABLE);
+    return salvrunde_probe_predict_angular_slices(c.corner, a, up, l, side, c.n, (uint8_t)c.mode, c.edge != 0, c.bits, pred, room, refs,
+        REFS, indices, TABLE, fractions, TABLE);
 }
 
 static uint32_t entry(struct call c, const uint8_t *a, size_t up, const uint8_t *l, size_t side, uint8_t *out, size_t room) {
@@ -88,9 +92,9 @@ static void served(struct call c, uint8_t *const pages[3], size_t page, int at_e
     memcpy(a, above, row), memcpy(l, left, row);
     memset(o, DIRT, room);
     hold(door(c, above, 65, left, 65, longer, 1024) == 0, c, "rows of 65 entries are served");
-    hold(door(c, (uint16_t *)(void *)a, 2 * c.n, (uint16_t *)(void *)l, 2 * c.n, (uint16_t *)(void *)o, room / 2) == 0, c, "rows of 2n entries are served");
+    hold(door(c, words(a), 2 * c.n, words(l), 2 * c.n, words(o), room / 2) == 0, c, "rows of 2n entries are served");
     hold(!memcmp(o, longer, room), c, "the block of rows of 2n entries is that of longer ones");
-    /* on bytes, where this processor has the lower byte first */
+    /* on bytes, the lower first, whatever this processor has */
     for (size_t i = 0; i < row / 2; i++) {
         a[2 * i] = (uint8_t)(above[i] & 255), a[2 * i + 1] = (uint8_t)(above[i] >> 8);
         l[2 * i] = (uint8_t)(left[i] & 255), l[2 * i + 1] = (uint8_t)(left[i] >> 8);
@@ -102,13 +106,14 @@ static void served(struct call c, uint8_t *const pages[3], size_t page, int at_e
 
 /* Rows that are too short: each in turn, the other one long, and both of none. */
 static void refused(struct call c, uint8_t *const pages[3], size_t page) {
-    size_t row = SALVRUNDE_ROW_BYTES(c.n), room = SALVRUNDE_BLOCK_BYTES(c.n), lengths[][2] = {{row - 2, 400}, {400, row - 2}, {0, 0}, {0, 400}, {400, 0}};
+    size_t row = SALVRUNDE_ROW_BYTES(c.n), room = SALVRUNDE_BLOCK_BYTES(c.n);
+    size_t lengths[][2] = {{row - 2, 400}, {400, row - 2}, {0, 0}, {0, 400}, {400, 0}};
     uint8_t *o = flush(pages[2], page, room, 1);
     memset(o, DIRT, room);
     for (size_t i = 0; i < sizeof lengths / sizeof *lengths; i++) {
         size_t up = lengths[i][0], side = lengths[i][1];
         uint8_t *a = flush(pages[0], page, up, 1), *l = flush(pages[1], page, side, 1);
-        hold(door(c, (uint16_t *)(void *)a, up / 2, (uint16_t *)(void *)l, side / 2, (uint16_t *)(void *)o, room / 2) == 5, c, "a row under 2n entries is 5");
+        hold(door(c, words(a), up / 2, words(l), side / 2, words(o), room / 2) == 5, c, "a row under 2n entries is 5");
         hold(entry(c, a, up, l, side, o, room) == SALVRUNDE_BUFFER, c, "a row under 4n bytes is 5");
     }
     for (int left = 0; left < 2; left++) {

@@ -114,7 +114,8 @@ module _ (n : ℕ) (size : Size n) where
 
 -- the entries of the predictors
 module _ (n : ℕ) (above left d : List ℕ) (a : AreBytes above) (l : AreBytes left) {number : ℕ} {out : List ℕ} where
-  pub planar-spelt : wrote number out ≡ planarEntry n above left d → number ≡ 0 → Holds n (planar n (neighboursIn 0 above left)) (samplesOf out)
+  pub planar-spelt : wrote number out ≡ planarEntry n above left d → number ≡ 0
+      → Holds n (planar n (neighboursIn 0 above left)) (samplesOf out)
   unfolding planarEntry
   planar-spelt met zero =
       let w = done _ _ d met zero in
