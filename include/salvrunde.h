@@ -42,12 +42,13 @@ enum {
     SALVRUNDE_YUV444 = 3
 };
 
-/* Bytes of reference rows: the corner, 65 samples above from left to right, 65 samples left from top to bottom. */
+/* Bytes of reference rows: the corner, 65 samples above from left to right, 65 samples left from top to bottom, so that above begins at
+ * byte 2 and left at byte 132. */
 #define SALVRUNDE_REFS_BYTES 262
 /* Bytes of those of Cb and then those of Cr. */
 #define SALVRUNDE_PAIR_BYTES 524
-/* Least bytes of one row that a block is predicted from. */
-#define SALVRUNDE_ROW_BYTES 130
+/* Least bytes of one row that a block of side n is predicted from: 2n samples. What a row has beyond them reaches no sample. */
+#define SALVRUNDE_ROW_BYTES(n) (4 * (n))
 /* Bytes of a block's record in a plan: row and column, two bytes each, the lower first, then side and mode, one byte each. */
 #define SALVRUNDE_RECORD_BYTES 6
 /* Bytes of the replay's result: the block's list number and the next progress record, four bytes each, the lowest first. */
@@ -69,7 +70,7 @@ uint32_t salvrunde_chroma_refs(uint32_t bits, uint32_t format, uint32_t luma_wid
                                uint32_t col, uint32_t n, uint32_t cur_luma_row, uint32_t cur_luma_col, const uint8_t *cb, size_t cb_bytes,
                                const uint8_t *cr, size_t cr_bytes, uint8_t *out, size_t out_bytes);
 
-/* Prediction: above and left have at least SALVRUNDE_ROW_BYTES each; out has at least SALVRUNDE_BLOCK_BYTES(n), which are written, the
+/* Prediction: above and left have at least SALVRUNDE_ROW_BYTES(n) each; out has at least SALVRUNDE_BLOCK_BYTES(n), which are written, the
  * block's samples row by row. edge: not 0 where edges are to be filtered, as for luma; a block of side 32 has no filtered edge.
  * Rows are taken as they are: no entry smooths them. A luma block is predicted from smoothed rows where H.265 8.4.4.2.3 says so (never for
  * DC or n = 4), and smoothing is the caller's: rows of salvrunde_luma_refs handed on as they are give another block than the replay

@@ -125,16 +125,21 @@ static uint32_t prediction_no(int depth, int mode, uint32_t n, const struct lent
     if (!depth) return 1;
     if (!side_ok(n)) return 2;
     if (!mode) return 3;
-    if (a->length < 130 || l->length < 130 || o->length < 2 * (size_t)n * n) return 5;
+    if (a->length < 4 * (size_t)n || l->length < 4 * (size_t)n || o->length < 2 * (size_t)n * n) return 5;
     return 0;
 }
+
+/* Bytes of a row: about as many as the side asks, 4n, or as a gather's row has, or more. */
+enum { MOST_ROW = 700 };
+static size_t some_row(uint32_t n) { return chance(3) ? about(SALVRUNDE_ROW_BYTES(side_ok(n) ? n : 16)) : about(chance(3) ? 130 : 400); }
 
 static void predictions(void) {
     uint32_t n = some_side(), which = chance(4), bits = some_bits(), edge = chance(3) * chance(300), no, wanted;
     uint32_t mode = chance(12) ? chance(35) : chance(2) ? 35 + chance(40) : 256 + chance(35);
-    uint16_t corner = (uint16_t)chance(65536), above[65], left[65], pred[1024];
+    uint16_t corner = (uint16_t)chance(65536), above[MOST_ROW], left[MOST_ROW], pred[1024];
     uint8_t bytes[2048];
-    struct lent a = lend(about(130)), l = lend(about(130)), o = lend(about(side_ok(n) ? 2 * (size_t)n * n : 512));
+    struct lent a = lend(some_row(n)), l = lend(some_row(n)), o = lend(about(side_ok(n) ? 2 * (size_t)n * n : 512));
+    size_t up = a.length / 2, side = l.length / 2;
     const char *entry;
     switch (which) {
     case 0:
@@ -160,16 +165,17 @@ static void predictions(void) {
     calls++;
     if (no != wanted) fail(entry, "number", no, wanted);
     if (no == 0) {
-        for (int i = 0; i < 65; i++) above[i] = sample(&a, i), left[i] = sample(&l, i);
+        for (size_t i = 0; i < up; i++) above[i] = sample(&a, i);
+        for (size_t i = 0; i < side; i++) left[i] = sample(&l, i);
         switch (which) {
-        case 0: wanted = salvrunde_probe_predict_planar_into(above, 65, left, 65, n, pred, 1024); break;
-        case 1: wanted = salvrunde_probe_predict_dc_into(above, 65, left, 65, n, edge != 0, pred, 1024); break;
+        case 0: wanted = salvrunde_probe_predict_planar_into(above, up, left, side, n, pred, 1024); break;
+        case 1: wanted = salvrunde_probe_predict_dc_into(above, up, left, side, n, edge != 0, pred, 1024); break;
         case 2:
-            wanted = salvrunde_probe_predict_angular_slices(corner, above, 65, left, 65, n, (uint8_t)mode, edge != 0, bits, pred, 1024,
+            wanted = salvrunde_probe_predict_angular_slices(corner, above, up, left, side, n, (uint8_t)mode, edge != 0, bits, pred, 1024,
                 refs, REFS, indices, TABLE, fractions, TABLE);
             break;
         default:
-            wanted = salvrunde_probe_predict_chroma_tb_slices((uint8_t)mode, corner, above, 65, left, 65, n, bits, pred, 1024, refs, REFS,
+            wanted = salvrunde_probe_predict_chroma_tb_slices((uint8_t)mode, corner, above, up, left, side, n, bits, pred, 1024, refs, REFS,
                 indices, TABLE, fractions, TABLE);
         }
         if (wanted != 0) fail(entry, "number of the door", no, wanted);

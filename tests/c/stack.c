@@ -10,7 +10,7 @@ typedef unsigned long word;
 
 enum { WIDTH = 64, HEIGHT = 64, SAMPLES = WIDTH * HEIGHT, DEEP = 64 * 1024, PAINT = 0xA5 };
 
-static uint8_t plane[2 * SAMPLES], other[2 * SAMPLES], residuals[4 * SAMPLES], rows[524], above[130], left[130], block[2048], result[8];
+static uint8_t plane[2 * SAMPLES], other[2 * SAMPLES], residuals[4 * SAMPLES], rows[524], above[128], left[128], block[2048], result[8];
 static uint8_t plan[6 * 256];
 
 static long system_call(long number, long a, long b, long c) {
@@ -38,10 +38,12 @@ static uint32_t luma(void) { return salvrunde_luma_refs(8, WIDTH, HEIGHT, 64, 4,
 static uint32_t chroma(void) {
     return salvrunde_chroma_refs(8, 3, WIDTH, HEIGHT, 4, 32, 32, side, 32, 32, plane, sizeof plane, other, sizeof other, rows, sizeof rows);
 }
-static uint32_t planar(void) { return salvrunde_planar(side, above, 130, left, 130, block, sizeof block); }
-static uint32_t dc(void) { return salvrunde_dc(side, 1, above, 130, left, 130, block, sizeof block); }
-static uint32_t angular(void) { return salvrunde_angular(8, side, mode, 1, 7, above, 130, left, 130, block, sizeof block); }
-static uint32_t chroma_block(void) { return salvrunde_chroma_block(8, side, mode, 7, above, 130, left, 130, block, sizeof block); }
+/* rows are as short as they may be */
+#define ROW SALVRUNDE_ROW_BYTES(side)
+static uint32_t planar(void) { return salvrunde_planar(side, above, ROW, left, ROW, block, sizeof block); }
+static uint32_t dc(void) { return salvrunde_dc(side, 1, above, ROW, left, ROW, block, sizeof block); }
+static uint32_t angular(void) { return salvrunde_angular(8, side, mode, 1, 7, above, ROW, left, ROW, block, sizeof block); }
+static uint32_t chroma_block(void) { return salvrunde_chroma_block(8, side, mode, 7, above, ROW, left, ROW, block, sizeof block); }
 static uint32_t replay(void) {
     uint32_t count = WIDTH / side * (HEIGHT / side);
     return salvrunde_replay(0, 8, WIDTH, HEIGHT, 64, count, plan, 6 * count, residuals, sizeof residuals, plane, sizeof plane, result,

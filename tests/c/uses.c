@@ -19,7 +19,7 @@ static void fill(uint8_t *bytes, size_t samples, uint32_t value) {
 #define HOLDS(test) do { if (!(test)) return __LINE__; } while (0)
 
 int main(void) {
-    const uint8_t *above = refs + 2, *left = refs + 2 + SALVRUNDE_ROW_BYTES;
+    const uint8_t *above = refs + 2, *left = refs + 2 + 2 * 65; /* as salvrunde_luma_refs lays them */
     fill(plane, 256, 1000), fill(cb, 64, 300), fill(cr, 64, 700);
     fill(refs, 132, 9), fill(pair, 263, 9);
 
@@ -36,13 +36,17 @@ int main(void) {
     HOLDS(salvrunde_chroma_refs(10, 4, 16, 16, 4, 4, 4, 4, 8, 8, cb, sizeof cb, cr, sizeof cr, pair, sizeof pair) == SALVRUNDE_PICTURE);
 
     /* prediction from rows that are all 1000 */
-    HOLDS(salvrunde_planar(8, above, SALVRUNDE_ROW_BYTES, left, SALVRUNDE_ROW_BYTES, block, sizeof block) == SALVRUNDE_DONE && sample(block, 63) == 1000);
-    HOLDS(salvrunde_dc(8, 1, above, SALVRUNDE_ROW_BYTES, left, SALVRUNDE_ROW_BYTES, block, sizeof block) == SALVRUNDE_DONE && sample(block, 0) == 1000);
-    HOLDS(salvrunde_angular(10, 8, 26, 1, 1000, above, SALVRUNDE_ROW_BYTES, left, SALVRUNDE_ROW_BYTES, block, sizeof block) == SALVRUNDE_DONE);
+    HOLDS(salvrunde_planar(8, above, SALVRUNDE_ROW_BYTES(8), left, SALVRUNDE_ROW_BYTES(8), block, sizeof block) == SALVRUNDE_DONE && sample(block, 63) == 1000);
+    HOLDS(salvrunde_dc(8, 1, above, SALVRUNDE_ROW_BYTES(8), left, SALVRUNDE_ROW_BYTES(8), block, sizeof block) == SALVRUNDE_DONE && sample(block, 0) == 1000);
+    HOLDS(salvrunde_angular(10, 8, 26, 1, 1000, above, SALVRUNDE_ROW_BYTES(8), left, SALVRUNDE_ROW_BYTES(8), block, sizeof block) == SALVRUNDE_DONE);
     HOLDS(sample(block, 0) == 1000);
-    HOLDS(salvrunde_angular(10, 8, 258, 1, 1000, above, SALVRUNDE_ROW_BYTES, left, SALVRUNDE_ROW_BYTES, block, sizeof block) == SALVRUNDE_MODE);
-    HOLDS(salvrunde_chroma_block(10, 8, 1, 1000, above, SALVRUNDE_ROW_BYTES, left, SALVRUNDE_ROW_BYTES, block, sizeof block) == SALVRUNDE_DONE);
-    HOLDS(salvrunde_chroma_block(10, 8, 1, 1000, above, SALVRUNDE_ROW_BYTES - 1, left, SALVRUNDE_ROW_BYTES, block, sizeof block) == SALVRUNDE_BUFFER);
+    HOLDS(salvrunde_angular(10, 8, 258, 1, 1000, above, SALVRUNDE_ROW_BYTES(8), left, SALVRUNDE_ROW_BYTES(8), block, sizeof block) == SALVRUNDE_MODE);
+    HOLDS(salvrunde_chroma_block(10, 8, 1, 1000, above, SALVRUNDE_ROW_BYTES(8), left, SALVRUNDE_ROW_BYTES(8), block, sizeof block) == SALVRUNDE_DONE);
+    HOLDS(salvrunde_chroma_block(10, 8, 1, 1000, above, SALVRUNDE_ROW_BYTES(8) - 1, left, 130, block, sizeof block) == SALVRUNDE_BUFFER);
+    HOLDS(salvrunde_chroma_block(10, 8, 1, 1000, above, 130, left, SALVRUNDE_ROW_BYTES(8) - 1, block, sizeof block) == SALVRUNDE_BUFFER);
+    HOLDS(salvrunde_planar(32, above, SALVRUNDE_ROW_BYTES(32), left, 130, block, sizeof block) == SALVRUNDE_DONE);
+    HOLDS(salvrunde_planar(32, above, SALVRUNDE_ROW_BYTES(16), left, 130, block, sizeof block) == SALVRUNDE_BUFFER);
+    HOLDS(salvrunde_dc(4, 0, above, 0, left, 0, block, sizeof block) == SALVRUNDE_BUFFER);
 
     /* replay: two blocks of 8 by 8, one call each, then a plan that is not whole records and a record past the last block */
     {

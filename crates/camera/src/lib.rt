@@ -90,7 +90,7 @@ pub extern "C" fn salvrunde_chroma_refs(
     gather::store_reference_samples_chroma_pair(cb, cr, geo, out)
 }
 
-// The planar block of side n, in rows, in the first 2 · n · n bytes of `out`; each row has at least 130 bytes. Numbers 2, 5.
+// The planar block of side n, in rows, in the first 2 · n · n bytes of `out`; each row has at least 4 · n bytes. Numbers 2, 5.
 #[no_mangle]
 pub extern "C" fn salvrunde_planar(n: u32, above: &[u8], left: &[u8], out: &mut [u8]) -> u32
     ensures { λ r. ⌜ wrote r (now (out .exit)) ≡ planarEntry n (now (above .entry)) (now (left .entry)) (now (out

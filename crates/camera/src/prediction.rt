@@ -25,7 +25,8 @@ fn has_room(n: usize, above: usize, left: usize, out: usize) -> bool
     requires { ⌜ Size n ⌝ }
     ensures { λ r. ⌜ r ≡ hasRoom n above left out ⌝ }
 {
-    (above >= 130) & (left >= 130) & (out >= 2 * (n * n))
+    let row = 4 * n;
+    (above >= row) & (left >= row) & (out >= 2 * (n * n))
 }
 
 // The number of planar or DC.
@@ -145,14 +146,14 @@ fn rows_block(
     left: &[u8],
     pred: &mut [u16],
 )
-    requires { ⌜ Predictable bits n mode × ((130 ≤ length (now above)) × ((130 ≤ length (now left))
+    requires { ⌜ Predictable bits n mode × ((4 * n ≤ length (now above)) × ((4 * n ≤ length (now left))
         × (n * n ≤ length (now pred)))) ⌝ }
     ensures { λ _. ⌜ now (pred .exit) ≡ block
         (λ (y x : ℕ). byMode bits edge edge n mode (neighboursIn corner (now (above .entry)) (now (left .entry))) x y)
         n (now (pred .entry)) ⌝ }
 {
-    let mut a = [0u16; 65];
-    let mut l = [0u16; 65];
+    let mut a = [0u16; 64];
+    let mut l = [0u16; 64];
     read_row(above, n, &mut a);
     read_row(left, n, &mut l);
     mode_block(bits, n, mode, edge, corner, &a, &l, &mut *pred);
@@ -198,7 +199,7 @@ fn predict_bytes(
     }
 }
 
-// The planar block of side n, in rows, in the first 2 · n · n bytes of `out`; each row has at least 130 bytes. Numbers 2, 5.
+// The planar block of side n, in rows, in the first 2 · n · n bytes of `out`; each row has at least 4 · n bytes. Numbers 2, 5.
 // No depth plays a part.
 pub(crate) fn planar(n: u32, above: &[u8], left: &[u8], out: &mut [u8]) -> u32
     ensures { λ r. ⌜ wrote r (now (out .exit))

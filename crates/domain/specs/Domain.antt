@@ -1,5 +1,5 @@
 -- Document 01, 'Numbers and domain': each rule as a test. Assumes nothing.
-use Prim.Native.Nat.{ℕ, _%_}
+use Prim.Native.Nat.{ℕ, _*_, _%_}
 use mathlib.Core.Bool.{Bool, _&&_, _||_}
 use lib.Dec.{leb, eqb}
 
@@ -27,9 +27,10 @@ ctuOk ctu = eqb ctu 16 || eqb ctu 32 || eqb ctu 64
 abbrev pub unitOk : ℕ → Bool
 unitOk unit = eqb unit 4 || eqb unit 8
 
--- least entries of a reference row, at a predictor for side n and at the smoothing functions
+-- least entries of a reference row at a predictor for side n: those that prediction reads, 0 .. 2n - 1
 abbrev pub predictorRow : ℕ → ℕ
-predictorRow n = 65
+predictorRow n = 2 * n
 
+-- and at the smoothing functions, at every side
 abbrev pub smoothingRow : ℕ
 smoothingRow = 65

@@ -7,9 +7,10 @@ ghost use Rattle.predict.specs.refusals.Refusals.{lengths, isEnough, fla
 
 // The least entries of a reference row.
 fn predictor_row(n: usize) -> usize
+    requires { ⌜ Size n ⌝ }
     ensures { λ r. ⌜ r ≡ predictorRow n ⌝ }
 {
-    65
+    2 * n
 }
 
 // Planar and DC: the number of a call whose rows have a and l entries and whose block buffer has p.
@@ -39,8 +40,9 @@ fn is_enough(
     requires { ⌜ Size n ⌝ }
     ensures { λ r. ⌜ r ≡ isEnough n (lengths above left pred refs indices fractions) ⌝ }
 {
-    (above >= 65)
-        & (left >= 65)
+    let row = predictor_row(n);
+    (above >= row)
+        & (left >= row)
         & (pred >= n * n)
         & (refs >= 193)
         & (indices >= 32)

@@ -1,10 +1,12 @@
 //! A chroma block against the Rust's predict_chroma_tb_into, and a luma block against its parts: should_filter_refs,
 //! filter_luma_refs and the three predictors with edges filtered, put together as H.265 8.4.4.2.1 does (assembled.rs).
-//! Outside document 01's domain the Rust is not asked: what is wanted there is the table's number and nothing written.
+//! A chroma block is the standard's too (clauses.rs); rows of it under 65 entries are lengthened before the Rust is asked.
+//! Outside the domain of documents 01 and 02 it is not asked: what is wanted there is the table's number and nothing written.
 use crate::assembled;
 use crate::entries;
 use crate::host::Arg::{Lent, Number, Read};
 use crate::oracle::intra::{self, AngularScratch};
+use crate::predict::{is_standard, lengthened};
 use crate::random::Random;
 use crate::samples::{DEPTHS, KINDS, SIZES, any, at_least, bytes, bytes_32, dirt, dirt_32, largest, samples};
 use crate::table;
@@ -28,7 +30,8 @@ pub struct Block {
 
 impl Block {
     fn number(&self, tables: bool) -> u32 {
-        let lent = table::rows(self.above.len(), self.left.len()) && table::block(self.n, self.pred.len()) && tables;
+        let rows = table::predictor_rows(self.n, self.above.len(), self.left.len());
+        let lent = rows && table::block(self.n, self.pred.len()) && tables;
         table::first(&[(1, table::depth(self.bits)), (2, table::size(self.n)), (3, table::mode(self.mode)), (5, lent)])
     }
 
@@ -38,13 +41,14 @@ impl Block {
         if no == 0 && self.luma {
             assembled::predict(self.mode, self.bits, (self.corner, &self.above, &self.left), self.n, &mut pred, scratch);
         } else if no == 0 {
-            let (above, left, top) = (&self.above, &self.left, largest(self.bits) as i32);
-            intra::predict_chroma_tb_into(self.mode, self.corner, above, left, self.n, top, &mut pred, scratch);
+            let (above, left, top) = (lengthened(&self.above), lengthened(&self.left), largest(self.bits) as i32);
+            intra::predict_chroma_tb_into(self.mode, self.corner, &above, &left, self.n, top, &mut pred, scratch);
+            is_standard(&pred, self.mode, false, self.bits, (self.corner, &self.above, &self.left), self.n);
         }
         (no, pred)
     }
 
-    fn any(luma: bool, n: usize, mode: u8, bits: u32, kinds: [u64; 2], random: &mut Random) -> Block {
+    pub fn any(luma: bool, n: usize, mode: u8, bits: u32, kinds: [u64; 2], random: &mut Random) -> Block {
         let word = random.word() as u16;
         let row = |kind, random: &mut Random| {
             let entries = if luma { 65 } else { at_least(65, random) };
@@ -86,7 +90,7 @@ impl Block {
     }
 }
 
-fn ask(t: &mut Tally, call: &Block, scratch: &mut AngularScratch, random: &mut Random) {
+pub fn ask(t: &mut Tally, call: &Block, scratch: &mut AngularScratch, random: &mut Random) {
     let (no, after) = call.answer(table::scratch(call.refs, call.indices, call.fractions), scratch);
     let (up, side, pred) = (bytes(&call.above), bytes(&call.left), bytes(&call.pred));
     let refs = bytes(&dirt(call.refs, random));
@@ -151,8 +155,14 @@ const FAULTS: &[fn(&mut Block)] = &[
     |c| c.fractions = 0,
 ];
 
-const ROW_FAULTS: &[fn(&mut Block)] =
-    &[|c| c.above.truncate(64), |c| c.left.truncate(64), |c| c.above.clear(), |c| c.left.clear()];
+const ROW_FAULTS: &[fn(&mut Block)] = &[
+    |c| c.above.truncate(16),
+    |c| c.left.truncate(16),
+    |c| c.above.truncate(15),
+    |c| c.left.truncate(15),
+    |c| c.above.clear(),
+    |c| c.left.clear(),
+];
 
 fn run(t: &mut Tally, luma: bool, seed: u64) {
     let mut random = Random::new(seed);

@@ -32,7 +32,8 @@ pub fn prediction(t: &mut Tally) {
         assert_eq!(rust_angular(0, &above, &left, 4, mode), rust_angular(0, &above, &left, 4, 10));
         angular(t, rows(65, 4), mode, 3);
     }
-    // modes 11 and 25 at n = 4: the Rust fetches entry 15 of the side row and does not use it, so 15 entries are too few for it
+    // modes 11 and 25 at n = 4: the Rust fetches entry 15 of the side row and does not use it, so 15 entries are too few for it;
+    // the port takes 8
     for mode in [11, 25] {
         let (above, left) = (vec![10; 16], (0..16).collect::<Vec<u16>>());
         let (mut other_above, mut other_left) = (above.clone(), left.clone());
@@ -41,10 +42,9 @@ pub fn prediction(t: &mut Tally) {
         assert!(panics(|| {
             rust_angular(0, &above[..15], &left[..15], 4, mode);
         }));
-        angular(t, rows(15, 4), mode, 5);
-        angular(t, rows(16, 4), mode, 5);
-        angular(t, rows(64, 4), mode, 5);
-        angular(t, rows(65, 4), mode, 0);
+        for (entries, want) in [(7, 5), (8, 0), (15, 0), (16, 0), (64, 0), (65, 0)] {
+            angular(t, rows(entries, 4), mode, want);
+        }
     }
     // a side that is none: the Rust panics
     for n in [0, 5, 64] {

@@ -232,7 +232,7 @@ pub fn write() {
             }
         }
     }
-    list += &comment("2 to 6: a row that is too short, alone and with other faults");
+    list += &comment("2 to 6: fewer entries on the left, too few for smoothing, alone and with other faults");
     for kind in 2..=6 {
         for (n, mode, bits, entries) in [
             (4, 2, 8, 64),
@@ -277,6 +277,17 @@ pub fn write() {
     }
     for (n, mode, bits, entries) in [(4, 0, 8, 64), (32, 34, 12, 0), (4, 1, 8, 9), (5, 2, 8, 64), (4, 35, 8, 64), (4, 2, 9, 64)] {
         list += &Call { kind: 9, n, mode, edge: false, bits, seed: seed(), top: 65535, entries }.lines(&[0]);
+    }
+    list += &comment("4 to 6 and 9: 2n entries on the left, which are enough, and one fewer; the Rust's row was lengthened");
+    for n in [4, 8, 16, 32] {
+        for entries in [2 * n, 2 * n - 1] {
+            for (kind, modes) in [(4, &[0][..]), (5, &[0]), (6, &[2, 10, 11, 18, 25, 26, 34]), (9, &[0, 1, 3, 11, 25, 33])] {
+                for &mode in modes {
+                    let call = Call { kind, n, mode, edge: true, bits: 10, seed: seed(), top: 65535, entries };
+                    list += &call.lines(places(n));
+                }
+            }
+        }
     }
     let strong = (0..65537)
         .map(|seed| Call { kind: 10, n: 32, mode: 2, edge: false, bits: 12, seed, top: 255, entries: 65 })

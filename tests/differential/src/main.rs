@@ -8,6 +8,7 @@
 //! to SUBJECTS, and add the entries that it calls to entries.txt.
 mod assembled;
 mod block;
+mod clauses;
 mod differences;
 mod entries;
 mod fmt;
@@ -22,6 +23,7 @@ mod predict;
 mod random;
 mod refs;
 mod residual;
+mod rows;
 mod samples;
 mod smooth;
 mod standard;
@@ -55,6 +57,7 @@ const SUBJECTS: &[(&str, Subject)] = &[
     ("smoothing", smooth::smoothing),
     ("planar and DC", predict::planar_dc),
     ("angular", predict::angular),
+    ("shorter rows", rows::shorter),
     ("residual", residual::residual),
     ("reconstruction", residual::reconstruction),
     ("differences in prediction", differences::prediction),

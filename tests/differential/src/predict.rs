@@ -1,5 +1,7 @@
-//! Planar, DC and angular prediction against the Rust's predict_planar_into, predict_dc_into and predict_angular_into.
-//! Outside document 01's domain the Rust is not asked: what is wanted there is the table's number and nothing written.
+//! Planar, DC and angular prediction against the Rust's predict_planar_into, predict_dc_into and predict_angular_into, and against
+//! the standard's wording (clauses.rs). Rows under 65 entries, on some of which the Rust panics, are lengthened before it is asked.
+//! Outside the domain of documents 01 and 02 it is not asked: what is wanted there is the table's number and nothing written.
+use crate::clauses::Neighbours;
 use crate::entries;
 use crate::host::Arg::{Lent, Number, Read};
 use crate::oracle::intra::{self, AngularScratch};
@@ -16,17 +18,33 @@ pub struct Flat {
     pub pred: Vec<u16>,
 }
 
+/// A row as the Rust is given it: one under 65 entries goes on with other samples, which are to reach nothing.
+pub fn lengthened(row: &[u16]) -> Vec<u16> {
+    let more = (row.len()..65).map(|i| 0xdead ^ (i as u16) << 7);
+    row.iter().copied().chain(more).collect()
+}
+
+/// The block that the Rust made is to be the standard's, from entries 0 to 2n - 1 alone.
+pub fn is_standard(after: &[u16], mode: u8, edge: bool, bits: u32, (corner, above, left): (u16, &[u16], &[u16]), n: usize) {
+    let standard = Neighbours { corner, above, left, n: n as i32 }.block(mode, edge, bits);
+    assert_eq!(after[..n * n], standard, "the standard's block of side {n} in mode {mode}");
+}
+
 impl Flat {
+    fn long(&self) -> bool {
+        table::predictor_rows(self.n, self.above.len(), self.left.len()) && table::block(self.n, self.pred.len())
+    }
+
     fn number(&self) -> u32 {
-        let long = table::rows(self.above.len(), self.left.len()) && table::block(self.n, self.pred.len());
-        table::first(&[(2, table::size(self.n)), (5, long)])
+        table::first(&[(2, table::size(self.n)), (5, self.long())])
     }
 
     /// The number, and the block's buffer afterwards.
     pub fn planar(&self) -> (u32, Vec<u16>) {
         let (no, mut after) = (self.number(), self.pred.clone());
         if no == 0 {
-            intra::predict_planar_into(&self.above, &self.left, self.n, &mut after);
+            intra::predict_planar_into(&lengthened(&self.above), &lengthened(&self.left), self.n, &mut after);
+            is_standard(&after, 0, false, 8, (0, &self.above, &self.left), self.n);
         }
         (no, after)
     }
@@ -34,14 +52,15 @@ impl Flat {
     pub fn dc(&self, edge: bool) -> (u32, Vec<u16>) {
         let (no, mut after) = (self.number(), self.pred.clone());
         if no == 0 {
-            intra::predict_dc_into(&self.above, &self.left, self.n, edge, &mut after);
+            intra::predict_dc_into(&lengthened(&self.above), &lengthened(&self.left), self.n, edge, &mut after);
+            is_standard(&after, 1, edge, 8, (0, &self.above, &self.left), self.n);
         }
         (no, after)
     }
 }
 
 /// Planar, and DC with its edge smoothed and not.
-fn ask_flat(t: &mut Tally, call: &Flat) {
+pub fn ask_flat(t: &mut Tally, call: &Flat) {
     let (up, side, pred) = (bytes(&call.above), bytes(&call.left), bytes(&call.pred));
     let (rows, lent) = (
         [Read(&up), Number(call.above.len() as u64), Read(&side), Number(call.left.len() as u64), Number(call.n as u64)],
@@ -92,8 +111,9 @@ pub fn planar_dc(t: &mut Tally) {
     ask_flat(t, &call);
     // every fault, alone and with every other
     for n in SIDES {
-        for up in [65, 64, 0] {
-            for side in [65, 64, 0] {
+        let least = if table::size(n) { 2 * n } else { 64 };
+        for up in [65, least, least - 1, 0] {
+            for side in [65, least, least - 1, 0] {
                 for room in lengths(n) {
                     let pred = dirt(room, &mut random);
                     ask_flat(t, &Flat { above: any(up, &mut random), left: any(side, &mut random), n, pred });
@@ -122,9 +142,8 @@ impl Angular {
     }
 
     fn number(&self, tables: bool) -> u32 {
-        let Flat { above, left, n, pred } = &self.rows;
-        let lent = table::rows(above.len(), left.len()) && table::block(*n, pred.len()) && tables;
-        table::first(&[(1, table::depth(self.bits)), (2, table::size(*n)), (3, table::angular(self.mode)), (5, lent)])
+        let (n, lent) = (self.rows.n, self.rows.long() && tables);
+        table::first(&[(1, table::depth(self.bits)), (2, table::size(n)), (3, table::angular(self.mode)), (5, lent)])
     }
 
     /// The number, and the block's buffer afterwards. The Rust's scratch is what its earlier calls left.
@@ -137,8 +156,9 @@ impl Angular {
         let Flat { above, left, n, pred } = &self.rows;
         let (no, mut after) = (self.number(tables), pred.clone());
         if no == 0 {
-            let top = largest(self.bits) as i32;
-            intra::predict_angular_into(self.corner, above, left, *n, self.mode, self.edge, top, &mut after, scratch);
+            let (top, up, side) = (largest(self.bits) as i32, lengthened(above), lengthened(left));
+            intra::predict_angular_into(self.corner, &up, &side, *n, self.mode, self.edge, top, &mut after, scratch);
+            is_standard(&after, self.mode, self.edge, self.bits, (self.corner, above, left), *n);
         }
         (no, after)
     }
@@ -209,7 +229,8 @@ pub fn angular(t: &mut Tally) {
     for bits in [8, 12, 9, 264] {
         for n in [4, 16, 0, 5, 64, usize::MAX] {
             for mode in [2, 10, 26, 34, 0, 1, 35, 255] {
-                for (up, side) in [(65, 65), (64, 65), (65, 64), (0, 0)] {
+                let least = if table::size(n) { 2 * n } else { 64 };
+                for (up, side) in [(65, 65), (least, 65), (65, least), (least - 1, 65), (65, least - 1), (0, 0)] {
                     for room in &lengths(n)[..3] {
                         for (refs, indices, fractions) in
                             [(193, 32, 32), (192, 32, 32), (193, 31, 32), (193, 32, 31), (192, 31, 31), (0, 0, 0)]

@@ -65,9 +65,14 @@ pub fn angular(mode: u8) -> bool {
     (2..=34).contains(&mode)
 }
 
-/// Number 5 of reference rows with so many entries.
+/// Number 5 of reference rows with so many entries, at the smoothing functions.
 pub fn rows(above: usize, left: usize) -> bool {
     above >= 65 && left >= 65
+}
+
+/// The same at the predictors (document 02, Wish 11). A side that is none is refused before.
+pub fn predictor_rows(n: usize, above: usize, left: usize) -> bool {
+    n.checked_mul(2).is_some_and(|least| above >= least && left >= least)
 }
 
 /// Number 5 of a block buffer. A side that is none has no such number, and is refused before.

@@ -14,7 +14,7 @@ use Rattle.laws.specs.Bytes.{byteOf}
 use Rattle.bytes.specs.Bytes.{samplesOf}
 use Rattle.bytes.specs.pairs.Into.{readInto, storeInto}
 use Rattle.bytes.specs.pairs.Laws.{read-done, store-done}
-use Rattle.domain.specs.Facts.{size-small}
+use Rattle.domain.specs.Facts.{Size, size-small}
 use Rattle.h265.specs.Notation.{fromRows}
 use Rattle.h265.specs.Planar.{planar}
 use Rattle.h265.specs.Dc.{dc, dcVal}
@@ -23,19 +23,23 @@ use Rattle.predict.specs.Lent.{withScratch}
 use Rattle.predict.specs.modes.Modes.{byMode, by-mode-alone}
 use Rattle.predict.specs.by_mode.Door.{Predictable, side, highest}
 use Rattle.predict.specs.Contents.{chromaAt, chroma-plain}
-use Rattle.camera.specs.prediction.Entries.{rowIn, neighboursIn, blockIn, planarIn, dcIn, angularIn, chromaIn}
+use Rattle.camera.specs.prediction.Entries.{neighboursIn, blockIn, planarIn, dcIn, angularIn, chromaIn}
 
--- rows of 65 entries and room for the block, in samples
+-- rows of 2n entries and room for the block, in samples
 pub record SampleRoom (n above left pred : ℕ) : Type 0 where
-  pub above-long : 65 ≤ above
-  pub left-long : 65 ≤ left
+  pub above-long : 2 * n ≤ above
+  pub left-long : 2 * n ≤ left
   pub block-long : n * n ≤ pred
+
+-- rows of 64 entries are long enough at every side
+pub sample-room : {n above left pred : ℕ} → Size n → 64 ≤ above → 64 ≤ left → n * n ≤ pred → SampleRoom n above left pred
+sample-room {n} s a l p = let m = size-small n s in record { above-long = omega arith; left-long = omega arith; block-long = p }
 
 -- the doors serve them, angular prediction with tables as long as the scratch's
 module _ {bits n mode a l p : ℕ} (b : Predictable bits n mode) (h : SampleRoom n a l p) where
   pub flat-serves : flatNo n a l p ≡ 0
   unfolding flatNo
-  flat-serves = rw (b .size, le-leb 65 a (h .above-long), le-leb 65 l (h .left-long), le-leb (n * n) p (h .block-long))
+  flat-serves = rw (b .size, le-leb (2 * n) a (h .above-long), le-leb (2 * n) l (h .left-long), le-leb (n * n) p (h .block-long))
 
   pub angular-serves : 2 ≤ mode → angularNo bits n mode (withScratch a l p) ≡ 0
   angular-serves low =
@@ -43,10 +47,9 @@ module _ {bits n mode a l p : ℕ} (b : Predictable bits n mode) (h : SampleRoom
         b .depth,
         b .size,
         both-same (le-leb 2 mode low) (b .inside),
-        le-leb 65 a (h .above-long),
-        le-leb 65 l (h .left-long),
-        le-leb
-            (n * n) p (h .block-long),
+        le-leb (2 * n) a (h .above-long),
+        le-leb (2 * n) l (h .left-long),
+        le-leb (n * n) p (h .block-long),
       )
 
 -- what a call with number 0 left behind is its work
@@ -67,18 +70,17 @@ stored g n k p d e few hp hd {pred} {out} made put =
     (ap (λ (m : List ℕ). getD m (j / 2) 0) made ∙ fill-at (λ i. g (i / n) (i % n)) (n * n) p (j / 2) 0 (omega arith) (omega arith)))
 
 -- a row as it was read, and as the definitions have it, as far as a side reads
-alike : (n : ℕ) (b : List ℕ) → n ≤ 32 → 130 ≤ length b → {a : List ℕ} → a ≡ readInto n b (replicate 65 0) → (i : ℕ) → i < 2 * n
-    → getD a i 0 ≡ getD (rowIn b) i 0
+alike : (n : ℕ) (b : List ℕ) → n ≤ 32 → 4 * n ≤ length b → {a : List ℕ} → a ≡ readInto n b (replicate 64 0) → (i : ℕ) → i < 2 * n
+    → getD a i 0 ≡ getD (samplesOf b) i 0
 alike n b most long e i h =
-    let q = length-replicate {A = ℕ} 65 0 in
-    ap (λ (l : List ℕ). getD l i 0) (e ∙ read-done n b (replicate 65 0) most (omega arith) (omega arith))
-    ∙ fill-at (λ j. getD (samplesOf b) j 0) (2 * n) (replicate 65 0) i 0 h (omega arith)
-    ∙ sym (fill-at (λ j. getD (samplesOf b) j 0) 65 (replicate 65 0) i 0 (omega arith) (omega arith))
+    let q = length-replicate {A = ℕ} 64 0 in
+    ap (λ (l : List ℕ). getD l i 0) (e ∙ read-done n b (replicate 64 0) most long (omega arith))
+    ∙ fill-at (λ j. getD (samplesOf b) j 0) (2 * n) (replicate 64 0) i 0 h (omega arith)
 
 -- a block made of rows that were read is the one of the rows in bytes
-pub read-block : (bits n mode corner : ℕ) (edge : Bool) (above left p : List ℕ) → Predictable bits n mode → 130 ≤ length above
-    → 130 ≤ length left
-    → {a l : List ℕ} → a ≡ readInto n above (replicate 65 0) → l ≡ readInto n left (replicate 65 0)
+pub read-block : (bits n mode corner : ℕ) (edge : Bool) (above left p : List ℕ) → Predictable bits n mode → 4 * n ≤ length above
+    → 4 * n ≤ length left
+    → {a l : List ℕ} → a ≡ readInto n above (replicate 64 0) → l ≡ readInto n left (replicate 64 0)
     → block (λ (y x : ℕ). byMode bits edge edge n mode (fromRows corner a l) x y) n p
     ≡ block (λ (y x : ℕ). byMode bits edge edge n mode (neighboursIn corner above left) x y) n p
 read-block bits n mode corner edge above left p b ha hl ea el =

@@ -6,21 +6,24 @@ use native.Mathlib.Omega.{arith}
 use lib.Dec.{leb}
 use borrow.Author.Tests.{leb-true}
 use Rattle.laws.specs.Choose.{passed, both-true}
-use Rattle.domain.specs.Domain.{depthOk, sizeOk, modeOk}
+use Rattle.domain.specs.Domain.{depthOk, sizeOk, modeOk, predictorRow}
 use Rattle.predict.specs.by_mode.Door.{Predictable}
 use Rattle.camera.specs.prediction.Entries.{hasRoom, flatEntryNo, modeEntryNo}
 
 -- rows and a buffer that are long enough, in bytes
 pub record HasRoom (n above left out : ℕ) : Type 0 where
-  pub above-long : 130 ≤ above
-  pub left-long : 130 ≤ left
+  pub above-long : 4 * n ≤ above
+  pub left-long : 4 * n ≤ left
   pub block-long : 2 * (n * n) ≤ out
 
 fit : (n above left out : ℕ) → hasRoom n above left out ≡ true → HasRoom n above left out
 fit n above left out e =
-    let a = both-true (leb 130 above && leb 130 left) (leb (2 * (n * n)) out) e in
-    let b = both-true (leb 130 above) (leb 130 left) (a .0) in
-    record { above-long = leb-true 130 above (b .0); left-long = leb-true 130 left (b .1); block-long = leb-true (2 * (n * n)) out (a .1) }
+    let row = 2 * predictorRow n in
+    let a = both-true (leb row above && leb row left) (leb (2 * (n * n)) out) e in
+    let b = both-true (leb row above) (leb row left) (a .0) in
+    let ha = leb-true row above (b .0) in
+    let hl = leb-true row left (b .1) in
+    record { above-long = omega arith; left-long = omega arith; block-long = leb-true (2 * (n * n)) out (a .1) }
 
 -- planar and DC, at any depth and mode: they take neither
 pub flat-fit : (n above left out : ℕ) → flatEntryNo n above left out ≡ 0 → (bits mode : ℕ) → depthOk bits ≡ true → modeOk mode ≡ true

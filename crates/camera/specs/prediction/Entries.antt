@@ -4,7 +4,7 @@ use Prim.Native.Nat.{ℕ, _*_, _/_, _%_}
 use mathlib.Core.Bool.{Bool, not, _&&_}
 use mathlib.Core.List.{List, [], _∷_}
 use lib.Dec.{leb, eqb}
-use lib.ListN.{length, getD, replicate}
+use lib.ListN.{length}
 use Rattle.laws.specs.Choose.{_unless_, firstFail}
 use Rattle.laws.specs.Fill.{fill}
 use Rattle.laws.specs.Bytes.{byteOf}
@@ -19,12 +19,9 @@ use Rattle.h265.specs.Prediction.{predSamples}
 use Rattle.predict.specs.Contents.{chromaAt}
 use Rattle.camera.specs.Written.{Written, entry}
 
--- Rows of 65 samples, a block of n · n in rows; what is beyond is neither read nor written.
-abbrev pub rowIn : List ℕ → List ℕ
-rowIn b = fill (λ i. getD (samplesOf b) i 0) 65 (replicate 65 0)
-
+-- the neighbours in a corner and two rows of bytes
 abbrev pub neighboursIn : ℕ → List ℕ → List ℕ → Neighbours
-neighboursIn corner above left = fromRows corner (rowIn above) (rowIn left)
+neighboursIn corner above left = fromRows corner (samplesOf above) (samplesOf left)
 
 -- a buffer after a block was written into it; g is the sample in a row and a column
 unfoldable pub blockIn : (ℕ → ℕ → ℕ) → ℕ → List ℕ → List ℕ

@@ -6,6 +6,7 @@ use native.Mathlib.Omega.{arith}
 use lib.ListN.{length}
 use Rattle.laws.specs.Fill.{block}
 use Rattle.laws.specs.Choose.{worked, unserved}
+use Rattle.domain.specs.Facts.{size-small}
 use Rattle.domain.specs.declared.rows.Rows.{Rows}
 use Rattle.domain.specs.rows.Neighbours.{neighboursOf}
 use Rattle.predict.specs.refusals.Refusals.{Lengths, lengths}
@@ -40,6 +41,7 @@ by-mode-requires c κs =
     let used = c .before .before .before .before .before .before .prepared-rows .result in
     let up : length (used .above) ≡ 65 = search needs in
     let down : length (used .left) ≡ 65 = search needs in
+    let small = size-small _ (side (g .block)) in
     record { block = g .block; above-long = omega arith; left-long = omega arith; room = g .room; refs-long = g .refs-long }
 
 same-length : tie.Need-same-length

@@ -7,7 +7,7 @@ use lib.Dec.{leb}
 use borrow.Author.Tests.{leb-true}
 use Rattle.laws.specs.Choose.{passed, both-true}
 use Rattle.domain.specs.Domain.{depthOk, sizeOk, modeOk, predictorRow}
-use Rattle.domain.specs.Facts.{Depth, Size, at-size, depth-of, size-of, size-small}
+use Rattle.domain.specs.Facts.{Depth, Size, depth-of, size-of, size-small}
 use Rattle.predict.specs.refusals.Refusals.{Lengths, isEnough, angularNo}
 
 -- what a call that is served has
@@ -20,11 +20,6 @@ pub record Fit (bits n mode : ℕ) (l : Lengths) : Type 0 where
   pub left : 2 * n ≤ l .left
   pub room : n * n ≤ l .pred
   pub refs : 65 + n ≤ l .refs
-
--- a row that is long enough has the 2n entries that prediction reads
-long : (n k : ℕ) → Size n → predictorRow n ≤ k → 2 * n ≤ k
-long n k s = at-size (λ (m : ℕ). predictorRow m ≤ k → 2 * m ≤ k) (λ h. omega arith) (λ h. omega arith) (λ h. omega arith)
-    (λ h. omega arith) n s
 
 pub fit : (bits n mode : ℕ) (l : Lengths) → angularNo bits n mode l ≡ 0 → Fit bits n mode l
 fit bits n mode l e =
@@ -45,8 +40,8 @@ fit bits n mode l e =
       size = size;
       low = leb-true 2 mode (m .0);
       high = omega arith;
-      above = long n (l .above) size (leb-true _ _ (f .0));
-      left = long n (l .left) size (leb-true _ _ (f .1));
+      above = leb-true _ _ (f .0);
+      left = leb-true _ _ (f .1);
       room = leb-true _ _ (d .1);
       refs = let h : 193 ≤ l .refs = leb-true _ _ (c .1) in omega (arith, size-small n size);
     }

@@ -27,8 +27,8 @@ module _ {bits n mode : ℕ} (b : Predictable bits n mode) where
 -- and what it is lent: two rows, the block's buffer and the references of the scratch
 pub record ModeReady (bits n mode above left pred refs : ℕ) : Type 0 where
   pub block : Predictable bits n mode
-  pub above-long : 65 ≤ above
-  pub left-long : 65 ≤ left
+  pub above-long : 2 * n ≤ above
+  pub left-long : 2 * n ≤ left
   pub room : n * n ≤ pred
   pub refs-long : 193 ≤ refs
 
@@ -55,16 +55,12 @@ module _ {bits n mode above left pred refs : ℕ} (g : ModeReady bits n mode abo
   pub flat-ready : FlatReady n above left × (n * n ≤ pred)
   flat-ready =
       let h = size-small n (side (g .block)) in
-      let a = g .above-long in
-      let l = g .left-long in
-      (record { size = side (g .block); some = h .0; most = h .1; above = omega arith; left = omega arith }, g .room)
+      (record { size = side (g .block); some = h .0; most = h .1; above = g .above-long; left = g .left-long }, g .room)
 
   pub angular-ready : 2 ≤ mode
       → Depth bits × (Size n × ((2 ≤ mode) × ((mode < 35) × ((2 * n ≤ above) × ((2 * n ≤ left) × ((n * n ≤ pred) × (65 + n ≤ refs)))))))
   angular-ready low =
       let h = size-small n (side (g .block)) in
       let top = highest (g .block) in
-      let a = g .above-long in
-      let l = g .left-long in
       let r = g .refs-long in
-      (depth-of bits (g .block .depth), (side (g .block), (low, (omega arith, (omega arith, (omega arith, (g .room, omega arith)))))))
+      (depth-of bits (g .block .depth), (side (g .block), (low, (omega arith, (g .above-long, (g .left-long, (g .room, omega arith)))))))

@@ -9,7 +9,7 @@ use borrow.Author.Tests.{leb-true}
 use Rattle.laws.specs.Choose.{passed, both-true}
 use Rattle.laws.specs.Weigh.{row-room}
 use Rattle.domain.specs.Domain.{sizeOk, predictorRow}
-use Rattle.domain.specs.Facts.{Size, size-of, size-small, at-size}
+use Rattle.domain.specs.Facts.{Size, size-of, size-small}
 use Rattle.predict.specs.refusals.Refusals.{flatNo}
 
 -- what the loops ask of the side and the rows: planar reads entries 0 .. n, DC less
@@ -20,9 +20,6 @@ pub record FlatReady (n a l : ℕ) : Type 0 where
   pub above : 2 * n ≤ a
   pub left : 2 * n ≤ l
 
-row-enough : (n : ℕ) → Size n → 2 * n ≤ predictorRow n
-row-enough n s = at-size (λ (m : ℕ). 2 * m ≤ predictorRow m) (omega arith) (omega arith) (omega arith) (omega arith) n s
-
 -- a call that is not refused
 pub ready : (n a l p : ℕ) → flatNo n a l p ≡ 0 → FlatReady n a l × (n * n ≤ p)
 unfolding flatNo
@@ -32,11 +29,16 @@ ready n a l p e =
     let u = both-true (leb (predictorRow n) a && leb (predictorRow n) l) (leb (n * n) p) (t .0) in
     let v = both-true (leb (predictorRow n) a) (leb (predictorRow n) l) (u .0) in
     let size = size-of n (s .0) in
-    let small = size-small n size in
-    let least = row-enough n size in
-    let ha = leb-true (predictorRow n) a (v .0) in
-    let hl = leb-true (predictorRow n) l (v .1) in
-    (record { size = size; some = small .0; most = small .1; above = omega arith; left = omega arith }, leb-true (n * n) p (u .1))
+    let small = size-small n size in (
+      record {
+        size = size;
+        some = small .0;
+        most = small .1;
+        above = leb-true (predictorRow n) a (v .0);
+        left = leb-true (predictorRow n) l (v .1);
+      },
+      leb-true (n * n) p (u .1),
+    )
 
 -- the first row is within the block
 pub wide : (n p : ℕ) → 0 < n → n * n ≤ p → n ≤ p

@@ -1,5 +1,5 @@
 -- What the bytes that the camera's entries leave spell: the standard's samples, where what is lent as bytes is bytes. Rests on what the
--- entries write, on the clauses reading entries 0 .. 2n - 1 alone, and on their staying in range.
+-- entries write and on the clauses staying in range.
 use mathlib.Core.Path.{_≡_, refl, sym, ap, ap₂, _∙_}
 use mathlib.Core.Bool.{Bool, true, false, cond, not}
 use mathlib.Core.List.{List}
@@ -16,8 +16,7 @@ use Rattle.laws.specs.FillLaws.{length-fill, fill-none, fill-at, fill-run}
 use Rattle.laws.specs.Bytes.{byteOf}
 use Rattle.bytes.specs.Bytes.{samplesOf}
 use Rattle.bytes.specs.Laws.{AreBytes, samples-below, sample-at, two-bytes}
-use Rattle.h265.specs.Notation.{Neighbours, fromRows}
-use Rattle.h265.specs.Setting.{firstEditionStrong}
+use Rattle.h265.specs.Notation.{Neighbours}
 use Rattle.h265.specs.Substitution.{firstMarked, settled}
 use Rattle.h265.specs.Planar.{planar}
 use Rattle.h265.specs.Dc.{dc}
@@ -36,16 +35,15 @@ use Rattle.refs.specs.Gather.{gatheredBy}
 use Rattle.refs.specs.Door.{lumaNo, lumaRows}
 use Rattle.refs.specs.standard.Standard.{luma-standard}
 use Rattle.predict.specs.by_mode.Door.{side, highest}
-use Rattle.predict.specs.modes.Flat.{planar-alone, planar-between, dc-alone, dc-between}
-use Rattle.predict.specs.modes.Angular.{angular-alone}
-use Rattle.predict.specs.modes.Modes.{pred-alone, pred-between}
+use Rattle.predict.specs.modes.Flat.{planar-between, dc-between}
+use Rattle.predict.specs.modes.Modes.{pred-between}
 use Rattle.predict.specs.Contents.{chromaAt, chroma-plain}
 use Rattle.camera.specs.Written.{Written, wrote, entry}
 use Rattle.camera.specs.gather.Line.{inLine, rowsAt}
 use Rattle.camera.specs.gather.Entry.{lumaEntryNo, lumaEntry}
 use Rattle.camera.specs.gather.Room.{luma-entry-no, luma-entry-fine}
 use Rattle.camera.specs.gather.Spelt.{luma-spelt-fine}
-use Rattle.camera.specs.prediction.Entries.{rowIn, neighboursIn, blockIn, planarEntry, dcEntry, angularMode, angularEntry, chromaBlockEntry}
+use Rattle.camera.specs.prediction.Entries.{neighboursIn, blockIn, planarEntry, dcEntry, angularMode, angularEntry, chromaBlockEntry}
 use Rattle.camera.specs.prediction.Checks.{flat-fit, mode-fit}
 use Rattle.promises.specs.demand3.Range.{Most, neighbours-most, under, over, angular-most}
 use Rattle.promises.specs.demand2.Demand2.{Holds, fromOneLine, planeSample, standardNeighbours, chromaSamples}
@@ -70,27 +68,13 @@ module _ (f : ℕ → ℕ) (k : ℕ) (d : List ℕ) (room : 2 * k ≤ length d) 
       (byte-is (2 * j) 0 (omega arith) (omega arith) (omega arith) ∙ ap (λ (v : ℕ). v % 256) (div-one (f j)))
       (byte-is (2 * j + 1) 1 (omega arith) (omega arith) (omega arith)))
 
--- the neighbours that bytes spell
-abbrev spelt : ℕ → List ℕ → List ℕ → Neighbours
-spelt corner above left = fromRows corner (samplesOf above) (samplesOf left)
-
--- a row as an entry reads it, as far as prediction reads
-alike : (b : List ℕ) (i : ℕ) → i < 65 → getD (rowIn b) i 0 ≡ getD (samplesOf b) i 0
-alike b i h = fill-at (λ j. getD (samplesOf b) j 0) 65 (replicate 65 0) i 0 h (omega (arith, length-replicate {A = ℕ} 65 0))
-
--- a clause that reads the corner and entries 0 .. 2n - 1 alone, and that gives samples of samples
-record Plain (n : ℕ) (clause : Neighbours → ℕ → ℕ → ℕ) : Type 0 where
-  alone : (x y : ℕ) → x < n → y < n → (a b : Neighbours) → Agree n a b → clause a x y ≡ clause b x y
-  most : (x y : ℕ) → x < n → y < n → (nb : Neighbours) → Most 65535 nb → clause nb x y ≤ 65535
+-- a clause that gives samples of samples
+abbrev Plain : ℕ → (Neighbours → ℕ → ℕ → ℕ) → Type 0
+Plain n clause = (x y : ℕ) → x < n → y < n → (nb : Neighbours) → Most 65535 nb → clause nb x y ≤ 65535
 
 -- the block that an entry writes
-module _ (n corner : ℕ) (above left : List ℕ) (size : Size n) (sample : corner < 65536) (a : AreBytes above) (l : AreBytes left) where
-  read : Agree n (neighboursIn corner above left) (spelt corner above left)
-  read =
-      let h = size-small n size in
-      record { corner = refl; above = λ i q. alike above i (omega arith); left = λ i q. alike left i (omega arith) }
-
-  in-range : Most 65535 (spelt corner above left)
+module _ (n corner : ℕ) (above left : List ℕ) (sample : corner < 65536) (a : AreBytes above) (l : AreBytes left) where
+  in-range : Most 65535 (neighboursIn corner above left)
   in-range = record {
     corner = omega arith;
     above = λ i. let h = samples-below above a i in omega arith;
@@ -101,85 +85,74 @@ module _ (n corner : ℕ) (above left : List ℕ) (size : Size n) (sample : corn
     abbrev inRow : ℕ → ℕ → ℕ
     inRow y x = clause (neighboursIn corner above left) x y
 
-    block-spelt : {out : List ℕ} → out ≡ blockIn inRow n d → Holds n (clause (spelt corner above left)) (samplesOf out)
+    block-spelt : {out : List ℕ} → out ≡ blockIn inRow n d → Holds n (clause (neighboursIn corner above left)) (samplesOf out)
     unfolding blockIn
     block-spelt wrote x y hx hy =
         let j = y * n + x in
-        let at = ap₂ inRow (digits-div y hx) (digits-mod y hx) ∙ c .alone x y hx hy _ _ read in
+        let at = ap₂ inRow (digits-div y hx) (digits-mod y hx) in
         ap (λ (b : List ℕ). getD (samplesOf b) j 0) wrote
-        ∙ stored-at (λ i. inRow (i / n) (i % n)) (n * n) d room j (digits-lt hy hx) (rw at (c .most x y hx hy _ in-range))
+        ∙ stored-at (λ i. inRow (i / n) (i % n)) (n * n) d room j (digits-lt hy hx) (rw at (c x y hx hy _ in-range))
         ∙ at
 
 -- the clauses, each of which is such
 module _ (n : ℕ) (size : Size n) where
   planar-plain : Plain n (planar n)
-  planar-plain = record {
-    alone = λ x y hx hy a b e. planar-alone n x y size hx hy a b (e .above) (e .left);
-    most = λ x y hx hy nb m. planar-between n x y size hx hy 0 65535 nb (over 65535 n nb) (under 65535 nb m n) .1;
-  }
+  planar-plain x y hx hy nb m = planar-between n x y size hx hy 0 65535 nb (over 65535 n nb) (under 65535 nb m n) .1
 
   dc-plain : (edge : Bool) → Plain n (dc edge n)
-  dc-plain edge = record {
-    alone = λ x y hx hy a b e. dc-alone n x y size hx hy a b (e .above) (e .left) edge;
-    most = λ x y hx hy nb m. dc-between n x y size hx hy 0 65535 nb (over 65535 n nb) (under 65535 nb m n) edge .1;
-  }
+  dc-plain edge x y hx hy nb m = dc-between n x y size hx hy 0 65535 nb (over 65535 n nb) (under 65535 nb m n) edge .1
 
   angular-plain : (bits : ℕ) (edge : Bool) (mode : ℕ) → Depth bits → mode ≤ 34 → Plain n (angular bits edge n mode)
-  angular-plain bits edge mode depth known = record {
-    alone = λ x y hx hy a b e. angular-alone n mode size (omega arith) bits edge x y hx hy a b e;
-    most = λ x y hx hy nb m.
-        angular-most 65535 bits edge n mode x y nb size known hx hy
-        (at-depth (λ (k : ℕ). 2 ^ k - 1 ≤ 65535) (omega arith) (omega arith) (omega arith) bits depth) m;
-  }
+  angular-plain bits edge mode depth known x y hx hy nb m =
+      angular-most 65535 bits edge n mode x y nb size known hx hy
+      (at-depth (λ (k : ℕ). 2 ^ k - 1 ≤ 65535) (omega arith) (omega arith) (omega arith) bits depth) m
 
   chroma-block-plain : (bits mode : ℕ) → mode ≤ 34 → Plain n (chromaSamples bits n mode)
-  chroma-block-plain bits mode known = record {
-    alone = λ x y hx hy a b e. pred-alone (chromaAt bits) firstEditionStrong n mode x y a b size known hx hy e;
-    most = λ x y hx hy nb m.
-        rw (chroma-plain (chromaAt bits) true n mode nb x y refl refl)
-        (pred-between bits n mode x y 0 65535 nb size known hx hy (over 65535 n nb) (under 65535 nb m n) .1);
-  }
+  chroma-block-plain bits mode known x y hx hy nb m =
+      rw (chroma-plain (chromaAt bits) true n mode nb x y refl refl)
+      (pred-between bits n mode x y 0 65535 nb size known hx hy (over 65535 n nb) (under 65535 nb m n) .1)
 
 -- the entries of the predictors
 module _ (n : ℕ) (above left d : List ℕ) (a : AreBytes above) (l : AreBytes left) {number : ℕ} {out : List ℕ} where
-  pub planar-spelt : wrote number out ≡ planarEntry n above left d → number ≡ 0 → Holds n (planar n (spelt 0 above left)) (samplesOf out)
+  pub planar-spelt : wrote number out ≡ planarEntry n above left d → number ≡ 0
+      → Holds n (planar n (neighboursIn 0 above left)) (samplesOf out)
   unfolding planarEntry
   planar-spelt met zero =
       let w = done _ _ d met zero in
       let f = flat-fit n _ _ _ (w .0) 8 0 refl refl in
       let s = side (f .0) in
-      block-spelt n 0 above left s (omega arith) a l (planar n) (planar-plain n s) d (f .1 .block-long) (w .1)
+      block-spelt n 0 above left (omega arith) a l (planar n) (planar-plain n s) d (f .1 .block-long) (w .1)
 
   pub dc-spelt : (edge : ℕ) → wrote number out ≡ dcEntry n edge above left d → number ≡ 0
-      → Holds n (dc (not (eqb edge 0)) n (spelt 0 above left)) (samplesOf out)
+      → Holds n (dc (not (eqb edge 0)) n (neighboursIn 0 above left)) (samplesOf out)
   unfolding dcEntry
   dc-spelt edge met zero =
       let w = done _ _ d met zero in
       let f = flat-fit n _ _ _ (w .0) 8 0 refl refl in
       let s = side (f .0) in
       let e = not (eqb edge 0) in
-      block-spelt n 0 above left s (omega arith) a l (dc e n) (dc-plain n s e) d (f .1 .block-long) (w .1)
+      block-spelt n 0 above left (omega arith) a l (dc e n) (dc-plain n s e) d (f .1 .block-long) (w .1)
 
   module _ (bits mode corner : ℕ) (c : corner < 65536) where
     pub angular-spelt : (edge : ℕ) → wrote number out ≡ angularEntry bits n mode edge corner above left d → number ≡ 0
-        → Holds n (angular bits (not (eqb edge 0)) n mode (spelt corner above left)) (samplesOf out)
+        → Holds n (angular bits (not (eqb edge 0)) n mode (neighboursIn corner above left)) (samplesOf out)
     unfolding angularEntry
     angular-spelt edge met zero =
         let w = done _ _ d met zero in
         let f = mode-fit bits n mode _ _ _ (angularMode mode) (λ t. both-true (leb 2 mode) (modeOk mode) t .1) (w .0) in
         let s = side (f .0) in
         let e = not (eqb edge 0) in
-        block-spelt n corner above left s c a l (angular bits e n mode)
+        block-spelt n corner above left c a l (angular bits e n mode)
         (angular-plain n s bits e mode (depth-of bits (f .0 .depth)) (highest (f .0))) d (f .1 .0 .block-long) (w .1)
 
     pub chroma-spelt : wrote number out ≡ chromaBlockEntry bits n mode corner above left d → number ≡ 0
-        → Holds n (chromaSamples bits n mode (spelt corner above left)) (samplesOf out)
+        → Holds n (chromaSamples bits n mode (neighboursIn corner above left)) (samplesOf out)
     unfolding chromaBlockEntry
     chroma-spelt met zero =
         let w = done _ _ d met zero in
         let f = mode-fit bits n mode _ _ _ (modeOk mode) (λ t. t) (w .0) in
         let s = side (f .0) in
-        block-spelt n corner above left s c a l (chromaSamples bits n mode) (chroma-block-plain n s bits mode (highest (f .0))) d
+        block-spelt n corner above left c a l (chromaSamples bits n mode) (chroma-block-plain n s bits mode (highest (f .0))) d
         (f .1 .0 .block-long) (w .1)
 
 -- the rows that a gather writes

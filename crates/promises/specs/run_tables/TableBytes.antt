@@ -7,6 +7,7 @@ use mathlib.Core.Path.{_≡_, refl}
 use mathlib.Core.Bool.{Bool}
 use mathlib.Core.List.{List, [], _∷_}
 use Prim.Native.Nat.{ℕ, _*_, _%_, _<_}
+use native.Mathlib.Omega.{arith}
 use lib.IntN.{pos, natAbs}
 use lib.ListN.{length}
 use Rattle.domain.specs.Facts.{Depth, Size}
@@ -43,12 +44,14 @@ chroma-refs cb cr g out =
     chroma-number (all-of (all-of (same (length cb) (2 * chromaLength g)) (same (length cr) (2 * chromaLength g)))
     (at-most 524 (length out))) g
 
--- the predictors: rows of fewer than 65 samples, or a buffer for fewer than n · n
+-- the predictors: rows of fewer than 2n samples, or a buffer for fewer than n · n
 abbrev pub FewBytes : ℕ → List ℕ → List ℕ → List ℕ → Type 0
-FewBytes n above left out = length above < 130 or length left < 130 or length out < 2 * (n * n)
+FewBytes n above left out = length above < 4 * n or length left < 4 * n or length out < 2 * (n * n)
 
 few-bytes : (n : ℕ) (above left out : List ℕ) → Tells (hasRoom n (length above) (length left) (length out)) (FewBytes n above left out)
-few-bytes n above left out = all-of (all-of (at-most 130 (length above)) (at-most 130 (length left))) (at-most (2 * (n * n)) (length out))
+few-bytes n above left out =
+    let e : 2 * (2 * n) ≡ 4 * n = omega arith in
+    rw e (all-of (all-of (at-most (4 * n) (length above)) (at-most (4 * n) (length left))) (at-most (2 * (n * n)) (length out)))
 
 module _ (n : ℕ) (above left out : List ℕ) where
   flat-number : Exact (flatEntryNo n (length above) (length left) (length out))

@@ -89,7 +89,7 @@ BadChroma b Above =
 
 -- number 5 of a predictor: the rows, the block buffer, and the scratch
 abbrev pub Short : ℕ → Lengths → Type 0
-Short n l = l .above < 65 or l .left < 65 or l .pred < n * n or l .refs < 193 or l .indices < 32 or l .fractions < 32
+Short n l = l .above < 2 * n or l .left < 2 * n or l .pred < n * n or l .refs < 193 or l .indices < 32 or l .fractions < 32
 
 -- number 8: one of the first k residuals outside its range
 abbrev pub Beyond : List ℤ → ℕ → Type 0
@@ -312,10 +312,10 @@ module _ (corner : ℕ) (above left : List ℕ) (n : ℕ) where
 -- flat, angular, predict
 pub predict-flat : (n : ℕ) (above left pred : List ℕ)
     → Exact (flatNo n (length above) (length left) (length pred))
-    ((2 when ¬ Size n) ∷ (5 when length above < 65 or length left < 65 or length pred < n * n) ∷ [])
+    ((2 when ¬ Size n) ∷ (5 when length above < 2 * n or length left < 2 * n or length pred < n * n) ∷ [])
 unfolding flatNo
 predict-flat n above left pred =
-    exact-row (size n) refl (λ e. exact-row (all-of (all-of (at-most 65 (length above)) (at-most 65 (length left)))
+    exact-row (size n) refl (λ e. exact-row (all-of (all-of (at-most (2 * n) (length above)) (at-most (2 * n) (length left)))
     (at-most (n * n) (length pred))) refl (λ e. exact-none))
 
 module _ (bits n mode : ℕ) where
@@ -332,12 +332,17 @@ module _ (bits n mode : ℕ) where
       (λ e. exact-row (size n) refl (λ e. exact-row (all-of (at-most 2 mode) (at-most mode 34)) refl
       (λ e. exact-row t refl (λ e. exact-none))))
 
-  predict-number : {P : Type 0} (l : Lengths) → Tells (isEnough n l) P → Exact (predictNo bits n mode l) (predictTable P)
+  predict-number : {P : Type 0} (l : Lengths) → (Size n → Tells (isEnough n l) P) → Exact (predictNo bits n mode l) (predictTable P)
   predict-number l t = exact-row (depth bits) refl
-      (λ e. exact-row (size n) refl (λ e. exact-row (at-most mode 34) refl (λ e. exact-row t refl (λ e. exact-none))))
+      (λ e. exact-row (size n) refl (λ s. exact-row (at-most mode 34) refl (λ e. exact-row (t (size-of n s)) refl (λ e. exact-none))))
 
-  rows-short : (above left pred : ℕ) → Tells (leb 65 above && leb 65 left && leb (n * n) pred) (above < 65 or left < 65 or pred < n * n)
-  rows-short above left pred = all-of (all-of (at-most 65 above) (at-most 65 left)) (at-most (n * n) pred)
+  rows-short : (above left pred : ℕ)
+      → Tells (leb (2 * n) above && leb (2 * n) left && leb (n * n) pred) (above < 2 * n or left < 2 * n or pred < n * n)
+  rows-short above left pred = all-of (all-of (at-most (2 * n) above) (at-most (2 * n) left)) (at-most (n * n) pred)
+
+  -- rows of 65 entries are never short
+  whole-rows : (pred : ℕ) → Size n → Tells (leb (2 * n) 65 && leb (2 * n) 65 && leb (n * n) pred) (pred < n * n)
+  whole-rows pred s = rw (le-leb (2 * n) 65 (omega (arith, size-small n s))) (at-most (n * n) pred)
 
   short : (l : Lengths) → Tells (isEnough n l) (Short n l)
   short l = scratch (rows-short (l .above) (l .left) (l .pred)) (l .refs) (l .indices) (l .fractions)
@@ -347,27 +352,27 @@ module _ (bits n mode : ℕ) where
   predict-angular l = angular-number l (short l)
 
   pub predict-chroma : (l : Lengths) → Exact (predictNo bits n mode l) (predictTable (Short n l))
-  predict-chroma l = predict-number l (short l)
+  predict-chroma l = predict-number l (λ s. short l)
 
   pub predict-luma : (pred refs indices fractions : ℕ)
       → Exact (predictNo bits n mode (lengths 65 65 pred refs indices fractions))
       (predictTable (pred < n * n or refs < 193 or indices < 32 or fractions < 32))
   predict-luma pred refs indices fractions = predict-number (lengths 65 65 pred refs indices fractions)
-      (scratch (at-most (n * n) pred) refs indices fractions)
+      (λ s. scratch (whole-rows pred s) refs indices fractions)
 
   -- the tables in a struct, or made by the call: they are never short
   pub predict-angular-scratch : (above left pred : ℕ)
-      → Exact (angularNo bits n mode (withScratch above left pred)) (angularTable (above < 65 or left < 65 or pred < n * n))
+      → Exact (angularNo bits n mode (withScratch above left pred)) (angularTable (above < 2 * n or left < 2 * n or pred < n * n))
   predict-angular-scratch above left pred = angular-number (withScratch above left pred)
       (and-more (and-more (and-more (rows-short above left pred))))
 
   pub predict-chroma-scratch : (above left pred : ℕ)
-      → Exact (predictNo bits n mode (withScratch above left pred)) (predictTable (above < 65 or left < 65 or pred < n * n))
+      → Exact (predictNo bits n mode (withScratch above left pred)) (predictTable (above < 2 * n or left < 2 * n or pred < n * n))
   predict-chroma-scratch above left pred = predict-number (withScratch above left pred)
-      (and-more (and-more (and-more (rows-short above left pred))))
+      (λ s. and-more (and-more (and-more (rows-short above left pred))))
 
   pub predict-luma-scratch : (pred : ℕ) → Exact (predictNo bits n mode (withScratch 65 65 pred)) (predictTable (pred < n * n))
-  predict-luma-scratch pred = predict-number (withScratch 65 65 pred) (and-more (and-more (and-more (at-most (n * n) pred))))
+  predict-luma-scratch pred = predict-number (withScratch 65 65 pred) (λ s. and-more (and-more (and-more (whole-rows pred s))))
 
 -- residual
 buffers : (n a b c : ℕ) → Tells (leb (n * n) a && leb (n * n) b && leb (n * n) c) (a < n * n or b < n * n or c < n * n)

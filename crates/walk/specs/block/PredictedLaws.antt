@@ -51,6 +51,7 @@ module _ (s : Still) (b : Block) (plane : List ℕ) (t : Tables) (h : Ready s b 
         at-depth (λ (k : ℕ). depthOk k ≡ true) refl refl refl (s .bits) (h .depth),
         at-size (λ (k : ℕ). sizeOk k ≡ true) refl refl refl refl (b .side) (h .placed .size),
         le-leb (b .mode) 34 (h .mode),
+        le-leb (2 * b .side) 65 (omega (arith, side b (h .placed .size))),
         le-leb (b .side * b .side) pred room,
         y .0,
         y .1,

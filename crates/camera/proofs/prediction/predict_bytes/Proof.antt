@@ -4,6 +4,7 @@ use Prim.Native.Nat.{ℕ, _*_, _≤_}
 use native.Mathlib.Omega.{arith}
 use lib.ListN.{length}
 use Rattle.domain.specs.Facts.{size-of, last-size}
+use Rattle.predict.specs.by_mode.Door.{Predictable}
 use Rattle.predict.specs.modes.Modes.{byMode}
 use Rattle.camera.specs.prediction.Entries.{neighboursIn}
 use Rattle.camera.specs.prediction.Blocks.{stored}
@@ -55,7 +56,11 @@ slice-aggregate-rows-block-4 : tie.Need-slice-aggregate-rows-block-4
 slice-aggregate-rows-block-4 c = search needs
 
 rows-block-requires-4 : tie.Need-rows-block-requires-4
-rows-block-requires-4 c κs = search needs
+rows-block-requires-4 c κs =
+    let a = c .before .before .before .before .before .args in
+    let p = c .before .before .before .before .before .pre in
+    let t = subst (λ (m : ℕ). Predictable (a .bits) m (a .mode) × ((4 * m ≤ length (a .above .now)) × (4 * m ≤ length (a .left .now)))) (key (c .before)) (p .0, (p .1 .above-long, p .1 .left-long)) in
+    (t .0, (t .1 .0, (t .1 .1, search needs)))
 
 slice-aggregate-store-4 : tie.Need-slice-aggregate-store-4
 slice-aggregate-store-4 c = search needs

@@ -1,7 +1,7 @@
 -- `prediction::rows_block` meets its contract: the rows are read, and the block is made of them. Rests on `mode_block` and `read_row`.
 use mathlib.Core.Path.{_∙_}
 use Rattle.predict.specs.by_mode.Door.{side}
-use Rattle.camera.specs.prediction.Blocks.{read-block}
+use Rattle.camera.specs.prediction.Blocks.{sample-room, read-block}
 use borrow.Author.Needs.{needs}
 use Rattle.camera.proofs.prediction.rows_block.Statement.{statement}
 use Rattle.camera.proofs.prediction.rows_block.Tie as tie
@@ -25,7 +25,9 @@ slice-aggregate-mode-block-2 : tie.Need-slice-aggregate-mode-block-2
 slice-aggregate-mode-block-2 c = search needs
 
 mode-block-requires : tie.Need-mode-block-requires
-mode-block-requires c κs = search needs
+mode-block-requires c κs =
+    let f = c .before .before .before .before .before .before .before .before .before .before .before .before .pre in
+    (f .0, sample-room (side (f .0)) (search needs) (search needs) (search needs))
 
 same-length : tie.Need-same-length
 same-length c = search needs

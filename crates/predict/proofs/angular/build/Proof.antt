@@ -1,9 +1,10 @@
 -- `angular::build` meets its contract. The references are the run that the two parts make. Assumes nothing.
-use mathlib.Core.Path.{sym}
+use mathlib.Core.Path.{ap}
 use Prim.Native.Nat.{_≤_}
 use native.Mathlib.Omega.{arith}
 use borrow.Author.Needs.{needs}
 use Rattle.predict.specs.angles.Starts.{firstOf}
+use Rattle.predict.specs.angular.Unsigned.{sideOf}
 use Rattle.domain.specs.Facts.{size-small}
 use Rattle.predict.specs.angular.Reach.{first-reach}
 use Rattle.predict.specs.angular.Blocks.{built}
@@ -33,7 +34,7 @@ lowers-requires c κs =
     let q = c .before .first .ensures in
     let p = c .before .before .before .before .before .pre in
     let h = size-small _ (p .1 .1 .0) in
-    let s = rw (sym q) at (p .1 .0) in
+    let s = ap (sideOf (c .before .before .before .before .before .args .inv)) q in
     (omega arith, (omega arith, (omega arith, omega arith)))
 
 main-refs-requires : tie.Need-main-refs-requires

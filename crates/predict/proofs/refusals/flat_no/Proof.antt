@@ -23,7 +23,7 @@ unfolding flatNo
 returns c = if-no _ _ _ _ (sym (c .before .size-ok .ensures) ∙ not-true _ (c .if1 .taken)) refl
 
 predictor-row-requires : tie.Need-predictor-row-requires
-predictor-row-requires c κs = search needs
+predictor-row-requires c κs = size-of _ (side c)
 
 mul-if2 : tie.Need-mul-if2
 mul-if2 c = let n = c .before .before .before .args .n in omega (arith, square n (size-of n (side (c .before))))
