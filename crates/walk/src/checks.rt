@@ -1,5 +1,5 @@
-// A still, and what a call on it checks before it looks at blocks: numbers 1, 4, 5, then 7, or 8 and 14; and how the plan's verdict and number 11
-// follow. Rests on the domain's tests and on what a plan's verdict is.
+// A still, and what a call on it checks before it looks at blocks: numbers 1, 4, 5, then 7, or 8 and 14; and how the plan's verdict
+// and number 11 follow. Rests on the domain's tests and on what a plan's verdict is.
 ghost use mathlib.Core.Path.{_≡_};
 ghost use Prim.Native.Nat.{ℕ};
 ghost use lib.Dec.{leb};

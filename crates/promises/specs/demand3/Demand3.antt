@@ -1,5 +1,5 @@
--- Documents 01 and 02, demand 3: what a walk of a still gives, and that a replay of it gives the still back, however either is split into calls.
--- A call, a chain of calls and the names used here are in Calls; that the doors make such calls is said of their contracts, at the end.
+-- Documents 01 and 02, demand 3: what a walk of a still gives, and that a replay of it gives the still back, however either is split
+-- into calls. A call, a chain of calls and the names used here are in Calls; that the doors make such calls is said of their contracts, at the end.
 -- `predictedAt` is H.265's own prediction of a block from a plane. Proof3 proves it all.
 use Prim.Native.Nat.{ℕ, _+_, _-_, _≤_, _<_, min}
 use mathlib.Core.Path.{_≡_}

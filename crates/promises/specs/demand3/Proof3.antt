@@ -31,8 +31,8 @@ use Rattle.promises.specs.demand3.Accept.{Walking, Replaying, walk-told,
 use Rattle.promises.specs.demand3.Range.{predicted-most}
 use Rattle.promises.specs.demand3.Gives.{walk-done, replay-done, walk-gave, replay-gave}
 use Rattle.promises.specs.demand3.Forms.{numbers-listed}
-use Rattle.promises.specs.demand3.Spots.{at, by-samples, every-of, every-at, most-at, less-small, in-block, part-of, spot, covered-in}
-use Rattle.promises.specs.demand3.Spots.{spot-of, spot-less, spot-predict}
+use Rattle.promises.specs.demand3.Spots.{at, by-samples, every-of, every-at, most-at, less-small, in-block, part-of, spot}
+use Rattle.promises.specs.demand3.Spots.{covered-in, spot-of, spot-less, spot-predict}
 use Rattle.promises.specs.demand3.Demand3.{LosslessWalk, Replayed, WalkDoes, ReplayDoes, Demand3}
 
 -- a walk of the whole picture
