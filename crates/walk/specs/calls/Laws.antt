@@ -6,12 +6,12 @@ use mathlib.Core.List.{List}
 use Prim.Native.Nat.{ℕ, _+_, _-_, _*_, _≤_, _<_}
 use native.Mathlib.Omega.{arith}
 use native.Mathlib.Decide.{ℕ-discrete}
-use lib.Dec.{leb, eqb}
+use lib.Dec.{eqb}
 use lib.ListN.{length}
 use lib.IntN.{ℤ}
 use borrow.Author.Tests.{eqb-true, ne-eqb}
 use Rattle.laws.specs.Chain.{units}
-use Rattle.laws.specs.Choose.{served, if-yes, if-no, passed, both-true, worked, unserved}
+use Rattle.laws.specs.Choose.{served, if-no, passed, both-true, worked, unserved}
 use Rattle.domain.specs.Domain.{depthOk}
 use Rattle.domain.specs.Facts.{size-small, depth-of}
 use Rattle.order.specs.Order.{pictureOk}
