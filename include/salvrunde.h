@@ -31,7 +31,8 @@ enum {
     SALVRUNDE_RESIDUAL = 8, /* a residual is below -65535 or above 65535 */
     SALVRUNDE_ORDER = 9,   /* a block does not start at the next uncovered cell, or none is left */
     SALVRUNDE_GAP = 10,    /* the plan ends with cells uncovered */
-    SALVRUNDE_START = 11   /* the progress record is above the count of blocks */
+    SALVRUNDE_START = 11,  /* the progress record is above the count of blocks */
+    SALVRUNDE_EXCESS = 14  /* a residual is larger than the depth's largest sample, 255, 1023 or 4095: no encoder makes one */
 };
 
 /* chroma_format_idc, for `format`. */
@@ -99,9 +100,10 @@ uint32_t salvrunde_chroma_block(uint32_t bits, uint32_t n, uint32_t mode, uint16
  * 4 * width * height bytes, blocks one after the other in the plan's order, each row by row. plane: exactly 2 * width * height bytes.
  * result: at least SALVRUNDE_RESULT_BYTES, which are written: 0 and the next progress record; where the call is refused, the list number of
  * the block that number 2, 3, 6 or 9 is about (else 0) and `done` as it was given. A shorter result is number 5 and stays as it is.
- * Every call checks everything before it writes: numbers 1, 4, 5, 8, then each block by 2, 3, 6, 9, then 10, then 11. That takes about a
- * tenth of the time of replaying the whole still, whatever the grant: 640 by 480 samples in blocks of 4, one block a call,
- * take some two thousand times as long as in one call. Grant as many blocks as the time between calls allows. */
+ * Every call checks everything before it writes: numbers 1, 4, 5, then 8 and 14 over all residuals, also of blocks that are done, then each
+ * block by 2, 3, 6, 9, then 10, then 11. That takes about a tenth of the time of replaying the whole still, whatever the grant: 640 by
+ * 480 samples in blocks of 4, one block a call, take some two thousand times as long as in one call. Grant as many blocks as the time
+ * between calls allows. */
 uint32_t salvrunde_replay(uint32_t done, uint32_t bits, uint32_t width, uint32_t height, uint32_t ctu, uint32_t grant, const uint8_t *plan,
                           size_t plan_bytes, const uint8_t *residuals, size_t residuals_bytes, uint8_t *plane, size_t plane_bytes,
                           uint8_t *result, size_t result_bytes);

@@ -278,10 +278,12 @@ static void replay(void) {
         at[4] = (uint8_t)b[2], at[5] = (uint8_t)b[3];
     }
     memcpy(l.before, l.bytes, l.length);
-    int32_t wide = chance(20) ? 65535 : 65536 + (int32_t)chance(3);
+    /* residuals of the depth, some at its ends; in one call of twenty one is beyond them, in another one out of every range */
+    int32_t most = bits == 12 ? 4095 : bits == 10 ? 1023 : 255, odd = chance(20) ? 0 : most + 1 + (int32_t)chance(3);
+    if (!odd && !chance(20)) odd = 65536 + (int32_t)chance(3);
     for (size_t i = 0; 4 * i + 3 < r.length; i++) {
-        int32_t v = chance(9) ? (int32_t)chance(600) - 300 : chance(2) ? -65535 : 65535;
-        if (i == r.length / 8 && wide > 65535) v = chance(2) ? -wide : chance(2) ? wide : INT32_MIN;
+        int32_t v = chance(9) ? (int32_t)chance(510) - 255 : chance(2) ? -most : most;
+        if (i == r.length / 8 && odd) v = chance(2) ? -odd : odd < 65536 || chance(2) ? odd : INT32_MIN;
         spell4(r.bytes + 4 * i, (uint32_t)v);
     }
     memcpy(r.before, r.bytes, r.length);

@@ -60,6 +60,20 @@ int main(void) {
         HOLDS(salvrunde_replay(1, 8, 16, 8, 16, 9, plan, 11, residuals, sizeof residuals, still, sizeof still, result, sizeof result) == SALVRUNDE_BUFFER);
         HOLDS(salvrunde_replay(3, 8, 16, 8, 16, 9, plan, sizeof plan, residuals, sizeof residuals, still, sizeof still, result, sizeof result) == SALVRUNDE_START);
         HOLDS(result[0] == 0 && result[4] == 3);
+        /* a residual above the depth's largest sample, of a block that is done and with none granted: the record as given, the plane kept */
+        residuals[0] = 255;
+        HOLDS(salvrunde_replay(1, 8, 16, 8, 16, 0, plan, sizeof plan, residuals, sizeof residuals, still, sizeof still, result, sizeof result) == SALVRUNDE_DONE);
+        residuals[0] = 0, residuals[1] = 1, result[0] = 7;
+        HOLDS(salvrunde_replay(1, 8, 16, 8, 16, 0, plan, sizeof plan, residuals, sizeof residuals, still, sizeof still, result, sizeof result) == SALVRUNDE_EXCESS);
+        HOLDS(result[0] == 0 && result[4] == 1 && sample(still, 0) == 130);
+        HOLDS(salvrunde_replay(0, 10, 16, 8, 16, 0, plan, sizeof plan, residuals, sizeof residuals, still, sizeof still, result, sizeof result) == SALVRUNDE_DONE);
+        HOLDS(salvrunde_replay(9, 8, 16, 8, 16, 9, plan, 6, residuals, sizeof residuals, still, sizeof still, result, sizeof result) == SALVRUNDE_EXCESS);
+        HOLDS(result[0] == 0 && result[4] == 9);
+        result[0] = 7;
+        HOLDS(salvrunde_replay(1, 8, 16, 8, 16, 9, plan, sizeof plan, residuals, sizeof residuals, still, sizeof still, result, 7) == SALVRUNDE_BUFFER);
+        HOLDS(result[0] == 7 && result[4] == 9);
+        residuals[4 * 127 + 2] = 1;
+        HOLDS(salvrunde_replay(1, 8, 16, 8, 16, 9, plan, sizeof plan, residuals, sizeof residuals, still, sizeof still, result, sizeof result) == SALVRUNDE_RESIDUAL);
     }
     return 0;
 }

@@ -146,7 +146,7 @@ pub extern "C" fn salvrunde_chroma_block(
 // Decodes the next blocks of a still, as many as are granted, in the plane's own bytes: exactly 2 · width · height of the plane, 4
 // · width · height of the residuals, 6 a block of the plan. `done` is the progress record. The first 8 bytes of `result` get the
 // block that a refusal is about and the next record, or the record as given where the call is refused; a shorter buffer is left
-// alone. Numbers 1, 4, 5, 8, then 2, 3, 6, 9 of each block, 10, 11.
+// alone. Numbers 1, 4, 5, 8, 14, then 2, 3, 6, 9 of each block, 10, 11.
 #[no_mangle]
 pub extern "C" fn salvrunde_replay(
     done: u32,

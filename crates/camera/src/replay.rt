@@ -7,6 +7,7 @@ ghost use Prim.Native.Nat.{ℕ, _+_, _-_, _*_, _/_, _%_, _≤_, _<_};
 ghost use lib.Dec.{leb};
 ghost use lib.ListN.{length, getD, set};
 ghost use lib.IntN.{pos, _+ℤ_};
+ghost use Rattle.laws.specs.Choose.{firstFail};
 ghost use Rattle.laws.specs.Fill.{run, block};
 ghost use Rattle.laws.specs.Paint.{paint};
 ghost use Rattle.laws.specs.Chain.{units};
@@ -14,16 +15,16 @@ ghost use Rattle.h265.specs.Notation.{clipTo};
 ghost use Rattle.bytes.specs.Bytes.{samplesOf, residualsOf};
 ghost use Rattle.plan.specs.RecordPlan.{recordsOf};
 ghost use Rattle.walk.specs.Lent.{tables, scratchTables};
-ghost use Rattle.samples.specs.deltas.Deltas.{residualOk};
-ghost use Rattle.walk.specs.checks.Checks.{every};
+ghost use Rattle.samples.specs.deltas.Deltas.{residualWithin};
+ghost use Rattle.walk.specs.checks.Checks.{every, residualChecks};
 ghost use Rattle.walk.specs.block.Predicted.{predictedAt};
 ghost use Rattle.walk.specs.block.Ready.{Ready, Lies};
 ghost use Rattle.walk.specs.block_rows.Ready.{RowIn, RowsIn};
 ghost use Rattle.walk.specs.block.Rebuilt.{rebuilt, replayUnit};
 ghost use Rattle.walk.specs.calls.Steps.{doingOf};
 ghost use Rattle.walk.specs.calls.Ready.{Sound};
-ghost use Rattle.camera.specs.replay.Verdict.{wholeBy, lentBytes, byteVerdict, answered};
-ghost use Rattle.camera.specs.replay.VerdictLaws.{putWord, byteNo};
+ghost use Rattle.camera.specs.replay.Verdict.{wholeBy, lentBytes, byteNo, byteVerdict, answered};
+ghost use Rattle.camera.specs.replay.VerdictLaws.{putWord};
 ghost use Rattle.camera.specs.replay.Door.{replayed};
 use crate::gather;
 use fmt::depth;
@@ -117,18 +118,32 @@ fn rebuild_rows(
     }
 }
 
-// Number 8: whether every residual is in range.
-fn residuals_ok(residuals: &[u8]) -> bool
-    ensures { λ b. ⌜ b ≡ every residualOk (residualsOf (now (residuals .entry))) ⌝ }
+// Whether no residual is larger than a limit.
+fn residuals_within(residuals: &[u8], limit: u16) -> bool
+    ensures { λ b. ⌜ b ≡ every (residualWithin limit) (residualsOf (now (residuals .entry))) ⌝ }
 {
     let count = residuals.len() / 4;
     let mut ok = true;
     let mut i = 0;
     while i < count {
-        ok = ok & deltas::residual_ok(residual_at(residuals, i));
+        ok = ok & deltas::residual_within(residual_at(residuals, i), limit);
         i += 1;
     }
     ok
+}
+
+// Numbers 8 and 14 over all residuals. The tighter limit is asked first: where all keep it, each is looked at once.
+fn residuals_no(residuals: &[u8], largest: u16) -> u32
+    ensures { λ r. ⌜ r ≡ firstFail (residualChecks largest (residualsOf (now (residuals .entry)))) ⌝ }
+{
+    if residuals_within(residuals, largest) {
+        return 0;
+    }
+    if residuals_within(residuals, 65535) {
+        14
+    } else {
+        8
+    }
 }
 
 // A block's prediction from a plane, in rows. The last three slices are scratch.
@@ -206,7 +221,7 @@ fn are_whole(s: Still, plane: usize, residuals: usize) -> bool
     samples & ((residuals % 4 == 0) & (residuals / 4 == area))
 }
 
-// The number of the checks before the plan's: 1, 4, 5, 8.
+// The number of the checks before the plan's: 1, 4, 5, 8, 14.
 fn byte_no(s: Still, plan: &[u8], residuals: &[u8], plane: usize, result: usize) -> u32
     ensures { λ r. ⌜ r ≡ byteNo s (lentBytes (now (plan .entry)) (now (residuals .entry)) plane result) ⌝ }
 {
@@ -215,7 +230,7 @@ fn byte_no(s: Still, plan: &[u8], residuals: &[u8], plane: usize, result: usize)
     if no != 0 {
         return no;
     }
-    if residuals_ok(residuals) { 0 } else { 8 }
+    residuals_no(residuals, depth::largest_of(s.bits))
 }
 
 // The number of the checks before the plan's, then the plan's, then 11.

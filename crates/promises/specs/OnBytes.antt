@@ -119,7 +119,8 @@ pub record OnBytes : Type 1 where
       → (b : ByteJob) → speltTask b ≡ j → residualsOf (b .residuals) ≡ calls (walkCall j source) (fresh w) asks .world .residuals
       → (plane : List ℕ) → Fits b (fresh plane) → (again : List ByteAsk) → Each Long again → count j ≤ bytesGranted again
       → samplesOf (calls (byteCall b) (fresh plane) again .world) ≡ source
-  -- Any residuals in range: two replays of as many blocks agree on those blocks, however their planes began.
+  -- Any residuals that a replay takes, none larger than the depth's largest sample: two replays of as many blocks agree on those blocks,
+  -- however their planes began.
   pub altered : (b : ByteJob) (plane other : List ℕ) → Fits b (fresh plane) → Fits b (fresh other)
       → (first : ByteAsk) → byteAfter b (fresh plane) first .number ≡ 0
       → (asks others : List ByteAsk) → Each Long asks → Each Long others

@@ -11,7 +11,7 @@ ghost use Rattle.domain.specs.Facts.{Size};
 ghost use Rattle.residual.specs.Residual.{differenceAt, rebuiltTo, allInRange, residualNo, reconstructNo, residualsAfter};
 ghost use Rattle.residual.specs.Residual.{reconstructed};
 ghost use Rattle.residual.specs.Laws.{RunsFit};
-ghost use Rattle.residual.specs.Narrow.{raise, highPart};
+ghost use Rattle.residual.specs.Narrow.{highPart};
 use domain::helpers;
 use fmt::depth;
 use samples::deltas;
@@ -111,18 +111,11 @@ fn all_in_range(residual: &[i32], runs: usize) -> bool
     ok
 }
 
-// A number raised by 2^31, after which it is not below 0.
-fn raised(r: i32) -> u32
-    ensures { λ u. ⌜ u ≡ raise r ⌝ }
-{
-    ((r as i64) + 2147483648) as u32
-}
-
 // What r + 32768 has above its 16 low bits: 0 where r fits an i16, and then it is in range.
 fn high_part(r: i32) -> u16
     ensures { λ h. ⌜ h ≡ highPart r ⌝ }
 {
-    (std::num::wrapping_add_u32(raised(r), 2147516416) / 65536) as u16
+    (std::num::wrapping_add_u32(deltas::raised(r), 2147516416) / 65536) as u16
 }
 
 // The high parts of so many runs of residuals, one laid over the other.

@@ -3,8 +3,9 @@
 ghost use mathlib.Core.Path.{_≡_};
 ghost use lib.IntN.{pos, _+ℤ_, _-ℤ_};
 ghost use Rattle.h265.specs.Notation.{clipTo};
-ghost use Rattle.samples.specs.deltas.Deltas.{residualOk};
+ghost use Rattle.samples.specs.deltas.Deltas.{residualOk, residualWithin};
 ghost use Rattle.samples.specs.deltas.Laws.{Brought};
+ghost use Rattle.samples.specs.deltas.Raised.{raise};
 use domain::helpers;
 
 // A residual: the original less the prediction.
@@ -31,9 +32,24 @@ pub fn restored(p: u16, r: i32, largest: u16) -> u16
     helpers::clamp((p as i32) + brought(r), largest)
 }
 
+// A number raised by 2^31, after which it is not below 0.
+pub fn raised(r: i32) -> u32
+    ensures { λ u. ⌜ u ≡ raise r ⌝ }
+{
+    ((r as i64) + 2147483648) as u32
+}
+
+// Whether a residual's size is at most a limit: a sum that wraps and one test, so that many are tested at once.
+pub fn residual_within(r: i32, limit: u16) -> bool
+    ensures { λ b. ⌜ b ≡ residualWithin limit r ⌝ }
+{
+    let most = limit as u32;
+    std::num::wrapping_add_u32(raised(r), 2147483648 + most) <= 2 * most
+}
+
 // Number 8: whether a residual is in its range.
 pub fn residual_ok(r: i32) -> bool
     ensures { λ b. ⌜ b ≡ residualOk r ⌝ }
 {
-    (r >= -65535) & (r <= 65535)
+    residual_within(r, 65535)
 }

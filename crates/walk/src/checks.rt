@@ -1,10 +1,11 @@
-// A still, and what a call on it checks before it looks at blocks: numbers 1, 4, 5, then 7 or 8; and how the plan's verdict and number 11
-// follow. Rests on the domain's tests and on what a plan's verdict is.
+// A still, and what a call on it checks before it looks at blocks: numbers 1, 4, 5, then 7, or 8 and 14; and how the plan's verdict
+// and number 11 follow. Rests on the domain's tests and on what a plan's verdict is.
 ghost use mathlib.Core.Path.{_≡_};
 ghost use Prim.Native.Nat.{ℕ};
 ghost use lib.Dec.{leb};
-ghost use Rattle.samples.specs.deltas.Deltas.{residualOk};
-ghost use Rattle.walk.specs.checks.Checks.{every, isWhole, isRoomy, openingNo, replayNo, walkNo, settle};
+ghost use Rattle.laws.specs.Choose.{firstFail};
+ghost use Rattle.samples.specs.deltas.Deltas.{residualWithin};
+ghost use Rattle.walk.specs.checks.Checks.{every, isWhole, isRoomy, openingNo, residualChecks, replayNo, walkNo, settle};
 use fmt::depth;
 use plan::tiling::Frame;
 use plan::tiling::Verdict;
@@ -46,21 +47,35 @@ pub fn opening_no(s: Still, fit: bool) -> u32
     0
 }
 
-// Number 8: whether every residual is in range.
-fn residuals_ok(residuals: &[i32]) -> bool
-    ensures { λ b. ⌜ b ≡ every residualOk (now (residuals .entry)) ⌝ }
+// Whether no residual is larger than a limit.
+fn residuals_within(residuals: &[i32], limit: u16) -> bool
+    ensures { λ b. ⌜ b ≡ every (residualWithin limit) (now (residuals .entry)) ⌝ }
 {
     let count = residuals.len();
     let mut ok = true;
     let mut i = 0;
     while i < count {
-        ok = ok & deltas::residual_ok(residuals[i]);
+        ok = ok & deltas::residual_within(residuals[i], limit);
         i += 1;
     }
     ok
 }
 
-// Replay: the number of the checks before the plan's, 1, 4, 5, 8. `records` says whether the plan is of whole records.
+// Numbers 8 and 14 over all residuals. The tighter limit is asked first: where all keep it, each is looked at once.
+fn residuals_no(residuals: &[i32], largest: u16) -> u32
+    ensures { λ r. ⌜ r ≡ firstFail (residualChecks largest (now (residuals .entry))) ⌝ }
+{
+    if residuals_within(residuals, largest) {
+        return 0;
+    }
+    if residuals_within(residuals, 65535) {
+        14
+    } else {
+        8
+    }
+}
+
+// Replay: the number of the checks before the plan's, 1, 4, 5, 8, 14. `records` says whether the plan is of whole records.
 pub(crate) fn replay_no(
     s: Still,
     records: bool,
@@ -78,7 +93,7 @@ pub(crate) fn replay_no(
     if no != 0 {
         return no;
     }
-    if residuals_ok(residuals) { 0 } else { 8 }
+    residuals_no(residuals, depth::largest_of(s.bits))
 }
 
 // Number 7: whether every source sample is one of the depth's.

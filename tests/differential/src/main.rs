@@ -71,6 +71,7 @@ const SUBJECTS: &[(&str, Subject)] = &[
     ("walk", walk::walk),
     ("replay", walk::replay),
     ("walk and replay refused", walk::refused),
+    ("residual limit", walk::limit),
     ("differences in references", standard::differences),
 ];
 

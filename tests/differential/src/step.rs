@@ -1,5 +1,5 @@
-//! One call of walk or replay: what document 01 and the Rust say of it, and the call of the proved code beside it.
-//! The number comes from document 01's table and order, the planes from the Rust's functions (assembled.rs).
+//! One call of walk or replay: what documents 01 and 02 and the Rust say of it, and the call of the proved code beside it.
+//! The number comes from their table and order, the planes from the Rust's functions (assembled.rs).
 use crate::assembled::Job;
 use crate::entries;
 use crate::frame::{Block, Frame};
@@ -37,7 +37,7 @@ pub struct Step {
 }
 
 impl Call {
-    /// The number and its block: 1, 4, 5, then 7 or 8, then each block by 2, 3, 6, 9, then 10, then 11.
+    /// The number and its block: 1, 4, 5, then 7, or 8 and 14, then each block by 2, 3, 6, 9, then 10, then 11.
     fn verdict(&self) -> [u32; 2] {
         let Frame { width, height, ctu } = self.frame;
         let whole = |entries| table::plane(width as u64, height as u64, entries);
@@ -53,6 +53,8 @@ impl Call {
             [7, 0]
         } else if !self.walk && !self.residuals.iter().all(|&r| table::residual(r)) {
             [8, 0]
+        } else if !self.walk && !self.residuals.iter().all(|&r| table::residual_of(self.bits, r)) {
+            [14, 0]
         } else if self.frame.verdict(&self.plan) != [0, 0] {
             self.frame.verdict(&self.plan)
         } else if self.done as usize > self.plan.len() {

@@ -90,6 +90,11 @@ pub fn residual(r: i32) -> bool {
     (-65535..=65535).contains(&r)
 }
 
+/// Number 14 of a residual, at replay (document 02): its size is no more than the depth's largest sample.
+pub fn residual_of(bits: u32, r: i32) -> bool {
+    i64::from(r).abs() < 1 << bits
+}
+
 /// The least number whose test fails, or 0: a door checks in ascending number.
 pub fn first(tests: &[(u32, bool)]) -> u32 {
     tests.iter().filter(|t| !t.1).map(|t| t.0).min().unwrap_or(0)

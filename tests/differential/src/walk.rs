@@ -53,13 +53,14 @@ fn any_words(count: usize, random: &mut Random) -> Vec<i32> {
     dirt_32(count, random).into_iter().map(|w| w as i32).collect()
 }
 
-/// Residuals in range: small, at both ends, or any.
-fn in_range(kind: u64, count: usize, random: &mut Random) -> Vec<i32> {
+/// Residuals in the depth's range: small, at both ends, or any.
+fn in_range(kind: u64, bits: u32, count: usize, random: &mut Random) -> Vec<i32> {
+    let top = i32::from(largest(bits));
     let mut one = || match kind {
         0 => random.below(65) as i32 - 32,
-        1 => random.pick(&[65535, -65535]),
-        2 => random.pick(&[65535, -65535, 65534, 0, 0, 1, -1]),
-        _ => random.below(131071) as i32 - 65535,
+        1 => random.pick(&[top, -top]),
+        2 => random.pick(&[top, -top, top - 1, 0, 0, 1, -1]),
+        _ => random.below(2 * top as u64 + 1) as i32 - top,
     };
     (0..count).map(|_| one()).collect()
 }
@@ -248,12 +249,13 @@ pub fn replay(t: &mut Tally) {
         met.add(&call);
         // some residuals altered, and residuals of every kind: planes of any contents, begun anywhere
         let mut altered = residuals;
-        for r in in_range(0, 20, &mut random) {
+        let top = i32::from(largest(still.bits));
+        for r in in_range(0, still.bits, 20, &mut random) {
             let at = random.below(still.area() as u64) as usize;
-            altered[at] = (altered[at] + r).clamp(-65535, 65535);
+            altered[at] = (altered[at] + r).clamp(-top, top);
         }
         let kind = random.below(4);
-        for residuals in [altered, in_range(kind, still.area(), &mut random)] {
+        for residuals in [altered, in_range(kind, still.bits, still.area(), &mut random)] {
             let mut whole = still.replay(residuals.clone(), &mut random);
             whole.ask(t, &mut random);
             let mut call = still.replay(residuals, &mut random);
@@ -267,7 +269,7 @@ pub fn replay(t: &mut Tally) {
     met.all();
     for _ in 0..20 {
         let still = small(&mut random);
-        let residuals = in_range(random.below(4), still.area(), &mut random);
+        let residuals = in_range(random.below(4), still.bits, still.area(), &mut random);
         let call = still.replay(residuals, &mut random);
         every_split(t, &call, &mut random);
     }
@@ -317,6 +319,9 @@ const FAULTS: &[Fault] = &[
     |c| at(&mut c.residuals, 0).into_iter().for_each(|r| *r = 65536),
     |c| at(&mut c.residuals, 1).into_iter().for_each(|r| *r = i32::MIN),
     |c| at(&mut c.residuals, 2).into_iter().for_each(|r| *r = -65536),
+    |c| at(&mut c.residuals, 0).into_iter().for_each(|r| *r = 1 << c.bits.min(15)),
+    |c| at(&mut c.residuals, 1).into_iter().for_each(|r| *r = 65535),
+    |c| at(&mut c.residuals, 2).into_iter().for_each(|r| *r = -(1 << c.bits.min(15))),
     |c| at(&mut c.plan, 0).into_iter().for_each(|b| b[2] = 0),
     |c| at(&mut c.plan, 1).into_iter().for_each(|b| b[2] = 260),
     |c| at(&mut c.plan, 2).into_iter().for_each(|b| b[2] = 64),
@@ -343,7 +348,7 @@ const FAULTS: &[Fault] = &[
 /// A call of either kind, begun anywhere, with a grant of any kind.
 fn any_call(walk: bool, frame: Frame, random: &mut Random) -> Call {
     let still = Still::any(frame, random.pick(&DEPTHS), 6, random);
-    let residuals = in_range(2, still.area(), random);
+    let residuals = in_range(2, still.bits, still.area(), random);
     let mut call = if walk { still.walk(random) } else { still.replay(residuals, random) };
     call.done = random.below(call.plan.len() as u64 + 1) as u32;
     call.grant = grant(&call, random);
@@ -352,7 +357,7 @@ fn any_call(walk: bool, frame: Frame, random: &mut Random) -> Call {
 
 pub fn refused(t: &mut Tally) {
     let mut random = Random::new(21);
-    let mut seen = [[0u64; 12]; 2];
+    let mut seen = [[0u64; 15]; 2];
     for (width, height, ctu) in [(24, 16, 16), (8, 40, 32), (40, 24, 64)] {
         let frame = Frame { width, height, ctu };
         for walk in [true, false] {
@@ -378,5 +383,92 @@ pub fn refused(t: &mut Tally) {
     for no in [0, 1, 2, 3, 4, 5, 6, 9, 10, 11] {
         assert!(seen[0][no] > 50 && seen[1][no] > 50, "number {no} is met often: {seen:?}");
     }
-    assert!(seen[1][7] > 50 && seen[0][8] > 50 && seen[0][7] == 0 && seen[1][8] == 0, "7 of a walk, 8 of a replay: {seen:?}");
+    for (no, walk) in [(7, 1), (8, 0), (14, 0)] {
+        assert!(seen[walk][no] > 50 && seen[1 - walk][no] == 0, "7 of a walk alone, 8 and 14 of a replay alone: {seen:?}");
+    }
+}
+
+/// A replay's number for these residuals; its block is 0.
+fn number(t: &mut Tally, call: &Call, residuals: &[(usize, i32)], random: &mut Random) -> u32 {
+    let mut call = call.clone();
+    for &(at, r) in residuals {
+        call.residuals[at] = r;
+    }
+    let step = call.ask(t, random);
+    assert!(step.block == 0 && (step.no == 0 || step.did == 0 && step.done == call.done));
+    step.no
+}
+
+/// Number 14, with every number that it is found beside.
+pub fn limit(t: &mut Tally) {
+    let mut random = Random::new(24);
+    let random = &mut random;
+    let frame = Frame { width: 16, height: 8, ctu: 16 };
+    let plan = vec![[0, 0, 8, 1], [0, 8, 4, 0], [0, 12, 4, 10], [4, 8, 4, 26], [4, 12, 4, 34]];
+    for (bits, top) in [(8, 255), (10, 1023), (12, 4095)] {
+        let still = Still { bits, frame, plan: plan.clone(), source: source(6, bits, frame, random) };
+        let good = still.replay(vec![0; still.area()], random);
+        for at in [0, 1, 63, 64, 100, 127] {
+            for (r, no) in [(top, 0), (top + 1, 14), (65535, 14), (65536, 8), (i32::MAX, 8)] {
+                assert_eq!([r, -r].map(|r| number(t, &good, &[(at, r)], random)), [no, no]);
+            }
+            assert_eq!(number(t, &good, &[(at, i32::MIN)], random), 8);
+            assert_eq!(number(t, &good, &[(at, i32::MIN + 1)], random), 8);
+            // 8 anywhere comes before 14 anywhere
+            for other in [0, 63, 64, 127] {
+                let wide = number(t, &good, &[(at, top + 1), (other, 65536)], random);
+                assert_eq!(wide, 8);
+                let beside = number(t, &good, &[(at, 65536), (other, -top - 1)], random);
+                assert_eq!(beside, if at == other { 14 } else { 8 });
+            }
+            // whatever is granted and whatever is done; 11 comes after it, and so does every number of a block and 10
+            let beyond = [(at, -top - 1)];
+            for (done, grant) in [(0, 0), (0, 1), (1, 1), (3, 0), (5, 0), (5, 9), (6, 1), (u32::MAX, u32::MAX)] {
+                assert_eq!(number(t, &Call { done, grant, ..good.clone() }, &beyond, random), 14);
+            }
+            for (block, part, value) in [(0, 2, 5), (4, 3, 35), (1, 0, 2), (2, 1, 8), (0, 2, 16)] {
+                let mut call = good.clone();
+                call.plan[block][part] = value;
+                assert_eq!(number(t, &call, &beyond, random), 14);
+            }
+            let short = Call { plan: plan[..4].to_vec(), ..good.clone() };
+            assert_eq!(number(t, &short, &beyond, random), 14);
+            assert_eq!(number(t, &Call { plan: Vec::new(), ..good.clone() }, &beyond, random), 14);
+            // 1, 4 and 5 come before it
+            assert_eq!(number(t, &Call { bits: 9, ..good.clone() }, &beyond, random), 1);
+            assert_eq!(number(t, &Call { frame: Frame { ctu: 8, ..frame }, ..good.clone() }, &beyond, random), 4);
+            assert_eq!(number(t, &Call { plane: vec![0; 127], ..good.clone() }, &beyond, random), 5);
+            assert_eq!(number(t, &Call { ragged: Some((3, -1)), ..good.clone() }, &beyond, random), 5);
+            assert_eq!(number(t, &Call { tables: [192, 32, 32], ..good.clone() }, &beyond, random), 5);
+        }
+    }
+    // one block of 8 by 8: the figures of document 02's reading
+    let frame = Frame { width: 8, height: 8, ctu: 16 };
+    let still = Still { bits: 8, frame, plan: vec![[0, 0, 8, 1]], source: vec![128; 64] };
+    let good = still.replay(vec![0; 64], random);
+    assert_eq!([255, 256, 65535, 65536].map(|r| number(t, &good, &[(9, r)], random)), [0, 14, 14, 8]);
+    assert_eq!(number(t, &good, &[(0, 256), (63, 65536)], random), 8);
+    assert_eq!(number(t, &Call { plan: vec![[0, 0, 5, 1]], ..good.clone() }, &[(0, 256)], random), 14);
+    // 40,000 in a block is no white square any more
+    assert_eq!(number(t, &Call { residuals: vec![40000; 64], ..good.clone() }, &[], random), 14);
+    // a walk from a fresh record writes none that is refused, in however many calls, also where samples are 0 and the largest
+    for kind in [1, 2, 6] {
+        for bits in DEPTHS {
+            let frame = Frame { width: 40, height: 24, ctu: 16 };
+            let still = Still::any(frame, bits, kind, random);
+            let mut call = still.walk(random);
+            to_the_end(t, &mut call, random);
+            assert!(call.residuals.iter().all(|&r| i64::from(r).abs() <= i64::from(largest(bits))));
+            assert_eq!(number(t, &still.replay(call.residuals, random), &[], random), 0);
+        }
+    }
+    // one that goes on over a work plane that was altered may: the second block is predicted at 65535
+    let frame = Frame { width: 16, height: 8, ctu: 16 };
+    let still = Still { bits: 8, frame, plan: vec![[0, 0, 8, 1], [0, 8, 8, 1]], source: vec![130; 128] };
+    let mut call = Call { grant: 1, ..still.walk(random) };
+    call.done = call.ask(t, random).done;
+    call.plane.fill(65535);
+    call.ask(t, random);
+    assert!(call.residuals[..64].iter().all(|&r| r == 2) && call.residuals[64..].iter().all(|&r| r == 130 - 65535));
+    assert_eq!(number(t, &still.replay(call.residuals, random), &[], random), 14);
 }

@@ -8,26 +8,23 @@ use native.Mathlib.Omega.{arith}
 use lib.Dec.{eqb}
 use lib.ListN.{length}
 use borrow.Author.Tests.{eq-eqb}
-use Rattle.laws.specs.Choose.{passed, worked, unserved}
+use Rattle.laws.specs.Choose.{worked, unserved}
 use Rattle.laws.specs.Chain.{units}
 use Rattle.bytes.specs.Bytes.{samplesOf, bytesOf, residualsOf}
 use Rattle.bytes.specs.Laws.{AreBytes, length-samples, length-residuals, bytes-back}
-use Rattle.domain.specs.Domain.{depthOk}
-use Rattle.order.specs.Order.{pictureOk}
 use Rattle.plan.specs.declared.tiling.Verdict.{Verdict}
-use Rattle.plan.specs.tiling.Tiling.{pictureOf}
 use Rattle.plan.specs.RecordPlan.{recordsOf}
-use Rattle.samples.specs.deltas.Deltas.{residualOk}
 use Rattle.walk.specs.declared.checks.Still.{Still}
-use Rattle.walk.specs.checks.Checks.{every, callNo, replayFits}
+use Rattle.walk.specs.checks.Checks.{largestIn, callNo, residualChecks, replayFits}
+use Rattle.walk.specs.checks.Laws.{good-call}
 use Rattle.walk.specs.Lent.{scratchTables}
 use Rattle.walk.specs.calls.Steps.{doingOf}
 use Rattle.walk.specs.block.Rebuilt.{replayUnit}
 use Rattle.walk.specs.calls.Door.{verdictOf, replayVerdict}
 use Rattle.walk.specs.calls.Ready.{Sound}
 use Rattle.walk.specs.calls.Laws.{replay-sound, verdict-zero}
-use Rattle.camera.specs.replay.Verdict.{Lent, bytesFit, byteVerdict, answered}
-use Rattle.camera.specs.replay.VerdictLaws.{fitting, byteNo}
+use Rattle.camera.specs.replay.Verdict.{Lent, bytesFit, byteNo, byteVerdict, answered}
+use Rattle.camera.specs.replay.VerdictLaws.{fitting}
 use Rattle.camera.specs.replay.Door.{planeAfter, resultAfter, replayed}
 
 module _ (s : Still) (done : ℕ) (l : Lent) where
@@ -43,16 +40,15 @@ module _ (s : Still) (done : ℕ) (l : Lent) where
       ≡ true = eq-eqb _ area (omega (arith, length-residuals (l .residuals), f .residuals)) in
       let both : bytesFit s l ≡ replayFits s (recordsOf (l .plan) .whole) scratchTables (l .plane / 2)
       (length (residualsOf (l .residuals))) = e ∙ sym (rw (f .records, a, b)) in
-      ap (λ (t : Bool). verdictOf s (recordsOf (l .plan)) done (callNo s t 8 (every residualOk (residualsOf (l .residuals))))) both
+      ap (λ (t : Bool). verdictOf s (recordsOf (l .plan)) done
+      (callNo s t (residualChecks (largestIn s) (residualsOf (l .residuals))))) both
 
   -- a call that is served fits
   pub served-fits : byteVerdict s done l .no ≡ 0 → bytesFit s l ≡ true
   unfolding byteVerdict
   served-fits z =
-      let q = verdict-zero s (recordsOf (l .plan)) done (byteNo s l) z .0 in
-      let a = passed (depthOk (s .bits)) _ 1 (omega arith) q in
-      let b = passed (pictureOk (pictureOf (s .frame))) _ 4 (omega arith) (a .1) in
-      passed (bytesFit s l) _ 5 (omega arith) (b .1) .0
+      good-call s (bytesFit s l) (residualChecks (largestIn s) (residualsOf (l .residuals)))
+      (verdict-zero s (recordsOf (l .plan)) done (byteNo s l) z .0) .1
 
   pub served-sound : byteVerdict s done l .no ≡ 0
       → Sound s (recordsOf (l .plan)) (l .plane / 2) (length (residualsOf (l .residuals))) scratchTables × (done ≤ length (l .plan) / 6)

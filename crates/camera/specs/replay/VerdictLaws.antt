@@ -7,21 +7,20 @@ use native.Mathlib.Omega.{arith}
 use lib.Dec.{leb, eqb}
 use lib.ListN.{length, set}
 use borrow.Author.Tests.{eqb-true, eqb-false, eq-eqb, ne-eqb, le-leb, lt-leb}
-use Rattle.laws.specs.Choose.{if-yes, if-no, passed, both-true}
+use Rattle.laws.specs.Choose.{if-yes, if-no, both-true}
 use Rattle.bytes.specs.Bytes.{byte1, byte2, byte3, residualsOf}
 use Rattle.bytes.specs.Laws.{pair-stored}
-use Rattle.domain.specs.Domain.{depthOk}
 use Rattle.order.specs.Order.{pictureOk}
 use Rattle.plan.specs.declared.tiling.Verdict.{Verdict}
 use Rattle.plan.specs.tiling.Tiling.{pictureOf}
 use Rattle.plan.specs.tiling.PlanCheck.{planVerdict}
 use Rattle.plan.specs.RecordPlan.{recordsOf}
-use Rattle.samples.specs.deltas.Deltas.{residualOk}
 use Rattle.walk.specs.declared.checks.Still.{Still}
-use Rattle.walk.specs.checks.Checks.{every, callNo, settle}
+use Rattle.walk.specs.checks.Checks.{largestIn, residualChecks, settle}
+use Rattle.walk.specs.checks.Laws.{good-call}
 use Rattle.walk.specs.calls.Door.{verdictOf}
 use Rattle.walk.specs.calls.Laws.{settle-is}
-use Rattle.camera.specs.replay.Verdict.{Lent, bytesFit, byteVerdict, answered}
+use Rattle.camera.specs.replay.Verdict.{Lent, bytesFit, byteNo, byteVerdict, answered}
 
 -- two or four bytes for each sample: no byte is left over, and there are as many twos or fours
 module _ (len area : ℕ) where
@@ -54,22 +53,17 @@ fitting s l e =
     let c = both-true _ _ (b .0) in
     record { plane = eqb-true (l .plane) _ (c .0); residuals = eqb-true (length (l .residuals)) _ (c .1); records = b .1 }
 
--- the number of the checks before the plan's
-abbrev pub byteNo : Still → Lent → ℕ
-byteNo s l = callNo s (bytesFit s l) 8 (every residualOk (residualsOf (l .residuals)))
-
 -- the verdict, from the number of the checks before the plan's
 verdict-from : (s : Still) (done : ℕ) (l : Lent) (v : Verdict) (early : ℕ) → early ≡ byteNo s l → v
     ≡ verdictOf s (recordsOf (l .plan)) done early → v ≡ byteVerdict s done l
 unfolding byteVerdict
 verdict-from s done l v early e q = q ∙ ap (verdictOf s (recordsOf (l .plan)) done) e
 
--- number 0 of 1, 4, 5, 8: the picture is good, and the plan is whole records
+-- number 0 of these: the picture is good, and the plan is whole records
 early-good : (s : Still) (l : Lent) → byteNo s l ≡ 0 → (pictureOk (pictureOf (s .frame)) ≡ true) × (recordsOf (l .plan) .whole ≡ true)
 early-good s l z =
-    let a = passed (depthOk (s .bits)) _ 1 (omega arith) z in
-    let b = passed (pictureOk (pictureOf (s .frame))) _ 4 (omega arith) (a .1) in
-    (b .0, fitting s l (passed (bytesFit s l) _ 5 (omega arith) (b .1) .0) .records)
+    let g = good-call s (bytesFit s l) (residualChecks (largestIn s) (residualsOf (l .residuals))) z in
+    (g .0, fitting s l (g .1) .records)
 
 -- the verdict, from the plan's on its bytes
 pub settled-bytes : (s : Still) (done : ℕ) (l : Lent) (found v : Verdict) (early : ℕ) → early ≡ byteNo s l → found

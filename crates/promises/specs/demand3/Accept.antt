@@ -9,7 +9,7 @@ use lib.Dec.{leb, eqb}
 use lib.IntN.{ℤ}
 use lib.ListN.{length}
 use borrow.Author.Tests.{le-leb, eqb-true, eq-eqb}
-use Rattle.laws.specs.Choose.{passed, both-true}
+use Rattle.laws.specs.Choose.{firstFail, passed, both-true}
 use Rattle.domain.specs.Domain.{depthOk}
 use Rattle.domain.specs.Facts.{Depth, depth-of, at-depth}
 use Rattle.order.specs.Order.{pictureOk}
@@ -21,8 +21,7 @@ use Rattle.plan.specs.tiling.Tests.{good-picture}
 use Rattle.plan.specs.tiling.Verdict.{Accepted, good-verdict}
 use Rattle.walk.specs.declared.checks.Still.{Still}
 use Rattle.walk.specs.declared.Stepped.{Stepped}
-use Rattle.samples.specs.deltas.Deltas.{residualOk}
-use Rattle.walk.specs.checks.Checks.{Tables, largestIn, every, isWhole, isRoomy, settle}
+use Rattle.walk.specs.checks.Checks.{Tables, largestIn, every, isWhole, isRoomy, residualChecks, settle}
 use Rattle.walk.specs.block.Rebuilt.{replayUnit}
 use Rattle.walk.specs.block.Walked.{World, walked, walkUnit}
 use Rattle.walk.specs.calls.Door.{verdictOf, replayVerdict, replayAfter, walkVerdict, walkAfter}
@@ -65,7 +64,7 @@ pub record Replaying (j : Task) (residuals : List ℤ) (x : Held (List ℕ)) : T
   pub asked : Asked j (x .progress .done)
   pub plane-whole : Whole (j .still) (x .world)
   pub residuals-whole : Whole (j .still) residuals
-  pub in-range : every residualOk residuals ≡ true
+  pub in-range : firstFail (residualChecks (largestIn (j .still)) residuals) ≡ 0
 
 module _ (j : Task) where
   abbrev s : Still
@@ -132,7 +131,6 @@ module _ (j : Task) where
       let picture = passed (pictureOk (pictureOf (s .frame))) _ 4 (omega arith) (depth .1) in
       let long = passed (j .plan .whole && isWhole s (length (x .world)) && isWhole s (length residuals) && isRoomy t) _ 5 (omega arith)
       (picture .1) in
-      let most = passed (every residualOk residuals) 0 8 (omega arith) (long .1) in
       let b = both-true (j .plan .whole && isWhole s (length (x .world)) && isWhole s (length residuals)) (isRoomy t) (long .0) in
       let a = both-true (j .plan .whole && isWhole s (length (x .world))) (isWhole s (length residuals)) (b .0) in
       let p = both-true (j .plan .whole) (isWhole s (length (x .world))) (a .0) in
@@ -146,7 +144,7 @@ module _ (j : Task) where
         };
         plane-whole = eqb-true (length (x .world)) size (p .1);
         residuals-whole = eqb-true (length residuals) size (a .1);
-        in-range = most .0;
+        in-range = long .1;
       }
 
   pub replay-fine : (residuals : List ℤ) (x : Held (List ℕ)) (t : Tables) → Replaying j residuals x → isRoomy t ≡ true

@@ -2,21 +2,22 @@
 use mathlib.Core.Path.{_≡_, refl, sym, ap, _∙_, subst}
 use mathlib.Core.Bool.{true}
 use mathlib.Core.List.{List}
-use Prim.Native.Nat.{ℕ, _+_, _-_, _*_, _^_, _≤_, _<_, min}
-use native.Mathlib.Nat.{le-trans}
+use Prim.Native.Nat.{ℕ, _+_, _-_, _^_, _≤_, _<_, min}
 use native.Mathlib.Omega.{arith}
 use lib.IntN.{ℤ, pos, natAbs}
 use lib.ListN.{length, getD}
-use borrow.Author.Tests.{le-leb}
+use borrow.Author.Tests.{le-leb, leb-true}
 use contract.Monad.{fact-mono}
 use Rattle.laws.specs.Chain.{units}
+use Rattle.laws.specs.Choose.{firstFail, passed}
 use Rattle.domain.specs.Facts.{Depth, at-depth, size-small}
 use Rattle.plan.specs.tiling.Tiling.{Covered, place}
 use Rattle.plan.specs.tiling.Cover.{area}
 use Rattle.plan.specs.tiling.Verdict.{Accepted}
 use Rattle.walk.specs.declared.checks.Still.{Still}
-use Rattle.samples.specs.deltas.Deltas.{residualOk}
-use Rattle.walk.specs.checks.Checks.{Tables, largestIn, every}
+use Rattle.samples.specs.deltas.Deltas.{residualOk, residualWithin}
+use Rattle.walk.specs.checks.Checks.{Tables, largestIn, every, residualChecks}
+use Rattle.walk.specs.checks.Laws.{all-within}
 use Rattle.walk.specs.block.Predicted.{sampleAt, predictedAt}
 use Rattle.walk.specs.block.Rebuilt.{replayUnit}
 use Rattle.walk.specs.block.Walked.{World, walkUnit}
@@ -30,8 +31,8 @@ use Rattle.promises.specs.demand3.Accept.{Walking, Replaying, walk-told,
 use Rattle.promises.specs.demand3.Range.{predicted-most}
 use Rattle.promises.specs.demand3.Gives.{walk-done, replay-done, walk-gave, replay-gave}
 use Rattle.promises.specs.demand3.Forms.{numbers-listed}
-use Rattle.promises.specs.demand3.Spots.{at, by-samples, every-of, most-at, less-small, in-block, part-of, spot, covered-in}
-use Rattle.promises.specs.demand3.Spots.{spot-of, spot-less, spot-predict}
+use Rattle.promises.specs.demand3.Spots.{at, by-samples, every-of, every-at, most-at, less-small, in-block, part-of, spot}
+use Rattle.promises.specs.demand3.Spots.{covered-in, spot-of, spot-less, spot-predict}
 use Rattle.promises.specs.demand3.Demand3.{LosslessWalk, Replayed, WalkDoes, ReplayDoes, Demand3}
 
 -- a walk of the whole picture
@@ -48,27 +49,55 @@ module _ (j : Task) (source : List ℕ) (w : World) (facts : Walking j source (f
   samples : (i : ℕ) → getD source i 0 ≤ largestIn s
   samples = most-at (largestIn s) source (facts .samples)
 
-  abbrev all : World
-  all = units (walkUnit s (blocks j) source) 0 (count j) w
+  abbrev upTo : ℕ → World
+  upTo k = units (walkUnit s (blocks j) source) 0 k w
 
-  -- the residuals keep their length, the work plane holds the source, and the residuals are the source less its prediction
+  abbrev all : World
+  all = upTo (count j)
+
+  -- after k blocks the residuals keep their length, the work plane holds the source, and the residuals are the source less its prediction
+  module _ (k : ℕ) (few : k ≤ count j) where
+    so-far : Whole s (upTo k .residuals)
+        × ((i : ℕ) (t : Sample s) → i < k → OfS s (blocks j) i t → look s (upTo k .work) t ≡ look s source t)
+        × ((i : ℕ) (t : Sample s) → i < k → OfS s (blocks j) i t → residual s (blocks j) (upTo k .residuals) i t
+        ≡ less (look s source t) (predict s (blocks j) i source t))
+    so-far =
+        let d = walks (replays s (blocks j) (count j) ok depth)
+        (sourced s (blocks j) (count j) ok depth source (facts .source-whole) (λ t. samples _))
+        (walks-plan s (blocks j) (count j) ok depth source)
+        k w few (facts .work-whole) (facts .residuals-whole) in
+        (d .resid-ok, d .holds, d .lossless)
+
+    module _ (i r c : ℕ) (l : i < k) (hr : r < blocks j i .side) (hc : c < blocks j i .side) where
+      abbrev original : ℕ
+      original = sampleAt s source (blocks j i .row + r) (blocks j i .col + c)
+
+      residual-to : residualAt j (upTo k .residuals) i r c ≡ less original (predictedAt s (blocks j i) source r c)
+      residual-to =
+          let m : i < count j = omega arith in
+          spot-less s (blocks j) (count j) ok i r c m hr hc _ (upTo k .residuals) source
+          (so-far .2 i (spot s (blocks j) (count j) ok i r c m hr hc) l (spot-of s (blocks j) (count j) ok i r c m hr hc))
+
+      -- a difference of two samples of the depth
+      small-to : natAbs (residualAt j (upTo k .residuals) i r c) ≤ largestIn s
+      small-to =
+          let m : i < count j = omega arith in
+          let a = predicted-most s (blocks j i) source depth (ok .plan-good .placed i m .size) (ok .modes i m) samples r c hr hc in
+          subst (λ (z : ℤ). natAbs z ≤ largestIn s) (sym residual-to) (less-small (largestIn s) original _ (samples _) a)
+
   told : Whole s (all .residuals)
       × ((i : ℕ) (t : Sample s) → i < count j → OfS s (blocks j) i t → look s (all .work) t ≡ look s source t)
       × ((i : ℕ) (t : Sample s) → i < count j → OfS s (blocks j) i t → residual s (blocks j) (all .residuals) i t
       ≡ less (look s source t) (predict s (blocks j) i source t))
-  told =
-      let d = walks (replays s (blocks j) (count j) ok depth)
-      (sourced s (blocks j) (count j) ok depth source (facts .source-whole) (λ t. samples _))
-      (walks-plan s (blocks j) (count j) ok depth source)
-      (count j) w (omega arith) (facts .work-whole) (facts .residuals-whole) in
-      (d .resid-ok, d .holds, d .lossless)
+  told = so-far (count j) (omega arith)
 
-  residual-is : (i r c : ℕ) → i < count j → r < blocks j i .side → c < blocks j i .side
-      → residualAt j (all .residuals) i r c ≡ less (sampleAt s source (blocks j i .row + r) (blocks j i .col + c))
-      (predictedAt s (blocks j i) source r c)
-  residual-is i r c l hr hc =
-      spot-less s (blocks j) (count j) ok i r c l hr hc _ (all .residuals) source
-      (told .2 i (spot s (blocks j) (count j) ok i r c l hr hc) l (spot-of s (blocks j) (count j) ok i r c l hr hc))
+  -- whatever is granted
+  small-written : (asks : List Ask) → Each Roomy asks → (i r c : ℕ) → i < min (granted asks) (count j) → r < blocks j i .side
+      → c < blocks j i .side → natAbs (residualAt j (calls (walkCall j source) (fresh w) asks .world .residuals) i r c) ≤ largestIn s
+  small-written asks room i r c l hr hc =
+      subst (λ (x : Held World). natAbs (residualAt j (x .world .residuals) i r c) ≤ largestIn s)
+      (sym (from-fresh (walk-steps j source) w asks facts room))
+      (small-to (min (granted asks) (count j)) (omega arith) i r c l hr hc)
 
   -- grants that reach the count walk it all
   calls-are : (asks : List Ask) → Each Roomy asks → count j ≤ granted asks → calls (walkCall j source) (fresh w) asks
@@ -83,7 +112,7 @@ module _ (j : Task) (source : List ℕ) (w : World) (facts : Walking j source (f
       (record {
         all-done = refl;
         long = told .0;
-        residuals = residual-is;
+        residuals = residual-to (count j) (omega arith);
         reconstructed = λ r c i. let v = ok .plan-good .all r c i in told .1 (v .0) (at r c i) (v .1) (v .2);
       })
 
@@ -97,28 +126,20 @@ module _ (j : Task) (source : List ℕ) (w : World) (facts : Walking j source (f
       (spot s (blocks j) (count j) ok k r c l hr hc) (spot-of s (blocks j) (count j) ok k r c l hr hc)
       ∙ spot-predict s (blocks j) (count j) ok k r c l hr hc other
 
-  -- every residual belongs to a block, so it is a difference of two samples of the depth
-  in-range : every residualOk (all .residuals) ≡ true
-  in-range = every-of residualOk (all .residuals) (pos 0) go
+  -- every residual belongs to a block
+  in-range : firstFail (residualChecks (largestIn s) (all .residuals)) ≡ 0
+  in-range = sym (all-within (largestIn s) small (all .residuals) (every-of (residualWithin (largestIn s)) (all .residuals) (pos 0) go))
     where
       small : largestIn s ≤ 65535
       small = at-depth (λ (k : ℕ). 2 ^ k - 1 ≤ 65535) (omega arith) (omega arith) (omega arith) (s .bits) depth
 
-      one : (i r c n : ℕ) → i < count j → r < blocks j i .side → c < blocks j i .side → n ≡ place (blocks j) i + r * blocks j i .side + c
-          → residualOk (getD (all .residuals) n (pos 0)) ≡ true
-      one i r c n l hr hc e =
-          let o = sampleAt s source (blocks j i .row + r) (blocks j i .col + c) in
-          let p = predictedAt s (blocks j i) source r c in
-          let a = predicted-most s (blocks j i) source depth (ok .plan-good .placed i l .size) (ok .modes i l) samples r c hr hc in
-          subst (λ (z : ℤ). residualOk z ≡ true) (sym (ap (λ (k : ℕ). getD (all .residuals) k (pos 0)) e ∙ residual-is i r c l hr hc))
-          (le-leb (natAbs (less o p)) 65535 (le-trans (less-small (largestIn s) o p (samples _) a) small))
-
-      go : (n : ℕ) → n < length (all .residuals) → residualOk (getD (all .residuals) n (pos 0)) ≡ true
+      go : (n : ℕ) → n < length (all .residuals) → residualWithin (largestIn s) (getD (all .residuals) n (pos 0)) ≡ true
       go n l =
           let p = part-of s (blocks j) (count j) n (omega (arith, told .0, area (ok .picture) (blocks j) (count j) (ok .plan-good))) in
           let some = size-small (blocks j (p .0) .side) (ok .plan-good .placed (p .0) (p .1) .size) in
           let q = in-block (blocks j (p .0) .side) (place (blocks j) (p .0)) n (omega arith) (p .2) (p .3) in
-          one (p .0) (q .0) (q .1) n (p .1) (q .2) (q .3) (q .4)
+          le-leb _ (largestIn s) (subst (λ (k : ℕ). natAbs (getD (all .residuals) k (pos 0)) ≤ largestIn s) (sym (q .4))
+          (small-to (count j) (omega arith) (p .0) (q .0) (q .1) (p .1) (q .2) (q .3)))
 
   module _ (plane : List ℕ) (long : Whole s plane) (again : List Ask) (room : Each Roomy again) where
     ready : Replaying j (all .residuals) (fresh plane)
@@ -165,6 +186,15 @@ module _ (j : Task) (source : List ℕ) (w : World) (facts : Walking j source (f
         × Replayed j source plane (min (granted again) (count j)) (calls (replayCall j (x .world .residuals)) (fresh plane) again))
         (sym (calls-are asks long-enough h)) (all-served (replay-steps j (all .residuals)) (fresh plane) again ready room, replay-back)
 
+-- residuals that replay takes
+small-taken : (j : Task) (residuals : List ℤ) (x : Held (List ℕ)) → Replaying j residuals x
+    → (i : ℕ) → natAbs (getD residuals i (pos 0)) ≤ largestIn (j .still)
+small-taken j residuals x f i =
+    let m = largestIn (j .still) in
+    let wide = passed (every residualOk residuals) _ 8 (omega arith) (f .in-range) in
+    let e = passed (every (residualWithin m) residuals) _ 14 (omega arith) (wide .1) .0 in
+    leb-true (natAbs (getD residuals i (pos 0))) m (every-at (residualWithin m) (pos 0) (le-leb 0 m (omega arith)) residuals e i)
+
 -- residuals that are not the walk's
 replay-altered : (j : Task) (residuals : List ℤ) (a b : List ℕ) (asks others : List Ask) (t : Tables)
     → Served (replayVerdictAt j residuals (fresh a) t) → Whole (j .still) b
@@ -204,6 +234,8 @@ demand-3 = record {
       ap (λ (x : Held World). calls (replayCall j (x .world .residuals)) (fresh plane) again .world)
       (calls-are j source w f asks (h .room) (h .enough))
       ∙ replay-same-all j source w f plane long again room k;
+  written = λ j source w asks t e room. small-written j source w (walk-told j source (fresh w) t e) asks room;
+  taken = λ j residuals x t e. small-taken j residuals x (replay-told j residuals x t e);
   altered = replay-altered;
   walk-split = λ j source x asks t room long. split (walk-steps j source) x asks (ask (granted asks) t) room long refl;
   replay-split = λ j residuals x asks t room long. split (replay-steps j residuals) x asks (ask (granted asks) t) room long refl;

@@ -11,13 +11,15 @@ use lib.ListN.{length}
 use mir.Syntax.{w32}
 use mir.Val.{SFits}
 use borrow.Author.Tests.{eq-eqb, le-leb, leb-true}
-use Rattle.laws.specs.Choose.{served, worked, unserved, both-same, both-true}
+use Rattle.laws.specs.Choose.{served, passed, worked, unserved, both-same, both-true}
 use Rattle.bytes.specs.Bytes.{samplesOf, bytesOf, residualsOf}
 use Rattle.bytes.specs.Laws.{length-samples, length-bytes, bytes-back}
 use Rattle.plan.specs.declared.tiling.Verdict.{Verdict}
 use Rattle.plan.specs.RecordPlan.{recordsOf}
 use Rattle.walk.specs.declared.Progress.{Progress}
 use Rattle.walk.specs.declared.Stepped.{Stepped}
+use Rattle.samples.specs.deltas.Deltas.{residualOk}
+use Rattle.walk.specs.checks.Checks.{every}
 use Rattle.walk.specs.block.Predicted.{sampleAt}
 use Rattle.walk.specs.block.Walked.{World}
 use Rattle.walk.specs.calls.Laws.{accepted-small}
@@ -243,7 +245,8 @@ in-range j source w asks all =
     let residuals = calls (walkCall j source) (fresh w) asks .world .residuals in
     let d = demand-3 .replay j source w asks all source (walk-told j source (fresh w) (all .tables) (all .served) .source-whole)
     (ask 0 scratchTables ∷ []) (refl, tt) in
-    in-words residuals (replay-told j residuals (fresh source) scratchTables (d .0 .0) .in-range)
+    in-words residuals (passed (every residualOk residuals) _ 8 (omega arith)
+    (replay-told j residuals (fresh source) scratchTables (d .0 .0) .in-range) .0)
 
 pub on-bytes : OnBytes
 on-bytes = record {

@@ -12,7 +12,7 @@ use lib.Dec.{leb}
 use lib.IntN.{ℤ, pos, natAbs, _-ℤ_}
 use lib.ListN.{length, getD}
 use lib.Seq.{ext-getD}
-use borrow.Author.Tests.{leb-true}
+use borrow.Author.Tests.{leb-true, le-leb}
 use Rattle.laws.specs.Choose.{both-true, both-same}
 use Rattle.laws.specs.Diff.{order}
 use Rattle.domain.specs.helpers.Ways.{apart-below, apart-above}
@@ -30,12 +30,15 @@ unfolding every
 every-of p [] z h = refl
 every-of p (x ∷ l) z h = both-same (h 0 (omega arith)) (every-of p l z (λ i m. h (suc i) (omega arith)))
 
--- past its end a list of samples reads 0
-pub most-at : (m : ℕ) (l : List ℕ) → every (λ v. leb v m) l ≡ true → (i : ℕ) → getD l i 0 ≤ m
+-- and back; past its end a list reads an entry that passes too
+pub every-at : {A : Type 0} (p : A → Bool) (z : A) → p z ≡ true → (l : List A) → every p l ≡ true → (i : ℕ) → p (getD l i z) ≡ true
 unfolding every
-most-at m [] e i = omega arith
-most-at m (x ∷ l) e zero = leb-true x m (both-true (leb x m) (every (λ v. leb v m) l) e .0)
-most-at m (x ∷ l) e (suc i) = most-at m l (both-true (leb x m) (every (λ v. leb v m) l) e .1) i
+every-at p z h [] e i = h
+every-at p z h (x ∷ l) e zero = both-true (p x) (every p l) e .0
+every-at p z h (x ∷ l) e (suc i) = every-at p z h l (both-true (p x) (every p l) e .1) i
+
+pub most-at : (m : ℕ) (l : List ℕ) → every (λ v. leb v m) l ≡ true → (i : ℕ) → getD l i 0 ≤ m
+most-at m l e i = leb-true (getD l i 0) m (every-at (λ (v : ℕ). leb v m) 0 (le-leb 0 m (omega arith)) l e i)
 
 -- a difference of two samples is no greater than the greater
 pub less-small : (m o p : ℕ) → o ≤ m → p ≤ m → natAbs (pos o -ℤ pos p) ≤ m

@@ -72,6 +72,8 @@ use Rattle.samples.proofs.filters.ramp.Reads as filters-ramp
 use Rattle.samples.proofs.filters.is_straight.Reads as filters-is-straight
 use Rattle.samples.proofs.deltas.less.Reads as deltas-less
 use Rattle.samples.proofs.deltas.restored.Reads as deltas-restored
+use Rattle.samples.proofs.deltas.raised.Reads as deltas-raised
+use Rattle.samples.proofs.deltas.residual_within.Reads as deltas-residual-within
 use Rattle.samples.proofs.deltas.residual_ok.Reads as deltas-residual-ok
 use Rattle.smooth.proofs.should_filter_refs.Reads as smooth-should-filter-refs
 use Rattle.smooth.proofs.filter_references.Reads as smooth-filter-references
@@ -355,6 +357,12 @@ deltas-less-once a x y s t p q = p ∙ sym q
 
 deltas-restored-once : Once (deltas-restored.Post tt)
 deltas-restored-once a x y s t p q = p ∙ sym q
+
+deltas-raised-once : Once (deltas-raised.Post tt)
+deltas-raised-once a x y s t p q = p ∙ sym q
+
+deltas-residual-within-once : Once (deltas-residual-within.Post tt)
+deltas-residual-within-once a x y s t p q = p ∙ sym q
 
 deltas-residual-ok-once : Once (deltas-residual-ok.Post tt)
 deltas-residual-ok-once a x y s t p q = p ∙ sym q

@@ -8,7 +8,6 @@ use mathlib.Core.Bool.{Bool}
 use mathlib.Core.List.{List, [], _∷_}
 use Prim.Native.Nat.{ℕ, _*_, _%_, _<_}
 use native.Mathlib.Omega.{arith}
-use lib.IntN.{pos, natAbs}
 use lib.ListN.{length}
 use Rattle.domain.specs.Facts.{Depth, Size}
 use Rattle.refs.specs.declared.LumaRefGeometry.{LumaRefGeometry}
@@ -28,7 +27,7 @@ use Rattle.promises.specs.tables.Exact.{_when_, _or_, Exact, ExactFirst,
 use Rattle.promises.specs.tables.Exact.{same}
 use Rattle.promises.specs.tables.Table.{BadPicture, depth, size, picture, lumaTable, luma-number, chromaTable, chroma-number}
 use Rattle.promises.specs.tables.Table.{angularTable, predictTable}
-use Rattle.promises.specs.run_tables.TableWalk.{about, done, Some, every-one, lastRows, last-first, number-exact}
+use Rattle.promises.specs.run_tables.TableWalk.{about, done, residualRows, residuals-first, number-exact}
 
 -- the gathers: a plane of another length, or a buffer for fewer than 131 samples, or twice that
 pub luma-refs : (plane : List ℕ) (g : LumaRefGeometry) (out : List ℕ)
@@ -92,8 +91,7 @@ pub replay : (s : Still) (p : Progress) (l : Lent)
     ((about 1 0 when ¬ Depth (s .bits)) ∷ (about 4 0 when BadPicture (pictureOf (s .frame)))
     ∷ (about 5 0 when (¬ (l .plane ≡ 2 * area)) or (¬ (length (l .residuals) ≡ 4 * area)) or (¬ (length (l .plan) % 6 ≡ 0)) or l .result <
     8)
-    ∷ (about 8 0 when Some (pos 0) (λ r. 65535 < natAbs r) (residualsOf (l .residuals)))
-    ∷ lastRows s (recordsOf (l .plan)) p)
+    ∷ residualRows s (recordsOf (l .plan)) p (residualsOf (l .residuals)))
 unfolding byteVerdict
 replay s p l =
     let area : ℕ = s .frame .height * s .frame .width in
@@ -103,5 +101,4 @@ replay s p l =
     (λ ok. first-row
     (all-of (all-of (all-of (same (l .plane) (2 * area)) (same (length (l .residuals)) (4 * area))) (same (length (l .plan) % 6) 0))
     (at-most 8 (l .result)))
-    (λ e. first-row (every-one (pos 0) (λ r. at-most (natAbs r) 65535) (residualsOf (l .residuals)))
-    (λ e. last-first s (recordsOf (l .plan)) p ok)))))
+    (λ e. residuals-first s (recordsOf (l .plan)) p (residualsOf (l .residuals)) ok))))

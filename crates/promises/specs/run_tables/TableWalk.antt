@@ -16,7 +16,7 @@ use lib.Dec.{leb, eqb}
 use lib.IntN.{ℤ, pos, natAbs}
 use lib.ListN.{length, getD}
 use borrow.Author.Tests.{eqb-true, eqb-false}
-use Rattle.laws.specs.Choose.{served, if-no}
+use Rattle.laws.specs.Choose.{firstFail, served, if-no}
 use Rattle.domain.specs.Facts.{Depth, Size}
 use Rattle.order.specs.Order.{pictureOk}
 use Rattle.plan.specs.declared.tiling.Frame.{Frame}
@@ -33,7 +33,7 @@ use Rattle.plan.specs.tiling.Verdict.{bad-block, bad-cover, told, verdict-good,
 use Rattle.walk.specs.declared.checks.Still.{Still}
 use Rattle.walk.specs.declared.Progress.{Progress}
 use Rattle.walk.specs.declared.Stepped.{Stepped}
-use Rattle.walk.specs.checks.Checks.{largestIn, every, isWhole, Tables, isRoomy, openingNo, settle}
+use Rattle.walk.specs.checks.Checks.{largestIn, every, isWhole, Tables, isRoomy, openingNo, residualChecks, settle}
 use Rattle.walk.specs.calls.Steps.{doingOf}
 use Rattle.walk.specs.block.Walked.{World}
 use Rattle.walk.specs.calls.Door.{verdictOf, replayVerdict, walkVerdict}
@@ -85,6 +85,13 @@ BadPlane s len = ¬ (len ≡ s .frame .height * s .frame .width)
 
 abbrev pub BadTables : Tables → Type 0
 BadTables t = t .refs < 193 or t .indices < 32 or t .fractions < 32
+
+-- number 8: a residual out of every range; number 14 (document 02): one larger than the depth's largest sample
+abbrev pub OutOfRange : List ℤ → Type 0
+OutOfRange v = Some (pos 0) (λ r. 65535 < natAbs r) v
+
+abbrev pub TooLarge : Still → List ℤ → Type 0
+TooLarge s v = Some (pos 0) (λ r. largestIn s < natAbs r) v
 
 -- the number and the block of a call's answer
 abbrev pub verdictIn : Stepped → Verdict
@@ -263,7 +270,7 @@ settled found count k early =
     third = about 11 0 when count < k
 
 -- a test of every entry
-pub every-one : {A : Type 0} (d : A) {test : A → Bool} {P : A → Type 0} → ((x : A) → Tells (test x) (P x)) → (l : List A)
+every-one : {A : Type 0} (d : A) {test : A → Bool} {P : A → Type 0} → ((x : A) → Tells (test x) (P x)) → (l : List A)
     → Tells (every test l) (Some d P l)
 unfolding every
 every-one d t [] = record { passed = λ e h. not-suc-le-zero (h .1 .0); failed = λ e. absurd (true≢false e) }
@@ -291,11 +298,21 @@ module _ (s : Still) (plan : Plan) (p : Progress) where
   abbrev pub from : ℕ → Verdict
   from early = cond (eqb early 0) (cond (eqb (blocksVerdict (s .frame) plan .no) 0) last (blocksVerdict (s .frame) plan)) (about early 0)
 
-  pub last-first : pictureOk (pictureOf (s .frame)) ≡ true → FirstBy done from 0 lastRows
+  last-first : pictureOk (pictureOf (s .frame)) ≡ true → FirstBy done from 0 lastRows
   last-first ok = record { first = blocks-first (s .frame) plan ok last _ (eleven .first) }
     where
       eleven : FirstBy done (λ (x : ℕ). about x 0) (cond (leb (p .done) (plan .count)) 0 11) ((about 11 0 when plan .count < p .done) ∷ [])
       eleven = first-row (at-most (p .done) (plan .count)) (λ e. record { first = refl })
+
+  -- the same of a replay: over all residuals 8, then 14
+  abbrev pub residualRows : List ℤ → List (Row Verdict)
+  residualRows v = (about 8 0 when OutOfRange v) ∷ (about 14 0 when TooLarge s v) ∷ lastRows
+
+  pub residuals-first : (v : List ℤ) → pictureOk (pictureOf (s .frame)) ≡ true
+      → FirstBy done from (firstFail (residualChecks (largestIn s) v)) (residualRows v)
+  residuals-first v ok =
+      first-row (every-one (pos 0) (λ r. at-most (natAbs r) 65535) v)
+      (λ e. first-row (every-one (pos 0) (λ r. at-most (natAbs r) (largestIn s)) v) (λ e. last-first ok))
 
   -- a verdict of number 0 names no block, so the answer holds the verdict
   names-none : (early : ℕ) → verdictOf s plan (p .done) early .no ≡ 0 → done ≡ verdictOf s plan (p .done) early
@@ -374,12 +391,11 @@ module _ (s : Still) (plan : Plan) (p : Progress) where
       → ExactFirst done (verdictIn (steppedBy (replayVerdict s plan t (p .done) (length plane) residuals) plan p grant))
       ((about 1 0 when ¬ Depth (s .bits)) ∷ (about 4 0 when BadPicture (pictureOf (s .frame)))
       ∷ (about 5 0 when Ragged plan or BadPlane s (length plane) or BadPlane s (length residuals) or BadTables t)
-      ∷ (about 8 0 when Some (pos 0) (λ r. 65535 < natAbs r) residuals)
-      ∷ lastRows)
+      ∷ residualRows residuals)
   unfolding replayVerdict
   replay t grant residuals plane =
       answer-exact _ grant _
       (first-row (depth (s .bits))
       (λ e. first-row (picture (pictureOf (s .frame)))
       (λ ok. first-row (all-of (all-of (all-of (ragged plan) (whole-plane (length plane))) (whole-plane (length residuals))) (tables t))
-      (λ e. first-row (every-one (pos 0) (λ r. at-most (natAbs r) 65535) residuals) (λ e. last-first ok)))))
+      (λ e. residuals-first residuals ok))))

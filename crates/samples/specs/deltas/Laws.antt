@@ -1,13 +1,13 @@
 -- The round trip of a residual, its range, and its sum with a sample as the machine has it. Assumes nothing.
-use mathlib.Core.Path.{_≡_, refl, sym, ap, _∙_}
-use mathlib.Core.Bool.{Bool, true, false, cond, _&&_, false≢true}
+use mathlib.Core.Path.{_≡_, refl, ap, _∙_}
+use mathlib.Core.Bool.{Bool, true, false, cond, false≢true}
 use mathlib.Core.Logic.{⊎-elim}
 use Prim.Native.Nat.{ℕ, suc, _+_, _-_, _≤_, _<_}
 use native.Mathlib.Nat.{min-eq-left}
 use native.Mathlib.Omega.{arith}
-use borrow.Author.Tests.{leb-true, leb-false, le-leb, lt-leb, ltb-true, ltb-false}
-use lib.Dec.{leb, ltb}
-use lib.Signed.{mag, ltZ, leZ}
+use borrow.Author.Tests.{le-leb, ltb-true, ltb-false}
+use lib.Dec.{ltb}
+use lib.Signed.{mag, ltZ}
 use lib.IntN.{ℤ, pos, negsuc, subℕ, _+ℤ_, _-ℤ_, +ℤ-comm, -ℤ-+ℤ-cancel}
 use Rattle.laws.specs.Diff.{order, sub-neg, sub-pos}
 use Rattle.domain.specs.helpers.Ways.{whole}
@@ -26,15 +26,6 @@ in-range-of o p h k =
     (λ l. rw (sub-neg o p l) (le-leb (suc (p - suc o)) 65535 (omega arith)))
     (λ l. rw (sub-pos o p l) (le-leb (o - p) 65535 (omega arith)))
     (order o p))
-
--- the range as the machine tests it
-pub range-is : (r : ℤ) → (leZ (negsuc 65534) r && leZ r (pos 65535)) ≡ residualOk r
-range-is (pos k) = refl
-range-is (negsuc k) = go (leb k 65534) refl
-  where
-    go : (b : Bool) → leb k 65534 ≡ b → (b && true) ≡ leb (suc k) 65535
-    go true e = let l = leb-true k 65534 e in sym (le-leb (suc k) 65535 (omega arith))
-    go false e = let l = leb-false k 65534 e in sym (lt-leb (suc k) 65535 (omega arith))
 
 -- a sum that fits, and is clipped as the sum with r is: t is r, but no more than 65535
 pub record Brought (r t : ℤ) : Type 0 where

@@ -19,7 +19,7 @@ use Rattle.walk.specs.block.Walked.{World, walkUnit}
 unfoldable pub verdictOf : Still → Plan → ℕ → ℕ → Verdict
 verdictOf s plan done early = settle (blocksVerdict (s .frame) plan) (plan .count) done early
 
--- Replay: 1, 4, 5, then 8 over every residual.
+-- Replay: 1, 4, 5, then 8 and 14 over every residual.
 unfoldable pub replayVerdict : Still → Plan → Tables → ℕ → ℕ → List ℤ → Verdict
 replayVerdict s plan t done plane residuals = verdictOf s plan done (replayNo s (plan .whole) t plane residuals)
 

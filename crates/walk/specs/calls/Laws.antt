@@ -6,12 +6,12 @@ use mathlib.Core.List.{List}
 use Prim.Native.Nat.{ℕ, _+_, _-_, _*_, _≤_, _<_}
 use native.Mathlib.Omega.{arith}
 use native.Mathlib.Decide.{ℕ-discrete}
-use lib.Dec.{leb, eqb}
+use lib.Dec.{eqb}
 use lib.ListN.{length}
 use lib.IntN.{ℤ}
 use borrow.Author.Tests.{eqb-true, ne-eqb}
 use Rattle.laws.specs.Chain.{units}
-use Rattle.laws.specs.Choose.{served, if-yes, if-no, passed, both-true, worked, unserved}
+use Rattle.laws.specs.Choose.{served, if-no, passed, both-true, worked, unserved}
 use Rattle.domain.specs.Domain.{depthOk}
 use Rattle.domain.specs.Facts.{size-small, depth-of}
 use Rattle.order.specs.Order.{pictureOk}
@@ -24,9 +24,9 @@ use Rattle.plan.specs.tiling.Ahead.{area-small}
 use Rattle.plan.specs.tiling.Cover.{area}
 use Rattle.plan.specs.tiling.PlanCheck.{blocksVerdict, planVerdict, blocks-alone}
 use Rattle.plan.specs.tiling.Verdict.{Accepted, verdict-good}
-use Rattle.samples.specs.deltas.Deltas.{residualOk}
 use Rattle.walk.specs.declared.checks.Still.{Still}
-use Rattle.walk.specs.checks.Checks.{largestIn, every, isWhole, Tables, isRoomy, replayFits, replayNo, walkFits, walkNo, settle}
+use Rattle.walk.specs.checks.Checks.{largestIn, isWhole, Tables, isRoomy, settle}
+use Rattle.walk.specs.checks.Checks.{residualChecks, replayFits, replayNo, sourceChecks, walkFits, walkNo}
 use Rattle.walk.specs.checks.Laws.{good-call, settle-zero}
 use Rattle.walk.specs.declared.calls.Step.{Step}
 use Rattle.walk.specs.calls.Steps.{doingOf, stepOf, refused-step, granted-step}
@@ -195,7 +195,7 @@ module _ (s : Still) (plan : Plan) (t : Tables) (done : ℕ) (v : List ℤ) (d :
   unfolding replayVerdict
   replay-settled found q = settle-is s plan done (replayNo s (plan .whole) t (length d) v) found (λ _. q)
       (λ z.
-      let g = good-call s (replayFits s (plan .whole) t (length d) (length v)) 8 (every residualOk v) z in
+      let g = good-call s (replayFits s (plan .whole) t (length d) (length v)) (residualChecks (largestIn s) v) z in
       (g .0, both-true _ _ (both-true _ _ (both-true _ _ (g .1) .0) .0) .0))
 
   module _ (grant upto : ℕ) (is : upto ≡ stepOf (replayVerdict s plan t done (length d) v) (plan .count) done grant .upto) where
@@ -220,8 +220,8 @@ module _ (s : Still) (plan : Plan) (t : Tables) (done : ℕ) (source : List ℕ)
   walk-settled found q =
       settle-is s plan done (walkNo s (plan .whole) t source (length (w .work)) (length (w .residuals))) found (λ _. q)
       (λ z.
-      let g = good-call s (walkFits s (plan .whole) t (length source) (length (w .work)) (length (w .residuals))) 7
-      (every (λ x. leb x (largestIn s)) source) z in
+      let g = good-call s (walkFits s (plan .whole) t (length source) (length (w .work)) (length (w .residuals)))
+      (sourceChecks (largestIn s) source) z in
       (g .0, both-true _ _ (both-true _ _ (both-true _ _ (both-true _ _ (g .1) .0) .0) .0) .0))
 
   module _ (grant upto : ℕ) (is : upto ≡ stepOf (walkVerdict s plan t done source w) (plan .count) done grant .upto) where

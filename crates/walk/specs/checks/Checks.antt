@@ -1,4 +1,4 @@
--- Document 01: what a call on a still refuses before it looks at blocks, in its order, and how the verdict on a plan goes on from
+-- Documents 01 and 02: what a call on a still refuses before it looks at blocks, in its order, and how the verdict on a plan goes on from
 -- there. Assumes nothing.
 use Prim.Native.Nat.{ℕ, _-_, _*_, _^_}
 use mathlib.Core.Bool.{Bool, true, cond, _&&_}
@@ -6,10 +6,10 @@ use mathlib.Core.List.{List, [], _∷_}
 use lib.Dec.{leb, eqb}
 use lib.IntN.{ℤ}
 use lib.ListN.{length}
-use Rattle.laws.specs.Choose.{_unless_, firstFail}
+use Rattle.laws.specs.Choose.{Check, _unless_, firstFail}
 use Rattle.domain.specs.Domain.{depthOk}
 use Rattle.order.specs.Order.{pictureOk}
-use Rattle.samples.specs.deltas.Deltas.{residualOk}
+use Rattle.samples.specs.deltas.Deltas.{residualOk, residualWithin}
 use Rattle.plan.specs.declared.tiling.Verdict.{Verdict}
 use Rattle.plan.specs.tiling.Tiling.{pictureOf}
 use Rattle.walk.specs.declared.checks.Still.{Still}
@@ -36,29 +36,37 @@ pub record Tables : Type 0 where
 abbrev pub isRoomy : Tables → Bool
 isRoomy t = leb 193 (t .refs) && leb 32 (t .indices) && leb 32 (t .fractions)
 
--- the numbers 1, 4, 5
+-- the number of the checks before the plan's: 1, 4, 5, then those of a list, in its order
+abbrev pub callNo : Still → Bool → List Check → ℕ
+callNo s fit later =
+    firstFail ((1 unless depthOk (s .bits)) ∷ (4 unless pictureOk (pictureOf (s .frame))) ∷ (5 unless fit) ∷ later)
+
 abbrev pub openingNo : Still → Bool → ℕ
-openingNo s fit = firstFail ((1 unless depthOk (s .bits)) ∷ (4 unless pictureOk (pictureOf (s .frame))) ∷ (5 unless fit) ∷ [])
+openingNo s fit = callNo s fit []
 
--- the number of the checks before the plan's: the last is number k
-abbrev pub callNo : Still → Bool → ℕ → Bool → ℕ
-callNo s fit k ok = firstFail ((1 unless depthOk (s .bits)) ∷ (4 unless pictureOk (pictureOf (s .frame))) ∷ (5 unless fit) ∷ (k unless ok)
-    ∷ [])
+-- Replay: after 5 come 8 over every residual, then document 02's 14, a residual larger than the depth's largest sample, over every one too.
+abbrev pub residualChecks : ℕ → List ℤ → List Check
+residualChecks largest residuals =
+    (8 unless every residualOk residuals) ∷ (14 unless every (residualWithin largest) residuals) ∷ []
 
--- Replay: 1, 4, 5, then 8 over every residual. `records` says whether the plan is of whole records.
+-- `records` says whether the plan is of whole records
 abbrev pub replayFits : Still → Bool → Tables → ℕ → ℕ → Bool
 replayFits s records t plane residuals = records && isWhole s plane && isWhole s residuals && isRoomy t
 
 abbrev pub replayNo : Still → Bool → Tables → ℕ → List ℤ → ℕ
-replayNo s records t plane residuals = callNo s (replayFits s records t plane (length residuals)) 8 (every residualOk residuals)
+replayNo s records t plane residuals =
+    callNo s (replayFits s records t plane (length residuals)) (residualChecks (largestIn s) residuals)
 
--- Walk: 1, 4, 5, then 7 over every source sample.
+-- Walk: after 5 comes 7 over every source sample.
+abbrev pub sourceChecks : ℕ → List ℕ → List Check
+sourceChecks largest source = (7 unless every (λ v. leb v largest) source) ∷ []
+
 abbrev pub walkFits : Still → Bool → Tables → ℕ → ℕ → ℕ → Bool
 walkFits s records t source work residuals = records && isWhole s source && isWhole s work && isWhole s residuals && isRoomy t
 
 abbrev pub walkNo : Still → Bool → Tables → List ℕ → ℕ → ℕ → ℕ
-walkNo s records t source work residuals = callNo s (walkFits s records t (length source) work residuals) 7
-    (every (λ v. leb v (largestIn s)) source)
+walkNo s records t source work residuals =
+    callNo s (walkFits s records t (length source) work residuals) (sourceChecks (largestIn s) source)
 
 -- the verdict on a call: `early` is the number of the checks before the plan's and `found` the plan's verdict, then comes number 11
 unfoldable pub settle : Verdict → ℕ → ℕ → ℕ → Verdict

@@ -1,11 +1,10 @@
--- `checks::replay_no` meets its contract. Numbers 1, 4 and 5, then 8. Assumes nothing.
+-- `checks::replay_no` meets its contract. Numbers 1, 4 and 5, then 8 and 14. Assumes nothing.
 use mathlib.Core.Path.{refl, sym, ap, _∙_}
-use mathlib.Core.Bool.{true, false}
+use Prim.Native.Nat.{ℕ}
 use lib.ListN.{length}
 use Rattle.laws.specs.Choose.{both-same}
-use Rattle.samples.specs.deltas.Deltas.{residualOk}
-use Rattle.walk.specs.checks.Checks.{every, openingNo, replayFits}
-use Rattle.walk.specs.checks.Laws.{opening-stops, opening-goes}
+use Rattle.walk.specs.checks.Checks.{largestIn, openingNo, residualChecks, replayFits}
+use Rattle.walk.specs.checks.Laws.{opening-stops, opening-ends}
 use borrow.Author.Needs.{needs}
 use Rattle.walk.proofs.checks.replay_no.Statement.{statement}
 use Rattle.walk.proofs.checks.replay_no.Tie as tie
@@ -25,23 +24,23 @@ opening-no-requires c κs = search needs
 returns : tie.Need-returns
 returns c =
     let a = c .before .before .before .before .before .args in
+    let fits = replayFits (a .s) (a .records) (record { refs = a .refs; indices = a .indices; fractions = a .fractions }) (a .plane) (length (a .residuals .now)) in
     let e = c .before .opening-no .ensures ∙ ap (openingNo (a .s)) (both-same (both-same (both-same {a = a .records} refl (c .before .before .before .before .is-whole .ensures)) (c .before .before .before .is-whole2 .ensures)) (c .before .before .is-roomy .ensures)) in
-    e ∙ opening-stops (a .s) (replayFits (a .s) (a .records) (record { refs = a .refs; indices = a .indices; fractions = a .fractions }) (a .plane) (length (a .residuals .now))) 8 (every residualOk (a .residuals .now)) (λ z. c .if1 .taken (e ∙ z))
+    e ∙ opening-stops (a .s) fits (residualChecks (largestIn (a .s)) (a .residuals .now)) (λ z. c .if1 .taken (e ∙ z))
 
-residuals-ok-requires : tie.Need-residuals-ok-requires
-residuals-ok-requires c κs = search needs
+largest-of-requires : tie.Need-largest-of-requires
+largest-of-requires c κs = search needs
+
+residuals-no-requires : tie.Need-residuals-no-requires
+residuals-no-requires c κs = search needs
 
 returns-2 : tie.Need-returns-2
 returns-2 c =
-    let a = c .before .before .before .before .before .before .before .args in
-    let e = c .before .before .before .opening-no .ensures ∙ ap (openingNo (a .s)) (both-same (both-same (both-same {a = a .records} refl (c .before .before .before .before .before .before .is-whole .ensures)) (c .before .before .before .before .before .is-whole2 .ensures)) (c .before .before .before .before .is-roomy .ensures)) in
-    opening-goes (a .s) (replayFits (a .s) (a .records) (record { refs = a .refs; indices = a .indices; fractions = a .fractions }) (a .plane) (length (a .residuals .now))) 8 (every residualOk (a .residuals .now)) true (sym e ∙ c .before .before .if1 .left) (sym (c .before .residuals-ok .ensures) ∙ c .if2 .taken)
-
-returns-3 : tie.Need-returns-3
-returns-3 c =
-    let a = c .before .before .before .before .before .before .before .args in
-    let e = c .before .before .before .opening-no .ensures ∙ ap (openingNo (a .s)) (both-same (both-same (both-same {a = a .records} refl (c .before .before .before .before .before .before .is-whole .ensures)) (c .before .before .before .before .before .is-whole2 .ensures)) (c .before .before .before .before .is-roomy .ensures)) in
-    opening-goes (a .s) (replayFits (a .s) (a .records) (record { refs = a .refs; indices = a .indices; fractions = a .fractions }) (a .plane) (length (a .residuals .now))) 8 (every residualOk (a .residuals .now)) false (sym e ∙ c .before .before .if1 .left) (sym (c .before .residuals-ok .ensures) ∙ c .if2 .left)
+    let o = c .before .before .before in
+    let a = o .before .before .before .before .args in
+    let fits = replayFits (a .s) (a .records) (record { refs = a .refs; indices = a .indices; fractions = a .fractions }) (a .plane) (length (a .residuals .now)) in
+    let e = o .opening-no .ensures ∙ ap (openingNo (a .s)) (both-same (both-same (both-same {a = a .records} refl (o .before .before .before .is-whole .ensures)) (o .before .before .is-whole2 .ensures)) (o .before .is-roomy .ensures)) in
+    opening-ends (a .s) fits (λ (m : ℕ). residualChecks m (a .residuals .now)) (sym e ∙ c .before .before .if1 .left) (c .before .largest-of .ensures) (c .residuals-no .ensures)
 
 pub replay-no-spec : {M : Type 1} → statement M
 replay-no-spec = tie.close (tie.spec
@@ -50,6 +49,6 @@ replay-no-spec = tie.close (tie.spec
     is-roomy-requires
     opening-no-requires
     returns
-    residuals-ok-requires
-    returns-2
-    returns-3)
+    largest-of-requires
+    residuals-no-requires
+    returns-2)

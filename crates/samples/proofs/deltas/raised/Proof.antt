@@ -1,10 +1,10 @@
--- `residual::raised` meets its contract: the sum is made in 64 bits, where it fits. Assumes nothing.
+-- `deltas::raised` meets its contract: the sum is made in 64 bits, where it fits. Assumes nothing.
 use mathlib.Core.Path.{refl}
 use mir.Syntax.{w32, w64}
 use mir.Facts.{toZ-ofZ}
-use Rattle.residual.specs.Narrow.{wide-fits, sum-fits, sum-gives, raise-fits}
-use Rattle.residual.proofs.raised.Statement.{statement}
-use Rattle.residual.proofs.raised.Tie as tie
+use Rattle.samples.specs.deltas.Raised.{wide-fits, sum-fits, sum-gives, raise-fits}
+use Rattle.samples.proofs.deltas.raised.Statement.{statement}
+use Rattle.samples.proofs.deltas.raised.Tie as tie
 
 cast-result : tie.Need-cast-result
 cast-result c = rw (toZ-ofZ {w = w32} (c .fits .r)) (wide-fits (c .args .r) (c .fits .r))
