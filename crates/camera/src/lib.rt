@@ -55,7 +55,8 @@ pub extern "C" fn salvrunde_luma_refs(
 }
 
 // The reference rows of a chroma block, out of the planes of Cb and of Cr: Cb's corner, above and left in the first 262 bytes of `out`,
-// Cr's in the next 262. The format is a chroma_format_idc; the current place is in luma samples. Numbers 1, 2, 4, 5, 6.
+// Cr's in the next 262. The format is a chroma_format_idc; the current place is in luma samples. Numbers 1, 2, 4, 5, 6. Its name says that
+// it takes the CTU: a caller of the entry that did not cannot be linked to it.
 #[no_mangle]
 pub extern "C" fn salvrunde_chroma_refs_ctu(
     bits: u32,

@@ -79,8 +79,8 @@ lumaRows plane g =
 unfoldable pub getReferenceSamples : List ℕ → LumaRefGeometry → Gathered
 getReferenceSamples plane g = let k = lumaNo (length plane) g in record { no = k; rows = served k (lumaRows plane g) (levelRows 0) }
 
--- The chroma pair gather refuses 1, 2, 4, 5, 6. Order is counted in the picture's CTUs; formats go by chroma_format_idc, and an unknown one is
--- refused as monochrome is.
+-- The chroma pair gather refuses 1, 2, 4, 5, 6. Order is counted in the picture's CTUs; formats go by chroma_format_idc, and an unknown
+-- one is refused as monochrome is.
 abbrev pub formatIn : FormatFrom → ChromaFormat
 formatIn (Format f) = f
 formatIn Unknown = Monochrome

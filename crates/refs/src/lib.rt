@@ -42,7 +42,7 @@ pub struct LumaRefGeometry {
     pub n: usize,
 }
 
-// A chroma block in its picture, and the luma place that is being decoded; the format is a chroma_format_idc, the CTU the picture's own.
+// A chroma block in its picture, and the luma place that is being decoded; the format is a chroma_format_idc.
 pub struct ChromaRefGeometry {
     pub bits: u32,
     pub format: u32,

@@ -1,6 +1,6 @@
--- The gathers of document 01 against H.265 6.4.1 and 8.4.4.2.2: for a luma call that is not refused, and for a chroma call at its block's own
--- place too, the two agree on all the neighbours that the standard has, so what entry 2n of a row holds matters to no other entry. One
--- theorem over any component, gathered-standard; luma-standard and chroma-standard are its instances. Assumes nothing.
+-- The gathers of document 01 against H.265 6.4.1 and 8.4.4.2.2: for a luma call that is not refused, and for a chroma call at its block's
+-- own place too, the two agree on all the neighbours that the standard has, so what entry 2n of a row holds matters to no other entry.
+-- One theorem over any component, gathered-standard; luma-standard and chroma-standard are its instances. Assumes nothing.
 use mathlib.Core.Path.{_≡_, refl, sym, ap, ap₂, _∙_, subst}
 use mathlib.Core.Bool.{Bool, true, false, cond, false≢true}
 use mathlib.Core.List.{List}
@@ -285,7 +285,8 @@ module _ {g : Grid} {c : Component} {row col n height width : ℕ} {has : ℤ �
   }
 
   -- the rows gathered by it are the neighbours of 6.4.1 and 8.4.4.2.2
-  pub gathered-standard : Agree n (neighboursOf (gatheredBy has sample row col n (neutralAt (c .bits)))) (neighbours g c n col row (λ x y. sample y x))
+  pub gathered-standard : Agree n (neighboursOf (gatheredBy has sample row col n (neutralAt (c .bits))))
+      (neighbours g c n col row (λ x y. sample y x))
   unfolding gatheredBy neighbours
   gathered-standard =
       substituted-standard n flags rows size (record { above = filled-length _ (2 * n + 1); left = filled-length _ (2 * n + 1) }) closed
