@@ -63,13 +63,19 @@ enum {
 uint32_t salvrunde_luma_refs(uint32_t bits, uint32_t width, uint32_t height, uint32_t ctu, uint32_t unit, uint32_t row, uint32_t col,
                              uint32_t n, const uint8_t *plane, size_t plane_bytes, uint8_t *out, size_t out_bytes);
 
-/* The reference rows of a chroma block in both planes. Order is counted in CTUs of 64.
- * format: a chroma_format_idc. luma_width, luma_height: the luma picture's sides. row, col: the block's first sample in its plane.
- * cur_luma_row, cur_luma_col: the luma sample that is being decoded. cb, cr: each exactly 2 bytes a sample of its plane.
- * out: at least SALVRUNDE_PAIR_BYTES, which are written, Cb's rows first. Numbers 1, 2, 4, 5, 6. */
-uint32_t salvrunde_chroma_refs(uint32_t bits, uint32_t format, uint32_t luma_width, uint32_t luma_height, uint32_t unit, uint32_t row,
-                               uint32_t col, uint32_t n, uint32_t cur_luma_row, uint32_t cur_luma_col, const uint8_t *cb, size_t cb_bytes,
-                               const uint8_t *cr, size_t cr_bytes, uint8_t *out, size_t out_bytes);
+/* The reference rows of a chroma block in both planes, neighbours that are missing substituted.
+ * format: a chroma_format_idc. luma_width, luma_height: the luma picture's sides. ctu: the picture's own, 16, 32 or 64. unit: the least
+ * unit, 4 or 8, in luma samples. row, col: the block's first sample in its plane, multiples of n; n is at most ctu, or ctu / 2 where the
+ * format halves the width. cur_luma_row, cur_luma_col: the luma sample that is being decoded. Where it is the block's own, row and col
+ * times the subsampling of height and width, and unit is at most n times that of the width, the neighbours are H.265's.
+ * cb, cr: each exactly 2 bytes a sample of its plane. out: at least SALVRUNDE_PAIR_BYTES, which are written, Cb's rows first.
+ * Numbers 1, 2, 4, 5, 6.
+ * Until it took ctu this entry was salvrunde_chroma_refs, which counted order in CTUs of 64. It has another name so that a program
+ * compiled for that one is not linked to it; pass ctu = 64 to keep its answers. */
+uint32_t salvrunde_chroma_refs_ctu(uint32_t bits, uint32_t format, uint32_t luma_width, uint32_t luma_height, uint32_t ctu, uint32_t unit,
+                                   uint32_t row, uint32_t col, uint32_t n, uint32_t cur_luma_row, uint32_t cur_luma_col,
+                                   const uint8_t *cb, size_t cb_bytes, const uint8_t *cr, size_t cr_bytes, uint8_t *out,
+                                   size_t out_bytes);
 
 /* Prediction: above and left have at least SALVRUNDE_ROW_BYTES(n) each; out has at least SALVRUNDE_BLOCK_BYTES(n), which are written, the
  * block's samples row by row. edge: not 0 where edges are to be filtered, as for luma; a block of side 32 has no filtered edge.

@@ -17,8 +17,8 @@ struct step { uint32_t no, block, did, done; };
 struct references *salvrunde_probe_get_reference_samples(struct references *out, const uint16_t *plane, size_t plane_length, uint32_t bits,
     uint32_t width, uint32_t height, uint32_t ctu, uint32_t unit, uint32_t row, uint32_t col, size_t n);
 struct pair_references *salvrunde_probe_get_reference_samples_chroma_pair(struct pair_references *out, const uint16_t *cb, size_t cb_length,
-    const uint16_t *cr, size_t cr_length, uint32_t bits, uint32_t format, uint32_t luma_w, uint32_t luma_h, uint32_t min_luma_pu, uint32_t row,
-    uint32_t col, size_t n, uint32_t cur_row, uint32_t cur_col);
+    const uint16_t *cr, size_t cr_length, uint32_t bits, uint32_t format, uint32_t luma_w, uint32_t luma_h, uint32_t ctu, uint32_t min_luma_pu,
+    uint32_t row, uint32_t col, size_t n, uint32_t cur_row, uint32_t cur_col);
 uint32_t salvrunde_probe_predict_planar_into(const uint16_t *above, size_t above_length, const uint16_t *left, size_t left_length,
     size_t n, uint16_t *pred, size_t pred_length);
 uint32_t salvrunde_probe_predict_dc_into(const uint16_t *above, size_t above_length, const uint16_t *left, size_t left_length,
@@ -219,7 +219,7 @@ static void luma(void) {
 
 static void chroma(void) {
     uint32_t bits = some_bits(), format = chance(14) ? 1 + chance(3) : chance(6), width = some_length(), height = some_length();
-    uint32_t unit = chance(14) ? 4u << chance(2) : chance(20), n = some_side();
+    uint32_t ctu = some_ctu(), unit = chance(14) ? 4u << chance(2) : chance(20), n = some_side();
     uint32_t across = format == 1 || format == 2 ? 2 : 1, down = format == 1 ? 2 : 1, no, wanted;
     uint32_t row = n * chance(height / 4 + 1) + !chance(15), col = n * chance(width / 4 + 1) + !chance(15);
     uint32_t cur_row = chance(8) ? row * down : chance(height + 8), cur_col = chance(8) ? col * across : chance(width + 8);
@@ -228,9 +228,10 @@ static void chroma(void) {
     uint16_t *cb = decoded(&b, samples), *cr = decoded(&r, samples);
     uint8_t bytes[524];
     struct pair_references door;
-    salvrunde_probe_get_reference_samples_chroma_pair(&door, cb, samples, cr, samples, bits, format, width, height, unit,
+    salvrunde_probe_get_reference_samples_chroma_pair(&door, cb, samples, cr, samples, bits, format, width, height, ctu, unit,
         row, col, n, cur_row, cur_col);
-    no = salvrunde_chroma_refs(bits, format, width, height, unit, row, col, n, cur_row, cur_col, b.bytes, b.length, r.bytes, r.length, o.bytes, o.length);
+    no = salvrunde_chroma_refs_ctu(bits, format, width, height, ctu, unit, row, col, n, cur_row, cur_col, b.bytes, b.length, r.bytes, r.length,
+        o.bytes, o.length);
     calls++;
     wanted = with_5(door.no, b.length == 2 * samples && r.length == 2 * samples && o.length >= 524);
     if (no != wanted) fail("chroma refs", "number", no, wanted);

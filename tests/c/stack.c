@@ -36,7 +36,8 @@ static uint32_t side, mode;
 static uint32_t nothing(void) { return 0; }
 static uint32_t luma(void) { return salvrunde_luma_refs(8, WIDTH, HEIGHT, 64, 4, 32, 32, side, plane, sizeof plane, rows, sizeof rows); }
 static uint32_t chroma(void) {
-    return salvrunde_chroma_refs(8, 3, WIDTH, HEIGHT, 4, 32, 32, side, 32, 32, plane, sizeof plane, other, sizeof other, rows, sizeof rows);
+    return salvrunde_chroma_refs_ctu(8, 3, WIDTH, HEIGHT, 64, 4, 32, 32, side, 32, 32, plane, sizeof plane, other, sizeof other, rows,
+        sizeof rows);
 }
 /* rows are as short as they may be */
 #define ROW SALVRUNDE_ROW_BYTES(side)

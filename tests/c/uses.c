@@ -31,9 +31,12 @@ int main(void) {
     HOLDS(salvrunde_luma_refs(10, 16, 12, 16, 4, 8, 8, 8, plane, sizeof plane, refs, sizeof refs) == SALVRUNDE_PICTURE);
     HOLDS(salvrunde_luma_refs(10, 16, 16, 16, 4, 8, 7, 8, plane, sizeof plane, refs, 261) == SALVRUNDE_BUFFER);
     HOLDS(salvrunde_luma_refs(10, 16, 16, 16, 4, 8, 7, 8, plane, sizeof plane, refs, sizeof refs) == SALVRUNDE_PLACE);
-    HOLDS(salvrunde_chroma_refs(10, SALVRUNDE_YUV420, 16, 16, 4, 4, 4, 4, 8, 8, cb, sizeof cb, cr, sizeof cr, pair, sizeof pair) == SALVRUNDE_DONE);
+    HOLDS(salvrunde_chroma_refs_ctu(10, SALVRUNDE_YUV420, 16, 16, 16, 4, 4, 4, 4, 8, 8, cb, sizeof cb, cr, sizeof cr, pair, sizeof pair) == SALVRUNDE_DONE);
     HOLDS(sample(pair, 0) == 300 && sample(pair, 131) == 700 && sample(pair, 262) == 9);
-    HOLDS(salvrunde_chroma_refs(10, 4, 16, 16, 4, 4, 4, 4, 8, 8, cb, sizeof cb, cr, sizeof cr, pair, sizeof pair) == SALVRUNDE_PICTURE);
+    HOLDS(salvrunde_chroma_refs_ctu(10, 4, 16, 16, 16, 4, 4, 4, 4, 8, 8, cb, sizeof cb, cr, sizeof cr, pair, sizeof pair) == SALVRUNDE_PICTURE);
+    /* the picture's own CTU: 8 is none, and a block of 16 is above a CTU of 16 whose chroma is half as wide */
+    HOLDS(salvrunde_chroma_refs_ctu(10, SALVRUNDE_YUV420, 16, 16, 8, 4, 4, 4, 4, 8, 8, cb, sizeof cb, cr, sizeof cr, pair, sizeof pair) == SALVRUNDE_PICTURE);
+    HOLDS(salvrunde_chroma_refs_ctu(10, SALVRUNDE_YUV420, 16, 16, 16, 4, 0, 0, 16, 0, 0, cb, sizeof cb, cr, sizeof cr, pair, sizeof pair) == SALVRUNDE_PLACE);
 
     /* prediction from rows that are all 1000 */
     HOLDS(salvrunde_planar(8, above, SALVRUNDE_ROW_BYTES(8), left, SALVRUNDE_ROW_BYTES(8), block, sizeof block) == SALVRUNDE_DONE && sample(block, 63) == 1000);

@@ -55,13 +55,15 @@ pub extern "C" fn salvrunde_luma_refs(
 }
 
 // The reference rows of a chroma block, out of the planes of Cb and of Cr: Cb's corner, above and left in the first 262 bytes of `out`,
-// Cr's in the next 262. The format is a chroma_format_idc; the current place is in luma samples. Numbers 1, 2, 4, 5, 6.
+// Cr's in the next 262. The format is a chroma_format_idc; the current place is in luma samples. Numbers 1, 2, 4, 5, 6. Its name says that
+// it takes the CTU: a caller of the entry that did not cannot be linked to it.
 #[no_mangle]
-pub extern "C" fn salvrunde_chroma_refs(
+pub extern "C" fn salvrunde_chroma_refs_ctu(
     bits: u32,
     format: u32,
     luma_width: u32,
     luma_height: u32,
+    ctu: u32,
     unit: u32,
     row: u32,
     col: u32,
@@ -73,13 +75,14 @@ pub extern "C" fn salvrunde_chroma_refs(
     out: &mut [u8],
 ) -> u32
     ensures { λ r. ⌜ wrote r (now (out .exit)) ≡ chromaEntry (now (cb .entry)) (now (cr .entry)) (chromaGeometry bits
-        format «luma_width» «luma_height» unit row col n «cur_luma_row» «cur_luma_col») (now (out .entry)) ⌝ }
+        format «luma_width» «luma_height» ctu unit row col n «cur_luma_row» «cur_luma_col») (now (out .entry)) ⌝ }
 {
     let geo = ChromaRefGeometry {
         bits,
         format,
         luma_w: luma_width,
         luma_h: luma_height,
+        ctu,
         min_luma_pu: unit,
         block_row: ChromaRow(row),
         block_col: ChromaCol(col),

@@ -363,6 +363,7 @@ pub extern "C" fn salvrunde_probe_get_reference_samples_chroma_pair(
     format: u32,
     luma_w: u32,
     luma_h: u32,
+    ctu: u32,
     min_luma_pu: u32,
     row: u32,
     col: u32,
@@ -371,13 +372,14 @@ pub extern "C" fn salvrunde_probe_get_reference_samples_chroma_pair(
     cur_col: u32,
 ) -> PairReferences
     ensures { λ r. ⌜ r ≡ pairAnswer (now («plane_cb» .entry)) (now («plane_cr» .entry))
-        (chromaGeometry bits format «luma_w» «luma_h» «min_luma_pu» row col n «cur_row» «cur_col») ⌝ }
+        (chromaGeometry bits format «luma_w» «luma_h» ctu «min_luma_pu» row col n «cur_row» «cur_col») ⌝ }
 {
     let geo = ChromaRefGeometry {
         bits,
         format,
         luma_w,
         luma_h,
+        ctu,
         min_luma_pu,
         block_row: ChromaRow(row),
         block_col: ChromaCol(col),

@@ -48,7 +48,7 @@ use Rattle.promises.specs.run_tables.TableBytes as bytes
 use Rattle.promises.specs.run_tables.TableProgram.{ProgramTable, program}
 use Rattle.camera.proofs.salvrunde_angular.Reads as camera-salvrunde-angular
 use Rattle.camera.proofs.salvrunde_chroma_block.Reads as camera-salvrunde-chroma-block
-use Rattle.camera.proofs.salvrunde_chroma_refs.Reads as camera-salvrunde-chroma-refs
+use Rattle.camera.proofs.salvrunde_chroma_refs_ctu.Reads as camera-salvrunde-chroma-refs-ctu
 use Rattle.camera.proofs.salvrunde_dc.Reads as camera-salvrunde-dc
 use Rattle.camera.proofs.salvrunde_luma_refs.Reads as camera-salvrunde-luma-refs
 use Rattle.camera.proofs.salvrunde_planar.Reads as camera-salvrunde-planar
@@ -298,12 +298,12 @@ camera-salvrunde-luma-refs-row : (κs : Lfts 2)
     (c .1 .0)))
 camera-salvrunde-luma-refs-row κs = tabled (λ a x s p. ap (λ (w : Written). w .number) p)
 
-camera-salvrunde-chroma-refs-row : (κs : Lfts 3)
-    → Tabled (camera-salvrunde-chroma-refs.Post κs) (λ r. r)
+camera-salvrunde-chroma-refs-ctu-row : (κs : Lfts 3)
+    → Tabled (camera-salvrunde-chroma-refs-ctu.Post κs) (λ r. r)
     (λ a. let b = a .1 .1 .1 .1 in let c = b .1 .1 .1 .1 in let d = c .1 .1 .1 .1 in
-    chroma-refs (now (c .1 .1 .0)) (now (c .1 .1 .1 .0)) (chromaGeometry (a .0) (a .1 .0) (a .1 .1 .0) (a .1 .1 .1 .0) (b .0) (b .1 .0)
-    (b .1 .1 .0) (b .1 .1 .1 .0) (c .0) (c .1 .0)) (now (d .0)))
-camera-salvrunde-chroma-refs-row κs = tabled (λ a x s p. ap (λ (w : Written). w .number) p)
+    chroma-refs (now (c .1 .1 .1 .0)) (now (d .0)) (chromaGeometry (a .0) (a .1 .0) (a .1 .1 .0) (a .1 .1 .1 .0) (b .0) (b .1 .0)
+    (b .1 .1 .0) (b .1 .1 .1 .0) (c .0) (c .1 .0) (c .1 .1 .0)) (now (d .1 .0)))
+camera-salvrunde-chroma-refs-ctu-row κs = tabled (λ a x s p. ap (λ (w : Written). w .number) p)
 
 camera-salvrunde-planar-row : (κs : Lfts 3)
     → Tabled (camera-salvrunde-planar.Post κs) (λ r. r) (λ a. planar (a .0) (now (a .1 .0)) (now (a .1 .1 .0)) (now (a .1 .1 .1 .0)))
@@ -395,9 +395,9 @@ probes-salvrunde-probe-get-reference-samples-row κs = tabled (λ a x s p. ap (�
 
 probes-salvrunde-probe-get-reference-samples-chroma-pair-row : (κs : Lfts 2)
     → Tabled (probes-salvrunde-probe-get-reference-samples-chroma-pair.Post κs) (λ r. r .no)
-    (λ a. let b = a .1 .1 .1 .1 in let c = b .1 .1 .1 .1 in
+    (λ a. let b = a .1 .1 .1 .1 in let c = b .1 .1 .1 .1 in let d = c .1 .1 .1 .1 in
     chroma-gather (now (a .0)) (now (a .1 .0)) (chromaGeometry (a .1 .1 .0) (a .1 .1 .1 .0) (b .0) (b .1 .0) (b .1 .1 .0) (b .1 .1 .1 .0)
-    (c .0) (c .1 .0) (c .1 .1 .0) (c .1 .1 .1 .0)))
+    (c .0) (c .1 .0) (c .1 .1 .0) (c .1 .1 .1 .0) (d .0)))
 probes-salvrunde-probe-get-reference-samples-chroma-pair-row κs = tabled (λ a x s p. ap (λ r. r .no) p)
 
 predict-probes-salvrunde-probe-predict-planar-into-row : (κs : Lfts 3)

@@ -36,13 +36,14 @@ lumaGeometry bits width height ctu unit row col n =
       n = n;
     }
 
-abbrev pub chromaGeometry : ℕ → ℕ → ℕ → ℕ → ℕ → ℕ → ℕ → ℕ → ℕ → ℕ → ChromaRefGeometry
-chromaGeometry bits format width height unit row col n curRow curCol =
+abbrev pub chromaGeometry : ℕ → ℕ → ℕ → ℕ → ℕ → ℕ → ℕ → ℕ → ℕ → ℕ → ℕ → ChromaRefGeometry
+chromaGeometry bits format width height ctu unit row col n curRow curCol =
     record {
       bits = bits;
       format = format;
       «luma_w» = width;
       «luma_h» = height;
+      ctu = ctu;
       «min_luma_pu» = unit;
       «block_row» = record { 0 = row };
       «block_col» = record { 0 = col };
@@ -78,11 +79,8 @@ lumaRows plane g =
 unfoldable pub getReferenceSamples : List ℕ → LumaRefGeometry → Gathered
 getReferenceSamples plane g = let k = lumaNo (length plane) g in record { no = k; rows = served k (lumaRows plane g) (levelRows 0) }
 
--- The chroma pair gather refuses 1, 2, 4, 5, 6. Order is counted in CTUs of 64; formats go by chroma_format_idc.
-abbrev pub chromaCtu : ℕ
-chromaCtu = 64
-
--- an unknown one is refused as monochrome is
+-- The chroma pair gather refuses 1, 2, 4, 5, 6. Order is counted in the picture's CTUs; formats go by chroma_format_idc, and an unknown
+-- one is refused as monochrome is.
 abbrev pub formatIn : FormatFrom → ChromaFormat
 formatIn (Format f) = f
 formatIn Unknown = Monochrome
@@ -91,7 +89,7 @@ abbrev pub formatOf : ℕ → ChromaFormat
 formatOf idc = formatIn (formatFrom idc)
 
 abbrev pub chromaPicture : ChromaRefGeometry → Picture
-chromaPicture g = record { width = g .«luma_w»; height = g .«luma_h»; ctu = chromaCtu; unit = g .«min_luma_pu» }
+chromaPicture g = record { width = g .«luma_w»; height = g .«luma_h»; ctu = g .ctu; unit = g .«min_luma_pu» }
 
 abbrev pub chromaBlock : ChromaRefGeometry → ChromaBlock
 chromaBlock g =

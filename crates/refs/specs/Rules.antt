@@ -146,11 +146,11 @@ module _ {has : ℤ → ℤ → Bool} {height width : ℕ} (rule : HasRule has h
   in-plane z w r c p q e = rule .inside r c (at-place (rule .off) z w r c p q e)
 
   -- it is closed along a row, and down a column
-  closed-along : (z : ℤ) (c c′ : ℕ) → c ≤ c′ → has z (pos c′) ≡ true → has z (pos c) ≡ true
+  pub closed-along : (z : ℤ) (c c′ : ℕ) → c ≤ c′ → has z (pos c′) ≡ true → has z (pos c) ≡ true
   closed-along (pos r) c c′ h e = rule .along r c c′ h e
   closed-along (negsuc r) c c′ h e = absurd (false≢true (sym (rule .off .top r (pos c′)) ∙ e))
 
-  closed-down : (w : ℤ) (r r′ : ℕ) → r ≤ r′ → has (pos r′) w ≡ true → has (pos r) w ≡ true
+  pub closed-down : (w : ℤ) (r r′ : ℕ) → r ≤ r′ → has (pos r′) w ≡ true → has (pos r) w ≡ true
   closed-down (pos c) r r′ h e = rule .down c r r′ h e
   closed-down (negsuc c) r r′ h e = absurd (false≢true (sym (rule .off .side (pos r′) c) ∙ e))
 

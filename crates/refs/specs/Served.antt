@@ -112,6 +112,20 @@ gather-fine bits k whole e =
     stuck : (eqb k 2 || eqb k 4) ≡ true → k ≡ 0 → ⊥
     stuck t z = false≢true (ap (λ (v : ℕ). eqb v 2 || eqb v 4) (sym z) ∙ t)
 
+pub luma-passed : (len : ℕ) (g : LumaRefGeometry) → lumaNo len g ≡ 0
+    → (depthOk (g .bits) ≡ true) × (lumaReachNo (lumaBlock g) ≡ 0) × (eqb len (lumaLength g) ≡ true)
+unfolding lumaNo
+luma-passed len g e =
+    let whole = eqb len (lumaLength g) in
+    gather-fine (g .bits) (lumaReachNo (lumaBlock g)) whole (sym (luma-no whole g) ∙ e)
+
+pub chroma-passed : (cb cr : ℕ) (g : ChromaRefGeometry) → chromaNo cb cr g ≡ 0
+    → (depthOk (g .bits) ≡ true) × (chromaReachNo (chromaBlock g) ≡ 0) × ((eqb cb (chromaLength g) && eqb cr (chromaLength g)) ≡ true)
+unfolding chromaNo
+chroma-passed cb cr g e =
+    let whole = eqb cb (chromaLength g) && eqb cr (chromaLength g) in
+    gather-fine (g .bits) (chromaReachNo (chromaBlock g)) whole (sym (chroma-no whole g) ∙ e)
+
 -- What the work of a gather rests on: the rule's counts, and the reads inside the plane
 pub record GatherReady (has : ℤ → ℤ → Bool) (r : Reach) (len width row col n : ℕ) : Type 0 where
   pub known : Counted has row col n r
@@ -128,10 +142,10 @@ ready {has} {height} {width} rule r len row col n er el small =
 pub luma-ready : (len : ℕ) (g : LumaRefGeometry) (r : Reach) → r ≡ lumaReach (lumaBlock g) → lumaNo len g ≡ 0
     → (depthOk (g .bits) ≡ true) × GatherReady (lumaHas (lumaBlock g)) r len (g .picture .width) (g .«block_row» .0) (g .«block_col» .0)
     (g .n)
-unfolding lumaReach lumaNo
+unfolding lumaReach
 luma-ready len g r er e =
     let b = lumaBlock g in
-    let f = gather-fine (g .bits) (lumaReachNo b) (eqb len (lumaLength g)) (sym (luma-no (eqb len (lumaLength g)) g) ∙ e) in
+    let f = luma-passed len g e in
     let w = luma-fine b (f .1) in (
       f .0,
       ready (luma-rule b (w .good)) r len (g .«block_row» .0) (g .«block_col» .0) (g .n)
@@ -143,11 +157,10 @@ pub chroma-ready : (cb cr : ℕ) (g : ChromaRefGeometry) (r : Reach) → r ≡ c
     → (depthOk (g .bits) ≡ true)
     × GatherReady (chromaHas (chromaBlock g)) r cb (chromaWidth (chromaBlock g)) (g .«block_row» .0) (g .«block_col» .0) (g .n)
     × GatherReady (chromaHas (chromaBlock g)) r cr (chromaWidth (chromaBlock g)) (g .«block_row» .0) (g .«block_col» .0) (g .n)
-unfolding chromaReach chromaNo
+unfolding chromaReach
 chroma-ready cb cr g r er e =
     let b = chromaBlock g in
-    let whole = eqb cb (chromaLength g) && eqb cr (chromaLength g) in
-    let f = gather-fine (g .bits) (chromaReachNo b) whole (sym (chroma-no whole g) ∙ e) in
+    let f = chroma-passed cb cr g e in
     let w = chroma-fine b (f .1) in
     let l = both-true (eqb cb (chromaLength g)) (eqb cr (chromaLength g)) (f .2) in
     let one : (len : ℕ) → eqb len (chromaLength g) ≡ true

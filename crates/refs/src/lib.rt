@@ -48,6 +48,7 @@ pub struct ChromaRefGeometry {
     pub format: u32,
     pub luma_w: u32,
     pub luma_h: u32,
+    pub ctu: u32,
     pub min_luma_pu: u32,
     pub block_row: ChromaRow,
     pub block_col: ChromaCol,
@@ -261,14 +262,14 @@ fn format_of(idc: u32) -> ChromaFormat
     }
 }
 
-// The block of a chroma gather, whose CTU is 64.
+// The block of a chroma gather.
 fn chroma_block(geo: ChromaRefGeometry) -> ChromaBlock
     ensures { λ r. ⌜ r ≡ chromaBlock geo ⌝ }
 {
     let picture = Picture {
         width: geo.luma_w,
         height: geo.luma_h,
-        ctu: 64,
+        ctu: geo.ctu,
         unit: geo.min_luma_pu,
     };
     let format = format_of(geo.format);

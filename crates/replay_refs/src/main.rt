@@ -1,10 +1,12 @@
 // Replays the Rust's answers on the doors of references: the list is standard input, the file stdin, and what is printed is
 // tested against the file stdout. Rests on the doors' contracts for its safety.
 //
-// The list is made by `tests/differential/run list`. A line is 50 words of eight hex digits: the kind of the call, its depth,
-// CTU or format, sides, least unit, the block's row, column and side, the current place's row and column, the seed and the
+// The list is made by `tests/differential/run list`. A line is 51 words of eight hex digits: the kind of the call, its depth,
+// format, sides, CTU, least unit, the block's row, column and side, the current place's row and column, the seed and the
 // largest of its samples, the plane's length, which row is compared and from which entry on, the number and the corner that
 // it is to answer, and 32 entries of that row. A line that opens with # is a comment.
+//
+// At the chroma gather the Rust knows of no CTU but 64: where a line has another, its answer is the standard's.
 //
 // Rows: 0 is above and 1 left, of Cr 2 and 3. A call's samples come from its seed: each is the next number, brought to at
 // most the largest; a largest of 1 stands for samples of either end. The corner has the seed's own, the row above, the luma
@@ -29,9 +31,10 @@ use refs::substitution::Flags;
 // What a line gives a call, which entries it compares, and the number and the corner that it wants.
 struct Call {
     bits: u32,
-    ctu: u32,
+    format: u32,
     width: u32,
     height: u32,
+    ctu: u32,
     unit: u32,
     row: u32,
     col: u32,
@@ -59,22 +62,23 @@ fn at_most(entries: usize, most: usize) -> usize
 fn call_of(line: &[u8]) -> Call {
     Call {
         bits: listing::word(line, 1),
-        ctu: listing::word(line, 2),
+        format: listing::word(line, 2),
         width: listing::word(line, 3),
         height: listing::word(line, 4),
-        unit: listing::word(line, 5),
-        row: listing::word(line, 6),
-        col: listing::word(line, 7),
-        n: listing::word(line, 8) as usize,
-        cur_row: listing::word(line, 9),
-        cur_col: listing::word(line, 10),
-        seed: listing::word(line, 11),
-        top: listing::word(line, 12),
-        entries: listing::word(line, 13) as usize,
-        which: listing::word(line, 14),
-        place: listing::word(line, 15),
-        no: listing::word(line, 16),
-        corner: listing::word(line, 17),
+        ctu: listing::word(line, 5),
+        unit: listing::word(line, 6),
+        row: listing::word(line, 7),
+        col: listing::word(line, 8),
+        n: listing::word(line, 9) as usize,
+        cur_row: listing::word(line, 10),
+        cur_col: listing::word(line, 11),
+        seed: listing::word(line, 12),
+        top: listing::word(line, 13),
+        entries: listing::word(line, 14) as usize,
+        which: listing::word(line, 15),
+        place: listing::word(line, 16),
+        no: listing::word(line, 17),
+        corner: listing::word(line, 18),
     }
 }
 
@@ -98,7 +102,7 @@ fn plane_of(seed: u32, top: u32) -> [u16; 4096]
 
 // Whether the 32 entries from a place on are those of the line.
 fn row_same(line: &[u8], row: [u16; 65], place: u32) -> bool {
-    listing::same_run(line, 18, &row, place)
+    listing::same_run(line, 19, &row, place)
 }
 
 // Whether an answer's number, corner and row are those of the line.
@@ -148,9 +152,10 @@ fn luma_same(line: &[u8], call: Call, plane: &[u16]) -> bool {
 fn chroma_same(line: &[u8], call: Call, cb: &[u16], cr: &[u16]) -> bool {
     let geo = ChromaRefGeometry {
         bits: call.bits,
-        format: call.ctu,
+        format: call.format,
         luma_w: call.width,
         luma_h: call.height,
+        ctu: call.ctu,
         min_luma_pu: call.unit,
         block_row: ChromaRow(call.row),
         block_col: ChromaCol(call.col),
@@ -182,8 +187,8 @@ fn agrees(line: &[u8], kind: u32) -> bool {
 }
 
 // The count with one line more, of which so many bytes were read.
-fn with(count: Count, line: [u8; 450], read: usize) -> Count {
-    if (read != 450) | (line[0] == 35) {
+fn with(count: Count, line: [u8; 459], read: usize) -> Count {
+    if (read != 459) | (line[0] == 35) {
         return count;
     }
     count.with(agrees(&line, listing::word(&line, 0)))
@@ -196,7 +201,7 @@ fn replay() -> Count {
         differ: 0,
     };
     for i in 0..4096usize {
-        let mut line = [0u8; 450];
+        let mut line = [0u8; 459];
         let read = io::read_full(0, &mut line);
         count = with(count, line, read);
     }

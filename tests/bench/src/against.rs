@@ -367,7 +367,7 @@ fn time_luma_refs(t: &mut Ratios) {
 
 fn time_chroma_refs(t: &mut Ratios) {
     let mut random = Random::new(8);
-    let (bits, w, h) = (gather_chroma::BITS, WIDTH as u32, HEIGHT as u32);
+    let (bits, w, h, ctu) = (gather_chroma::BITS, WIDTH as u32, HEIGHT as u32, gather_chroma::CTU);
     for format in gather_chroma::FORMATS {
         let (width, height) = format.plane();
         let [cb, cr] = [0; 2].map(|_| plane(&mut random, width * height, bits));
@@ -389,6 +389,7 @@ fn time_chroma_refs(t: &mut Ratios) {
                     b.format.idc,
                     w,
                     h,
+                    ctu,
                     unit,
                     row,
                     col,
@@ -397,11 +398,11 @@ fn time_chroma_refs(t: &mut Ratios) {
                     across,
                 );
             });
-            t.block("salvrunde_chroma_refs", &format!("on bytes: {name}"), &blocks, |s, b, l| unsafe {
+            t.block("salvrunde_chroma_refs_ctu", &format!("on bytes: {name}"), &blocks, |s, b, l| unsafe {
                 let ((x, x_len), (y, y_len)) = (shared(&cb_bytes), shared(&cr_bytes));
                 let (row, col, unit, n, idc) = (b.row as u32, b.col as u32, b.unit as u32, b.n as u32, b.format.idc);
                 let (at, across, out) = (b.luma_row as u32, b.luma_col as u32, l.out.as_mut_ptr());
-                s.of::<ChromaRefsEntry>()(bits, idc, w, h, unit, row, col, n, at, across, x, x_len, y, y_len, out, 524)
+                s.of::<ChromaRefsEntry>()(bits, idc, w, h, ctu, unit, row, col, n, at, across, x, x_len, y, y_len, out, 524)
             });
         }
     }

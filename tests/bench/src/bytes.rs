@@ -186,7 +186,7 @@ fn time_luma_refs(table: &mut Table) {
 
 fn time_chroma_refs(table: &mut Table) {
     let door: ChromaRefsDoor = black_box(salvrunde_probe_get_reference_samples_chroma_pair);
-    let entry: ChromaRefsEntry = black_box(salvrunde_chroma_refs);
+    let entry: ChromaRefsEntry = black_box(salvrunde_chroma_refs_ctu);
     let mut random = Random::new(11);
     let format = gather_chroma::FORMATS[0];
     let (width, height) = format.plane();
@@ -194,19 +194,19 @@ fn time_chroma_refs(table: &mut Table) {
     let (bytes_cb, bytes_cr) = (samples(&cb), samples(&cr));
     let mut got = ReferencePair { no: 1, planes: [PlaneRows::ZERO; 2] };
     let mut out = [0u8; 524];
-    let (bits, w, h) = (gather_chroma::BITS, WIDTH as u32, HEIGHT as u32);
+    let (bits, w, h, ctu) = (gather_chroma::BITS, WIDTH as u32, HEIGHT as u32, gather_chroma::CTU);
     for n in SIDES {
         let blocks = gather_chroma::blocks(&mut random, format, n);
         let of = |b: &gather_chroma::Block, out: &mut ReferencePair| unsafe {
             let (row, col, unit, at) = (b.row as u32, b.col as u32, b.unit as u32, (b.luma_row as u32, b.luma_col as u32));
             let (cb, cr, len) = (cb.as_ptr(), cr.as_ptr(), cb.len());
-            door(out, cb, len, cr, len, bits, b.format.idc, w, h, unit, row, col, b.n, at.0, at.1);
+            door(out, cb, len, cr, len, bits, b.format.idc, w, h, ctu, unit, row, col, b.n, at.0, at.1);
         };
         let on = |b: &gather_chroma::Block, out: &mut [u8]| unsafe {
             let (row, col, unit, at) = (b.row as u32, b.col as u32, b.unit as u32, (b.luma_row as u32, b.luma_col as u32));
             let (cb, cr, len) = (bytes_cb.as_ptr(), bytes_cr.as_ptr(), bytes_cb.len());
             let (n, to) = (b.n as u32, out.as_mut_ptr());
-            entry(bits, b.format.idc, w, h, unit, row, col, n, at.0, at.1, cb, len, cr, len, to, out.len())
+            entry(bits, b.format.idc, w, h, ctu, unit, row, col, n, at.0, at.1, cb, len, cr, len, to, out.len())
         };
         for b in &blocks {
             of(b, &mut got);

@@ -175,6 +175,7 @@ unsafe extern "C" {
         format: u32,
         luma_w: u32,
         luma_h: u32,
+        ctu: u32,
         min_luma_pu: u32,
         row: u32,
         col: u32,
@@ -278,11 +279,12 @@ unsafe extern "C" {
         out_bytes: usize,
     ) -> u32;
 
-    pub fn salvrunde_chroma_refs(
+    pub fn salvrunde_chroma_refs_ctu(
         bits: u32,
         format: u32,
         luma_width: u32,
         luma_height: u32,
+        ctu: u32,
         unit: u32,
         row: u32,
         col: u32,
@@ -423,11 +425,13 @@ pub type ChromaRefsDoor = unsafe extern "C" fn(
     u32,
     u32,
     u32,
+    u32,
     usize,
     u32,
     u32,
 ) -> *mut ReferencePair;
 pub type ChromaRefsEntry = unsafe extern "C" fn(
+    u32,
     u32,
     u32,
     u32,

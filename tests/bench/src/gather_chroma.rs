@@ -8,6 +8,8 @@ use crate::table::Table;
 use std::hint::black_box;
 
 pub const BITS: u32 = 10;
+/// The CTU that the Rust counts in.
+pub const CTU: u32 = 64;
 
 /// A chroma format: its chroma_format_idc, and how many luma samples a sample stands for.
 #[derive(Clone, Copy)]
@@ -69,7 +71,7 @@ fn geometry(b: &Block) -> ChromaRefGeometry {
         sub_h: b.format.sub_h,
         luma_w: WIDTH,
         luma_h: HEIGHT,
-        luma_ctus_x: WIDTH.div_ceil(64),
+        luma_ctus_x: WIDTH.div_ceil(CTU as usize),
         min_luma_pu: b.unit,
         cur_luma_row: b.luma_row,
         cur_luma_col: b.luma_col,
@@ -91,6 +93,7 @@ fn proved(cb: &[u16], cr: &[u16], b: &Block, out: &mut ReferencePair) {
             b.format.idc,
             WIDTH as u32,
             HEIGHT as u32,
+            CTU,
             b.unit as u32,
             b.row as u32,
             b.col as u32,

@@ -82,9 +82,9 @@ pub fn luma(t: &mut Tally, call: &Luma) {
 pub fn chroma(t: &mut Tally, call: &Chroma) {
     let Ok(n) = u32::try_from(call.n) else { return };
     let (no, rows) = call.answer();
-    let place = [call.row, call.col, n, call.current.0, call.current.1];
-    let first = [&[call.bits, call.format, call.width, call.height, call.unit][..], &place].concat();
-    gathers(t, "salvrunde_chroma_refs", &first, &call.planes.each_ref().map(|p| bytes(p)), (no, &rows));
+    let (p, place) = (call.picture, [call.row, call.col, n, call.current.0, call.current.1]);
+    let first = [&[call.bits, call.format, p.width, p.height, p.ctu, p.unit][..], &place].concat();
+    gathers(t, "salvrunde_chroma_refs_ctu", &first, &call.planes.each_ref().map(|p| bytes(p)), (no, &rows));
 }
 
 /// A plan as records of six bytes, where its numbers fit.

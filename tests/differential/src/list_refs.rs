@@ -7,7 +7,7 @@ use crate::refs::{Chroma, Luma, Marked, Rows};
 use crate::table::Picture;
 
 /// Words in a line, and entries of a row among them.
-const WORDS: usize = 50;
+const WORDS: usize = 51;
 const WINDOW: usize = 32;
 /// Samples of a plane at most.
 const ROOM: usize = 4096;
@@ -19,7 +19,8 @@ const TOPS: [u32; 4] = [0, 1, 255, 65535];
 struct Call {
     kind: u32,
     bits: u32,
-    /// The CTU, the format, or whether the corner is there.
+    format: u32,
+    /// The CTU, or whether the corner is there.
     ctu: u32,
     width: u32,
     height: u32,
@@ -65,9 +66,10 @@ impl Call {
                 (no, vec![rows])
             }
             _ => {
-                let Call { width, height, unit, current, ctu: format, .. } = self;
+                let Call { format, current, .. } = self;
+                let picture = Picture::new(self.width, self.height, self.ctu, self.unit);
                 let planes = [self.plane(self.seed), self.plane(other(self.seed))];
-                let (no, rows) = Chroma { bits, format, width, height, unit, row, col, n, current, planes }.answer();
+                let (no, rows) = Chroma { bits, format, picture, row, col, n, current, planes }.answer();
                 (no, rows.to_vec())
             }
         }
@@ -80,9 +82,8 @@ impl Call {
         let mut lines = String::new();
         for (plane, (corner, above, left)) in planes.iter().enumerate() {
             for (side, row) in [above, left].into_iter().enumerate() {
-                let mut words =
-                    vec![self.kind, self.bits, self.ctu, self.width, self.height, self.unit, self.row, self.col, self.n];
-                words.extend([self.current.0, self.current.1, self.seed, self.top, self.entries]);
+                let mut words = vec![self.kind, self.bits, self.format, self.width, self.height, self.ctu, self.unit];
+                words.extend([self.row, self.col, self.n, self.current.0, self.current.1, self.seed, self.top, self.entries]);
                 words.extend([2 * plane as u32 + side as u32, place as u32, no, *corner as u32]);
                 words.extend(row[place..place + WINDOW].iter().map(|&s| s as u32));
                 lines += &line_of(&words, WORDS);
@@ -108,6 +109,7 @@ fn with_faults(call: Call) -> Vec<Call> {
         all.extend([0, 12, 4104, most].map(|width| Call { width, ..call }));
         all.extend([0, 12, 4104, most].map(|height| Call { height, entries: 1, ..call }));
         all.extend([0, 4, 24, 128, most].map(|ctu| Call { ctu, ..call }));
+        all.extend([0, 4, most].map(|format| Call { format, ..call }).into_iter().filter(|c| c.kind == 3));
         all.extend([0, call.entries - 1, call.entries + 1].map(|entries| Call { entries, row: 1, ..call }));
         all.extend([0, 2, 16, most].map(|unit| Call { unit, ..call }));
         all.extend([1, call.height, most - 3, most].map(|row| Call { row, ..call }));
@@ -130,7 +132,7 @@ pub fn write() {
     let mut list = comment("The Rust's answers to a fixed list of calls; number 1, 2, 4, 5 or 6 where document 01 refuses.");
     list += &comment("Made by `tests/differential/run list`; replayed by this crate's program.");
     list += &comment(
-        "kind, depth, CTU or format, width, height, unit, row, column, side, current row and column, seed, largest, length, \
+        "kind, depth, format, width, height, CTU, unit, row, column, side, current row and column, seed, largest, length, \
          which row, entry; number, corner, 32 entries",
     );
 
@@ -171,7 +173,7 @@ pub fn write() {
         let (bits, top, seed) = (random.pick(&[8, 10, 12]), random.pick(&TOPS), random.below(65537) as u32);
         let current = (0, 0);
         let entries = width * height;
-        let call = Call { kind: 2, bits, ctu, width, height, unit, row, col, n, current, seed, top, entries };
+        let call = Call { kind: 2, bits, format: 0, ctu, width, height, unit, row, col, n, current, seed, top, entries };
         list += &few_refused(call, &mut random);
     }
     let base = Call { kind: 2, bits: 8, ctu: 32, width: 40, height: 24, unit: 4, row: 8, col: 16, n: 8, ..Call::default() };
@@ -179,8 +181,8 @@ pub fn write() {
         list += &call.lines();
     }
 
-    list += &comment("3: the chroma pair gather; the fourth number is the format");
-    for _ in 0..120 {
+    list += &comment("3: the chroma pair gather; where the CTU is not 64 the answers are the standard's, not the Rust's");
+    for _ in 0..160 {
         let (width, height) = random.pick(&sides);
         let (format, w, h) = random.pick(&[(1, 2, 2), (2, 2, 1), (3, 1, 1)]);
         let n: u32 = random.pick(&[4, 4, 8, 8, 16, 32]);
@@ -190,17 +192,23 @@ pub fn write() {
         let current = random.pick(&[(row * h, col * w), (row * h, col * w), (row * h + 1, col * w + 1), any]);
         let (bits, top, seed) = (random.pick(&[8, 10, 12]), random.pick(&TOPS), random.below(65537) as u32);
         let (unit, entries) = (random.pick(&[4, 8]), width / w * (height / h));
-        let call = Call { kind: 3, bits, ctu: format, width, height, unit, row, col, n, current, seed, top, entries };
+        let ctu = random.pick(&[16, 32, 64, 64]);
+        let call = Call { kind: 3, bits, format, ctu, width, height, unit, row, col, n, current, seed, top, entries };
         list += &few_refused(call, &mut random);
     }
-    // the own cell in 4:4:4, the lower block of 4:2:2 with either current place, and order in CTUs of 64
-    let base = Call { kind: 3, bits: 8, unit: 8, seed: 5, top: 65535, ..Call::default() };
-    list += &Call { ctu: 3, width: 8, height: 8, col: 4, n: 4, current: (0, 4), entries: 64, ..base }.lines();
+    // the own cell in 4:4:4, the lower block of 4:2:2 with either current place, and order in CTUs of 16, 32 and 64
+    let base = Call { kind: 3, bits: 8, ctu: 64, unit: 8, seed: 5, top: 65535, ..Call::default() };
+    list += &Call { format: 3, width: 8, height: 8, col: 4, n: 4, current: (0, 4), entries: 64, ..base }.lines();
     for current in [(0, 0), (8, 0)] {
-        list += &Call { ctu: 2, width: 16, height: 16, row: 8, n: 8, current, entries: 128, ..base }.lines();
+        list += &Call { format: 2, width: 16, height: 16, row: 8, n: 8, current, entries: 128, ..base }.lines();
     }
-    let base = Call { ctu: 1, width: 40, height: 24, row: 4, col: 16, n: 4, current: (8, 32), entries: 240, ..base };
-    list += &base.lines();
+    let base = Call { format: 1, width: 40, height: 24, row: 4, col: 16, n: 4, current: (8, 32), entries: 240, ..base };
+    for ctu in [16, 32, 64] {
+        list += &Call { ctu, ..base }.lines();
+    }
+    let wide =
+        Call { format: 1, ctu: 32, width: 72, height: 40, row: 12, col: 32, n: 4, current: (24, 64), entries: 720, ..base };
+    list += &wide.lines();
     for call in with_faults(base) {
         list += &call.lines();
     }

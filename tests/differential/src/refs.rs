@@ -1,6 +1,7 @@
 //! Substitution and the two gathers against the Rust's substitute_refs, get_reference_samples and
 //! get_reference_samples_chroma_pair. Outside document 01's domain the Rust is not asked: what is wanted there is the
-//! table's number and zeros.
+//! table's number and zeros. Nor is it asked at the chroma gather of a picture whose CTU is not 64, which it does not know of:
+//! there the standard decides, and document 01's rule over that CTU.
 use crate::entries;
 use crate::fmt::format_of;
 use crate::host::Arg::{Lent, Number, Read};
@@ -8,6 +9,7 @@ use crate::oracle::fmt::BitDepth;
 use crate::oracle::intra::{self, reach};
 use crate::random::Random;
 use crate::samples::{BITS, DEPTHS, KINDS, SIDES, SIZES, any, bytes, samples};
+use crate::standard;
 use crate::table::{self, ChromaPlace, Picture};
 use crate::tally::{Tally, Want};
 
@@ -270,19 +272,20 @@ pub fn ask_luma(t: &mut Tally, call: &Luma) {
     entries::luma(t, call);
 }
 
+/// Pictures of these sides at every CTU and unit.
+pub fn every_picture(sides: &[(u32, u32)]) -> Vec<Picture> {
+    let with = |(width, height)| CTUS.into_iter().flat_map(move |ctu| UNITS.map(|unit| Picture::new(width, height, ctu, unit)));
+    sides.iter().copied().flat_map(with).collect()
+}
+
 /// Every place of every size, CTU and unit in the pictures; a size, CTU and unit that do not go together are refused.
 pub fn every_luma(pictures: &[(u32, u32)], random: &mut Random, mut each: impl FnMut(&Luma, &mut Random)) {
-    for &(width, height) in pictures {
-        for ctu in CTUS {
-            for unit in UNITS {
-                for n in SIZES {
-                    for row in (0..height).step_by(n) {
-                        for col in (0..width).step_by(n) {
-                            let plane = any((width * height) as usize, random);
-                            let picture = Picture::new(width, height, ctu, unit);
-                            each(&Luma { bits: random.pick(&DEPTHS), picture, row, col, n, plane }, random);
-                        }
-                    }
+    for picture in every_picture(pictures) {
+        for n in SIZES {
+            for row in (0..picture.height).step_by(n) {
+                for col in (0..picture.width).step_by(n) {
+                    let plane = any((picture.width * picture.height) as usize, random);
+                    each(&Luma { bits: random.pick(&DEPTHS), picture, row, col, n, plane }, random);
                 }
             }
         }
@@ -405,9 +408,7 @@ pub fn luma(t: &mut Tally) {
 pub struct Chroma {
     pub bits: u32,
     pub format: u32,
-    pub width: u32,
-    pub height: u32,
-    pub unit: u32,
+    pub picture: Picture,
     pub row: u32,
     pub col: u32,
     pub n: usize,
@@ -424,7 +425,7 @@ impl Chroma {
     /// The chroma planes' sides.
     pub fn sides(&self) -> (u64, u64) {
         let (w, h) = self.steps();
-        ((self.width / w) as u64, (self.height / h) as u64)
+        ((self.picture.width / w) as u64, (self.picture.height / h) as u64)
     }
 
     /// The block's own luma place.
@@ -442,39 +443,43 @@ impl Chroma {
 
     pub fn number(&self) -> u32 {
         let (w, h) = self.sides();
-        let place = ChromaPlace { row: self.row, col: self.col, n: self.n, unit: self.unit, current: self.current };
+        let place = ChromaPlace { row: self.row, col: self.col, n: self.n, current: self.current };
         table::first(&[
             (1, table::depth(self.bits)),
             (2, table::size(self.n)),
-            (4, table::chroma_picture(self.width, self.height, self.format)),
+            (4, table::chroma_picture(self.picture, self.format)),
             (5, self.planes.iter().all(|p| table::plane(w, h, p.len()))),
-            (6, table::size(self.n) && table::chroma_place(&place, (self.width, self.height), (w, h))),
+            (6, table::size(self.n) && table::chroma_place(&place, self.picture, self.steps().0, (w, h))),
         ])
+    }
+
+    /// The Rust's rows, whatever the picture's CTU.
+    pub fn rust(&self) -> [Rows; 2] {
+        let ((w, h), (sub_w, sub_h), p) = (self.sides(), self.steps(), self.picture);
+        let geo = intra::ChromaRefGeometry {
+            stride: w as usize,
+            block_row: self.row as usize,
+            block_col: self.col as usize,
+            chroma_h: h as usize,
+            n: self.n,
+            sub_w: sub_w as usize,
+            sub_h: sub_h as usize,
+            luma_w: p.width as usize,
+            luma_h: p.height as usize,
+            luma_ctus_x: (p.width as usize).div_ceil(64),
+            min_luma_pu: p.unit as usize,
+            cur_luma_row: self.current.0 as usize,
+            cur_luma_col: self.current.1 as usize,
+            neutral: neutral(self.bits),
+        };
+        let (cb, cr) = intra::get_reference_samples_chroma_pair(&self.planes[0], &self.planes[1], geo);
+        [cb, cr]
     }
 
     pub fn answer(&self) -> (u32, [Rows; 2]) {
         match self.number() {
-            0 => {
-                let ((w, h), (sub_w, sub_h)) = (self.sides(), self.steps());
-                let geo = intra::ChromaRefGeometry {
-                    stride: w as usize,
-                    block_row: self.row as usize,
-                    block_col: self.col as usize,
-                    chroma_h: h as usize,
-                    n: self.n,
-                    sub_w: sub_w as usize,
-                    sub_h: sub_h as usize,
-                    luma_w: self.width as usize,
-                    luma_h: self.height as usize,
-                    luma_ctus_x: (self.width as usize).div_ceil(64),
-                    min_luma_pu: self.unit as usize,
-                    cur_luma_row: self.current.0 as usize,
-                    cur_luma_col: self.current.1 as usize,
-                    neutral: neutral(self.bits),
-                };
-                let (cb, cr) = intra::get_reference_samples_chroma_pair(&self.planes[0], &self.planes[1], geo);
-                (0, [cb, cr])
-            }
+            0 if self.picture.ctu == 64 => (0, self.rust()),
+            0 => (0, [0, 1].map(|plane| standard::chroma_rows(self, plane))),
             no => (no, [ZEROS; 2]),
         }
     }
@@ -485,7 +490,8 @@ pub fn ask_chroma(t: &mut Tally, call: &Chroma) {
     let [cb, cr] = [0, 1].map(|k| bytes(&call.planes[k]));
     let mut args =
         vec![Lent(&[0xa5; 528]), Read(&cb), Number(call.planes[0].len() as u64), Read(&cr), Number(call.planes[1].len() as u64)];
-    let numbers = [call.bits, call.format, call.width, call.height, call.unit, call.row, call.col];
+    let p = call.picture;
+    let numbers = [call.bits, call.format, p.width, p.height, p.ctu, p.unit, call.row, call.col];
     args.extend(numbers.map(|v| Number(v as u64)));
     args.extend([Number(call.n as u64), Number(call.current.0 as u64), Number(call.current.1 as u64)]);
     t.call("salvrunde_probe_get_reference_samples_chroma_pair", &args, Want::word(0, 0).then(answer_bytes(no, &rows)));
@@ -509,14 +515,21 @@ const CHROMA_FAULTS: &[Fault<Chroma>] = &[
     |c| c.format = 4,
     |c| c.format = 257,
     |c| c.format = u32::MAX,
-    |c| c.width = 0,
-    |c| c.width = 68,
-    |c| c.width = 4104,
-    |c| c.width = u32::MAX,
-    |c| c.height = 0,
-    |c| c.height = 36,
-    |c| c.height = 4104,
-    |c| c.height = u32::MAX,
+    |c| c.picture.width = 0,
+    |c| c.picture.width = 68,
+    |c| c.picture.width = 4104,
+    |c| c.picture.width = u32::MAX,
+    |c| c.picture.height = 0,
+    |c| c.picture.height = 36,
+    |c| c.picture.height = 4104,
+    |c| c.picture.height = u32::MAX,
+    |c| c.picture.ctu = 0,
+    |c| c.picture.ctu = 8,
+    |c| c.picture.ctu = 16,
+    |c| c.picture.ctu = 24,
+    |c| c.picture.ctu = 32,
+    |c| c.picture.ctu = 128,
+    |c| c.picture.ctu = u32::MAX,
     |c| c.planes[0].push(3),
     |c| c.planes[1].push(3),
     |c| c.planes[0].truncate(c.planes[0].len().saturating_sub(1)),
@@ -526,11 +539,11 @@ const CHROMA_FAULTS: &[Fault<Chroma>] = &[
         let (w, h) = c.sides();
         c.planes.iter_mut().for_each(|p| p.resize((w * h).min(9000) as usize, 1));
     },
-    |c| c.unit = 0,
-    |c| c.unit = 6,
-    |c| c.unit = 8,
-    |c| c.unit = 16,
-    |c| c.unit = u32::MAX,
+    |c| c.picture.unit = 0,
+    |c| c.picture.unit = 6,
+    |c| c.picture.unit = 8,
+    |c| c.picture.unit = 16,
+    |c| c.picture.unit = u32::MAX,
     |c| c.row += 1,
     |c| c.row = 20,
     |c| c.row = 1 << 31,
@@ -549,34 +562,30 @@ const CHROMA_FAULTS: &[Fault<Chroma>] = &[
 
 pub fn chroma(t: &mut Tally) {
     let mut random = Random::new(13);
-    let place = |format, (width, height), unit, row, col, n, random: &mut Random| Chroma {
+    let place = |format, picture, row, col, n, random: &mut Random| Chroma {
         bits: random.pick(&DEPTHS),
         format,
-        width,
-        height,
-        unit,
+        picture,
         row,
         col,
         n,
         current: (0, 0),
         planes: [Vec::new(), Vec::new()],
     };
-    // every place of every format, size and unit; the current place its own, beside it, and anywhere
-    for sides in PICTURES {
+    // every place of every CTU, format, size and unit; the current place its own, beside it, and anywhere
+    for p in every_picture(&PICTURES) {
         for format in [1, 2, 3] {
-            for unit in UNITS {
-                for n in SIZES {
-                    let whole = place(format, sides, unit, 0, 0, n, &mut random).sides();
-                    for row in (0..whole.1 as u32).step_by(n) {
-                        for col in (0..whole.0 as u32).step_by(n) {
-                            let mut call = place(format, sides, unit, row, col, n, &mut random).filled(&mut random);
-                            let (r, c) = call.own();
-                            let far = (random.below(sides.1 as u64) as u32, random.below(sides.0 as u64) as u32);
-                            let near = (r + random.below(9) as u32, (c + random.below(9) as u32).saturating_sub(4));
-                            for current in [(r, c), (r + 1, c + 1), near, far, (sides.1 - 1, sides.0 - 1)] {
-                                call.current = current;
-                                ask_chroma(t, &call);
-                            }
+            for n in SIZES {
+                let whole = place(format, p, 0, 0, n, &mut random).sides();
+                for row in (0..whole.1 as u32).step_by(n) {
+                    for col in (0..whole.0 as u32).step_by(n) {
+                        let mut call = place(format, p, row, col, n, &mut random).filled(&mut random);
+                        let (r, c) = call.own();
+                        let far = (random.below(p.height as u64) as u32, random.below(p.width as u64) as u32);
+                        let near = (r + random.below(9) as u32, (c + random.below(9) as u32).saturating_sub(4));
+                        for current in [(r, c), (r + 1, c + 1), near, far, (p.height - 1, p.width - 1)] {
+                            call.current = current;
+                            ask_chroma(t, &call);
                         }
                     }
                 }
@@ -587,8 +596,9 @@ pub fn chroma(t: &mut Tally) {
     let mut sides: Vec<(u32, u32)> = (0..1500).map(|_| (any_side(200, &mut random), any_side(200, &mut random))).collect();
     sides.extend([(4096, 8), (8, 4096), (4096, 24), (24, 4096)].repeat(10));
     for sides in sides {
-        let (format, unit, n) = (random.pick(&[1, 2, 3]), random.pick(&UNITS), random.pick(&SIZES));
-        let mut call = place(format, sides, unit, 0, 0, n, &mut random);
+        let (format, n) = (random.pick(&[1, 2, 3]), random.pick(&SIZES));
+        let p = Picture::new(sides.0, sides.1, random.pick(&CTUS), random.pick(&UNITS));
+        let mut call = place(format, p, 0, 0, n, &mut random);
         let whole = call.sides();
         (call.row, call.col) = (aligned(whole.1 as u32, n, &mut random), aligned(whole.0 as u32, n, &mut random));
         let mut call = call.filled(&mut random);
@@ -600,25 +610,28 @@ pub fn chroma(t: &mut Tally) {
             ask_chroma(t, &call);
         }
     }
-    // blocks of 32 among neighbours, in every format, in a picture of several CTUs
-    for (format, sides) in [(1, (200, 232)), (2, (200, 168)), (3, (136, 168))] {
-        let whole = place(format, sides, 4, 0, 0, 32, &mut random).sides();
+    // blocks of 32 among neighbours, in every format and at every CTU that holds one, in a picture of several CTUs
+    for (format, ctu, sides) in [(1, 64, (200, 232)), (2, 64, (200, 168)), (3, 64, (136, 168)), (3, 32, (136, 168))] {
+        let whole = place(format, Picture::new(sides.0, sides.1, ctu, 4), 0, 0, 32, &mut random).sides();
         for (row, col) in inner_32(whole.0 as u32, whole.1 as u32) {
-            let mut call = place(format, sides, random.pick(&UNITS), row, col, 32, &mut random).filled(&mut random);
+            let p = Picture::new(sides.0, sides.1, ctu, random.pick(&UNITS));
+            let mut call = place(format, p, row, col, 32, &mut random).filled(&mut random);
             call.current = call.own();
             assert_eq!(call.number(), 0);
             ask_chroma(t, &call);
         }
     }
     // every two faults in either order
-    let mut base = place(1, (64, 40), 4, 8, 16, 8, &mut random).filled(&mut random);
-    base.current = base.own();
-    for one in CHROMA_FAULTS {
-        for other in CHROMA_FAULTS {
-            let mut call = base.clone();
-            one(&mut call);
-            other(&mut call);
-            ask_chroma(t, &call);
+    for ctu in [32, 64] {
+        let mut base = place(1, Picture::new(64, 40, ctu, 4), 8, 16, 8, &mut random).filled(&mut random);
+        base.current = base.own();
+        for one in CHROMA_FAULTS {
+            for other in CHROMA_FAULTS {
+                let mut call = base.clone();
+                one(&mut call);
+                other(&mut call);
+                ask_chroma(t, &call);
+            }
         }
     }
 }

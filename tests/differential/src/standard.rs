@@ -1,9 +1,11 @@
 //! The references as H.265 has them, 6.4.1 and 8.4.4.2.2, and the smallest inputs of docs/DIFFERENCES.md at substitution and
-//! the gathers: where the Rust and the port agree with each other and not with the standard.
+//! the gathers: where the Rust and the port agree with each other and not with the standard, or the port goes with the standard.
 use crate::oracle::intra;
 use crate::order::panics;
 use crate::random::Random;
-use crate::refs::{Chroma, Luma, Marked, Rows, ask_chroma, ask_luma, ask_substitute, every_luma, neutral};
+use crate::refs::{
+    CTUS, Chroma, Luma, Marked, Rows, UNITS, ask_chroma, ask_luma, ask_substitute, every_luma, every_picture, neutral,
+};
 use crate::table::Picture;
 use crate::tally::Tally;
 
@@ -14,8 +16,9 @@ pub fn standard_part(rows: &Rows, n: usize) -> Entries {
     (rows.0, rows.1[..2 * n].to_vec(), rows.2[..2 * n].to_vec())
 }
 
-/// 8.4.4.2.2 over the line p[-1][2n-1] up to the corner and on to p[2n-1][-1]; None where a sample is not available.
-fn substituted(mut line: Vec<Option<u16>>, n: usize, neutral: u16) -> Entries {
+/// 8.4.4.2.2 over a line from the end of the left column, of so many entries, up to the corner and on to the end of the row above;
+/// None where a sample is not available.
+fn substituted(mut line: Vec<Option<u16>>, most: usize, neutral: u16) -> Entries {
     if line.iter().all(Option::is_none) {
         line.fill(Some(neutral));
     }
@@ -24,15 +27,19 @@ fn substituted(mut line: Vec<Option<u16>>, n: usize, neutral: u16) -> Entries {
         line[k] = line[k].or(line[k - 1]);
     }
     let line: Vec<u16> = line.into_iter().flatten().collect();
-    (line[2 * n], line[2 * n + 1..].to_vec(), line[..2 * n].iter().rev().copied().collect())
+    (line[most], line[most + 1..].to_vec(), line[..most].iter().rev().copied().collect())
 }
 
-/// The line of a block whose neighbours are told by row and column relative to it.
+/// The line of a block whose neighbours are told by row and column relative to it, so many entries a side.
+fn line(most: usize, at: impl Fn(i64, i64) -> Option<u16>) -> Vec<Option<u16>> {
+    let left = (0..most as i64).rev().map(|i| at(i, -1));
+    let above = (0..most as i64).map(|i| at(-1, i));
+    left.chain([at(-1, -1)]).chain(above).collect()
+}
+
+/// 8.4.4.2.2 of such a block: entries 0 to 2n-1.
 pub fn gathered(n: usize, neutral: u16, at: impl Fn(i64, i64) -> Option<u16>) -> Entries {
-    let most = 2 * n as i64;
-    let left = (0..most).rev().map(|i| at(i, -1));
-    let above = (0..most).map(|i| at(-1, i));
-    substituted(left.chain([at(-1, -1)]).chain(above).collect(), n, neutral)
+    substituted(line(2 * n, at), 2 * n, neutral)
 }
 
 /// 6.5.2: the address of a least transform block of so many samples.
@@ -63,16 +70,56 @@ pub fn luma_entries(call: &Luma) -> Entries {
     gathered(call.n, neutral(call.bits), |dr, dc| luma_sample(call, dr, dc))
 }
 
-/// The references of a chroma block in a picture of that CTU, whose least transform block is 4. The current place is the
-/// block's own.
-fn chroma_entries(call: &Chroma, plane: usize, ctu: u32) -> Entries {
+/// The references of a chroma block in its picture, whose least transform block has that side. The current place is the block's own.
+fn chroma_entries(call: &Chroma, plane: usize, least: u32) -> Entries {
     let ((w, h), (width, _)) = (call.steps(), call.sides());
-    let p = Picture::new(call.width, call.height, ctu, 4);
+    let p = Picture { unit: least, ..call.picture };
     gathered(call.n, neutral(call.bits), |dr, dc| {
         let (row, col) = (call.row as i64 + dr, call.col as i64 + dc);
         let there = available(p, call.own(), row * h as i64, col * w as i64);
         there.then(|| call.planes[plane][(row as u64 * width) as usize + col as usize])
     })
+}
+
+/// Document 01's rows of a chroma block: its rule over the picture's CTU, and its substitution, which has entry 2n too.
+fn ruled_rows(call: &Chroma, plane: usize) -> Rows {
+    let ((w, h), (width, height), p) = (call.steps(), call.sides(), call.picture);
+    let of = |row: u32, col: u32| address(row, col, p.unit, p.ctu, p.width);
+    let (current, most, neutral) = (of(call.current.0, call.current.1), 2 * call.n + 1, neutral(call.bits));
+    let line = line(most, |dr, dc| {
+        let row = u32::try_from(call.row as i64 + dr).ok().filter(|&r| (r as u64) < height)?;
+        let col = u32::try_from(call.col as i64 + dc).ok().filter(|&c| (c as u64) < width)?;
+        let cell = of(row * h, col * w);
+        let there = cell < current || cell == current && row < call.row;
+        there.then(|| call.planes[plane][row as usize * width as usize + col as usize])
+    });
+    if line.iter().all(Option::is_none) {
+        return (neutral, [neutral; 65], [neutral; 65]);
+    }
+    let (corner, above, left) = substituted(line, most, neutral);
+    let [above, left] = [above, left].map(|mut row| {
+        row.resize(65, 0);
+        row.try_into().unwrap()
+    });
+    (corner, above, left)
+}
+
+/// Whether the standard decides: the current place is the block's own, and the least unit no wider than the block in luma samples.
+fn decided(call: &Chroma) -> bool {
+    call.current == call.own() && call.picture.unit as usize <= call.n * call.steps().0 as usize
+}
+
+/// What a chroma gather is to give by the picture's CTU: the standard's entries where it decides, else document 01's rule over that
+/// CTU; entry 2n always by that rule.
+pub fn chroma_rows(call: &Chroma, plane: usize) -> Rows {
+    let mut rows = ruled_rows(call, plane);
+    if decided(call) {
+        let (corner, above, left) = chroma_entries(call, plane, call.picture.unit);
+        rows.0 = corner;
+        rows.1[..2 * call.n].copy_from_slice(&above);
+        rows.2[..2 * call.n].copy_from_slice(&left);
+    }
+    rows
 }
 
 /// The standard's substitution of marked rows.
@@ -150,58 +197,25 @@ fn luma(t: &mut Tally) {
 }
 
 /// A chroma call on planes whose samples are all different, its current place its own.
-fn chroma_call(format: u32, (width, height): (u32, u32), unit: u32, (row, col): (u32, u32), n: usize) -> Chroma {
+fn chroma_call(format: u32, picture: Picture, (row, col): (u32, u32), n: usize) -> Chroma {
     let planes = [Vec::new(), Vec::new()];
-    let mut call = Chroma { bits: 8, format, width, height, unit, row, col, n, current: (0, 0), planes };
+    let mut call = Chroma { bits: 8, format, picture, row, col, n, current: (0, 0), planes };
     call.current = call.own();
     let (w, h) = call.sides();
     call.planes = [1, 10001].map(|first| (0..(w * h) as u16).map(|k| k + first).collect());
     call
 }
 
-/// How many of the standard's entries of Cb differ.
-fn apart(call: &Chroma, ctu: u32) -> usize {
-    let (ours, theirs) = (standard_part(&call.answer().1[0], call.n), chroma_entries(call, 0, ctu));
-    let count = |a: &[u16], b: &[u16]| a.iter().zip(b).filter(|(x, y)| x != y).count();
-    (ours.0 != theirs.0) as usize + count(&ours.1, &theirs.1) + count(&ours.2, &theirs.2)
-}
-
-fn chroma(t: &mut Tally) {
-    // 4:4:4 with a least unit of 8 and n = 4: the left neighbour is in the block's own cell and not above it
-    let call = chroma_call(3, (8, 8), 8, (0, 4), 4);
-    assert_eq!(standard_part(&call.answer().1[0], 4), (128, vec![128; 8], vec![128; 8]));
-    let left = [4, 12, 20, 28, 28, 28, 28, 28];
-    assert_eq!(chroma_entries(&call, 0, 64), (4, vec![4; 8], left.to_vec()));
-    ask_chroma(t, &call);
-    // the lower block of 4:2:2 with the upper one's place as the current one: above[2] and above[3] are missing
-    let mut call = chroma_call(2, (8, 8), 4, (4, 0), 4);
-    assert_eq!(apart(&call, 64), 0);
-    ask_chroma(t, &call);
-    call.current = (0, 0);
-    let (rows, standard) = (call.answer().1[0], chroma_entries(&call, 0, 64));
-    assert_eq!(rows.1[..8], [13, 14, 14, 14, 14, 14, 14, 14]);
-    assert_eq!(standard.1[..8], [13, 14, 15, 16, 16, 16, 16, 16]);
-    ask_chroma(t, &call);
-    // a picture of CTU 16: order is counted in CTUs of 64 all the same, and four entries of the left column are taken that
-    // come later
-    for sides in [(40, 24), (64, 64)] {
-        let call = chroma_call(1, sides, 8, (4, 16), 4);
-        assert_eq!((apart(&call, 64), apart(&call, 16)), (0, 4));
-        ask_chroma(t, &call);
-    }
-    // a picture of CTU 64, the current place the block's own: the two agree at every place but those of the first kind
-    for (width, height) in [(64, 64), (72, 40)] {
-        for format in [1, 2, 3] {
-            for unit in [4, 8] {
-                for n in [4, 8, 16, 32] {
-                    let (w, h) = chroma_call(format, (width, height), unit, (0, 0), n).sides();
-                    for row in (0..(h as u32 + 1).saturating_sub(n as u32)).step_by(n) {
-                        for col in (0..(w as u32 + 1).saturating_sub(n as u32)).step_by(n) {
-                            let call = chroma_call(format, (width, height), unit, (row, col), n);
-                            let own_cell = format == 3 && unit == 8 && n == 4 && col % 8 == 4;
-                            assert!(apart(&call, 64) == 0 || own_cell);
-                            ask_chroma(t, &call);
-                        }
+/// Every place of every format and size in a picture, the current place its own, where the call is served.
+fn every_chroma(picture: Picture, mut each: impl FnMut(&Chroma)) {
+    for format in [1, 2, 3] {
+        for n in [4, 8, 16, 32] {
+            let (w, h) = chroma_call(format, picture, (0, 0), n).sides();
+            for row in (0..h as u32).step_by(n) {
+                for col in (0..w as u32).step_by(n) {
+                    let call = chroma_call(format, picture, (row, col), n);
+                    if call.number() == 0 {
+                        each(&call);
                     }
                 }
             }
@@ -209,8 +223,110 @@ fn chroma(t: &mut Tally) {
     }
 }
 
+fn chroma(t: &mut Tally) {
+    // 4:4:4 with a least unit of 8 and n = 4: the left neighbour is in the block's own cell and not above it
+    for ctu in CTUS {
+        let call = chroma_call(3, Picture::new(8, 8, ctu, 8), (0, 4), 4);
+        assert_eq!(standard_part(&call.answer().1[0], 4), (128, vec![128; 8], vec![128; 8]));
+        let left = [4, 12, 20, 28, 28, 28, 28, 28];
+        assert_eq!(chroma_entries(&call, 0, 4), (4, vec![4; 8], left.to_vec()));
+        ask_chroma(t, &call);
+    }
+    // the lower block of 4:2:2 with the upper one's place as the current one: above[2] and above[3] are missing
+    for ctu in CTUS {
+        let mut call = chroma_call(2, Picture::new(8, 8, ctu, 4), (4, 0), 4);
+        assert_eq!(standard_part(&call.answer().1[0], 4), chroma_entries(&call, 0, 4));
+        ask_chroma(t, &call);
+        call.current = (0, 0);
+        let (rows, standard) = (call.answer().1[0], chroma_entries(&call, 0, 4));
+        assert_eq!(rows.1[..8], [13, 14, 14, 14, 14, 14, 14, 14]);
+        assert_eq!(standard.1[..8], [13, 14, 15, 16, 16, 16, 16, 16]);
+        ask_chroma(t, &call);
+    }
+    // whole pictures, the current place the block's own: the standard, at a least transform block of 4 too, has what the gather is to
+    // give, at every place but those of the first kind
+    for p in every_picture(&[(64, 64), (72, 40)]) {
+        every_chroma(p, |call| {
+            let own_cell = call.format == 3 && p.unit == 8 && call.n == 4 && call.col % 8 == 4;
+            let same = standard_part(&call.answer().1[0], call.n) == chroma_entries(call, 0, 4);
+            assert!(decided(call) && same || !decided(call) && (same || own_cell));
+            ask_chroma(t, call);
+        });
+    }
+}
+
+/// The order by the picture's CTU. The Rust counts in CTUs of 64 whatever the picture's is, and takes samples that come later.
+fn chroma_ctu(t: &mut Tally) {
+    let parts = |call: &Chroma| decided(call) && standard_part(&call.rust()[0], call.n) != chroma_entries(call, 0, 4);
+    for (ctu, sides, place) in [(16, (40, 24), (4, 16)), (32, (72, 40), (12, 32))] {
+        for unit in UNITS {
+            // four entries of the left column, and nothing else; a picture of CTU 64 has no such place
+            let call = chroma_call(1, Picture::new(sides.0, sides.1, ctu, unit), place, 4);
+            let (rust, standard) = (standard_part(&call.rust()[0], 4), chroma_entries(&call, 0, 4));
+            assert_eq!((rust.0, &rust.1, &rust.2[..4]), (standard.0, &standard.1, &standard.2[..4]));
+            assert!(
+                rust.2[4..] == [4, 5, 6, 7].map(|i| rust.2[0] + i * (sides.0 as u16 / 2)) && standard.2[4..] == [rust.2[3]; 4]
+            );
+            ask_chroma(t, &call);
+            every_chroma(Picture::new(sides.0, sides.1, 64, unit), |call| assert!(!parts(call)));
+            // no smaller picture shows it
+            for (across, down) in (1..=sides.0 * sides.1 / 64).flat_map(|a| (1..=sides.0 * sides.1 / 64 / a).map(move |d| (a, d)))
+            {
+                if 64 * across * down < sides.0 * sides.1 {
+                    every_chroma(Picture::new(8 * across, 8 * down, ctu, unit), |call| assert!(!parts(call)));
+                }
+            }
+        }
+    }
+}
+
+/// Worked figures: 4:2:0 of 40 by 24 with Cb 20r + c, then the numbers, then the lower square of 4:2:2.
+fn chroma_figures(t: &mut Tally) {
+    let mut call = chroma_call(1, Picture::new(40, 24, 16, 4), (4, 16), 4);
+    call.planes[0] = (0..12).flat_map(|r| (0..20).map(move |c| 20 * r + c)).collect();
+    assert_eq!(call.current, (8, 32));
+    for (ctu, left) in [
+        (16, [95, 115, 135, 155, 155, 155, 155, 155, 155]),
+        (32, [95, 115, 135, 155, 175, 195, 215, 235, 235]),
+        (64, [95, 115, 135, 155, 175, 195, 215, 235, 235]),
+    ] {
+        for unit in UNITS {
+            call.picture = Picture::new(40, 24, ctu, unit);
+            let (corner, above, rest) = call.answer().1[0];
+            assert_eq!(
+                (corner, above[..9].to_vec(), rest[..9].to_vec()),
+                (75, vec![76, 77, 78, 79, 79, 79, 79, 79, 79], left.to_vec())
+            );
+            ask_chroma(t, &call);
+        }
+    }
+    for (format, ctu, n, no) in [
+        (1, 16, 16, 6),
+        (1, 32, 32, 6),
+        (1, 8, 4, 4),
+        (2, 16, 16, 6),
+        (2, 32, 32, 6),
+        (3, 16, 16, 0),
+        (3, 16, 32, 6),
+        (2, 64, 32, 0),
+    ] {
+        let call = chroma_call(format, Picture::new(64, 64, ctu, 4), (0, 0), n);
+        assert_eq!(call.number(), no);
+        ask_chroma(t, &call);
+    }
+    let mut call = chroma_call(2, Picture::new(16, 16, 16, 4), (4, 4), 4);
+    call.planes[0] = (0..16).flat_map(|r| (0..8).map(move |c| 10 * r + c)).collect();
+    for (current, above) in [((4, 8), [34, 35, 36, 37]), ((0, 8), [34, 35, 35, 35])] {
+        call.current = current;
+        assert_eq!(call.answer().1[0].1[..4], above);
+        ask_chroma(t, &call);
+    }
+}
+
 pub fn differences(t: &mut Tally) {
     substitution(t);
     luma(t);
     chroma(t);
+    chroma_ctu(t);
+    chroma_figures(t);
 }

@@ -121,22 +121,21 @@ pub fn luma_place(p: Picture, row: u32, col: u32, n: usize) -> bool {
     placed(row, col, n, p.width as u64, p.height as u64) && n <= p.ctu as usize && unit(p.unit) && p.unit as usize <= n
 }
 
-/// Number 4 at the chroma gather: sides, and a format that is neither monochrome nor unknown.
-pub fn chroma_picture(width: u32, height: u32, format: u32) -> bool {
-    side(width) && side(height) && [1, 2, 3].contains(&format)
+/// Number 4 at the chroma gather: sides and CTU, and a format that is neither monochrome nor unknown.
+pub fn chroma_picture(p: Picture, format: u32) -> bool {
+    p.sides_and_ctu() && [1, 2, 3].contains(&format)
 }
 
-/// A chroma block's place in chroma samples, the least unit, and the current place in luma samples.
+/// A chroma block's place in chroma samples, and the current place in luma samples.
 pub struct ChromaPlace {
     pub row: u32,
     pub col: u32,
     pub n: usize,
-    pub unit: u32,
     pub current: (u32, u32),
 }
 
-/// Number 6 at the chroma gather, in a luma picture and its chroma planes.
-pub fn chroma_place(at: &ChromaPlace, luma: (u32, u32), chroma: (u64, u64)) -> bool {
-    let inside = at.current.0 < luma.1 && at.current.1 < luma.0;
-    placed(at.row, at.col, at.n, chroma.0, chroma.1) && at.n <= 64 && unit(at.unit) && inside
+/// Number 6 at the chroma gather, in a luma picture whose chroma planes have these sides; n against the CTU over the subsampling of
+/// the width.
+pub fn chroma_place(at: &ChromaPlace, p: Picture, sub_w: u32, chroma: (u64, u64)) -> bool {
+    placed(at.row, at.col, at.n, chroma.0, chroma.1) && at.n <= (p.ctu / sub_w) as usize && p.holds(at.current.0, at.current.1)
 }

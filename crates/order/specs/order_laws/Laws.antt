@@ -1,24 +1,28 @@
 -- The laws of the decode order over the samples of a good picture, and where 6.4.1 and document 01 part. Assumes nothing.
 use mathlib.Core.Path.{_≡_, refl, sym, ap, ap₂, _∙_}
-use mathlib.Core.Bool.{Bool, true, false, not, _&&_}
+use mathlib.Core.Bool.{Bool, true, false, not, _&&_, _||_}
 use mathlib.Core.Logic.{_⊎_, inr, ⊎-elim}
 use Prim.Native.Nat.{ℕ, _+_, _-_, _*_, _/_, _%_, _^_, _≤_, _<_}
 use native.Mathlib.Nat.{le-trans, le-div-iff-mul-le, div-mul-le-self, div-div-eq-div-mul, div-eq-of-eq-mul-left, div-add-mod'}
 use native.Mathlib.Nat.{div-lt-iff-lt-mul, mod-lt, mul-comm}
 use native.Mathlib.Omega.{arith}
-use native.Mathlib.Decide.{decLt}
+use native.Mathlib.Decide.{decLt, ℕ-discrete}
 use lib.Arith.{digits-div, mod-mul}
-use lib.Dec.{ltb}
+use lib.Dec.{ltb, eqb}
 use lib.IntN.{pos}
 use lib.Pow.{pow-pos}
-use borrow.Author.Tests.{lt-ltb, le-ltb, ltb-true}
+use borrow.Author.Tests.{lt-ltb, le-ltb, ltb-true, eq-eqb, ne-eqb}
 use Rattle.laws.specs.Choose.{both-true}
 use Rattle.h265.specs.Order.{interleaved, zScan}
 use Rattle.h265.specs.Availability.{available}
+use Rattle.domain.specs.Facts.{Side}
+use Rattle.fmt.specs.Fmt.{subWidth, subHeight, Subsampling, step-width, step-height}
 use Rattle.fmt.specs.declared.LumaRow.{LumaRow}
 use Rattle.fmt.specs.declared.LumaCol.{LumaCol}
 use Rattle.order.specs.declared.Picture.{Picture}
+use Rattle.order.specs.declared.ChromaBlock.{ChromaBlock}
 use Rattle.order.specs.Order.{gridOf, numberAt, before, availableTo}
+use Rattle.order.specs.Reach.{chromaHas}
 use Rattle.order.specs.CellWalk.{cellNo, row-lt, col-lt, cell-inj, cell-zs, run-in, run-only}
 use Rattle.order.specs.cells.Spread.{interleaved-spread}
 use Rattle.order.specs.Spread.{spread-mod}
@@ -51,11 +55,36 @@ not-greater a b h = go (decLt a b)
         apart (yes l) = inr l
         apart (no k) = absurd (h (omega arith))
 
-swapped : (a b : Bool) → (a && b) ≡ (b && a)
-swapped true true = refl
-swapped true false = refl
-swapped false true = refl
-swapped false false = refl
+-- the chroma rule's 'earlier, or in the current cell and above the block' is 'not later' above the block, and off that cell
+no-later : (nb cur r row : ℕ) → (r < row) ⊎ (nb ≡ cur → ⊥) → (ltb nb cur || eqb nb cur && ltb r row) ≡ not (ltb cur nb)
+no-later nb cur r row side = go (decLt nb cur) (ℕ-discrete nb cur)
+  where
+    go : Dec (nb < cur) → Dec (nb ≡ cur) → (ltb nb cur || eqb nb cur && ltb r row) ≡ not (ltb cur nb)
+    go (yes l) _ = simp (lt-ltb nb cur l, le-ltb cur nb (omega arith))
+    go (no l) (no e) = simp (le-ltb nb cur (omega arith), ne-eqb nb cur e, lt-ltb cur nb (omega arith))
+    go (no l) (yes e) =
+        ⊎-elim
+        (λ (h : r < row). simp (le-ltb nb cur (omega arith), eq-eqb nb cur e, lt-ltb r row h, le-ltb cur nb (omega arith)))
+        (λ (h : nb ≡ cur → ⊥). absurd (h e)) side
+
+-- a sample's tests in either order; the last one is asked of a sample whose column is in the plane
+columns-first : (a b : Bool) {c c′ : Bool} → (b ≡ true → c ≡ c′) → (a && b && c) ≡ (b && a && c′)
+columns-first true true h = h refl
+columns-first true false h = refl
+columns-first false true h = refl
+columns-first false false h = refl
+
+-- a sample is in its plane where the luma sample that it stands for is in the picture
+in-its-plane : (v side step : ℕ) → Side side → Subsampling step → ltb v (side / step) ≡ ltb (v * step) side
+in-its-plane v side step s t =
+    ⊎-elim (at 1 (λ l. omega arith) (λ l. omega arith)) (at 2 (λ l. omega (arith, s .whole)) (λ l. omega arith)) t
+  where
+    at : (k : ℕ) → (v * k < side → v < side / k) → (side ≤ v * k → side / k ≤ v) → step ≡ k → ltb v (side / step) ≡ ltb (v * step) side
+    at k in-it past e = rw e (go (decLt (v * k) side))
+      where
+        go : Dec (v * k < side) → ltb v (side / k) ≡ ltb (v * k) side
+        go (yes l) = lt-ltb v (side / k) (in-it l) ∙ sym (lt-ltb (v * k) side l)
+        go (no n) = let l : side ≤ v * k = omega arith in le-ltb v (side / k) (past l) ∙ sym (le-ltb (v * k) side l)
 
 module _ {p : Picture} (g : Good p) where
   unit-pos : 0 < p .unit
@@ -185,22 +214,50 @@ module _ {p : Picture} (g : Good p) where
           (omega (arith, own, other)) in
           (sym (over r) ∙ i .0, sym u ∙ i .1)
 
-  -- 6.4.1 has 'not greater', document 01 'less': they part on the block's own cell alone
-  pub standard-agrees : (row : LumaRow) (col : LumaCol) (nr nc : ℕ) → (numberAt p nr nc ≡ numberAt p (row .0) (col .0) → ⊥)
-      → available (gridOf p) (col .0) (row .0) (pos nc) (pos nr) ≡ availableTo p row col (pos nr) (pos nc)
+  -- 6.4.1 has 'not greater', document 01 'less': in the picture they part on the block's own cell alone
+  pub standard-agrees : (row : LumaRow) (col : LumaCol) (nr nc : ℕ)
+      → (nc < p .width → numberAt p nr nc ≡ numberAt p (row .0) (col .0) → ⊥)
+      → availableTo p row col (pos nr) (pos nc) ≡ available (gridOf p) (col .0) (row .0) (pos nc) (pos nr)
   unfolding available before numberAt
-  standard-agrees row col nr nc apart = ap₂ (λ (a b : Bool). a && b) (swapped (ltb nc (p .width)) (ltb nr (p .height)))
-      (not-greater (numberAt p nr nc) (numberAt p (row .0) (col .0)) apart)
+  standard-agrees row col nr nc apart =
+      columns-first (ltb nr (p .height)) (ltb nc (p .width))
+      (λ e. sym (not-greater (numberAt p nr nc) (numberAt p (row .0) (col .0)) (apart (ltb-true nc (p .width) e))))
 
-  -- a luma gather never meets that cell: its block is at a multiple of the unit, and its neighbours are above or left of it
-  pub own-cell-apart : (row col nr nc : ℕ) → row % p .unit ≡ 0 → col % p .unit ≡ 0 → col < p .width → nc < p .width → (nr < row)
-      ⊎ (nc < col) → numberAt p nr nc ≡ numberAt p row col → ⊥
-  own-cell-apart row col nr nc hr hc inside near side e =
+  -- a sample above a block whose row is a multiple of the unit is not in that cell, nor is one left of a block whose column is: a luma
+  -- gather never meets it, a chroma gather not in the left column
+  pub own-cell-apart : (row col nr nc : ℕ) → col < p .width → nc < p .width
+      → ((row % p .unit ≡ 0) × (nr < row)) ⊎ ((col % p .unit ≡ 0) × (nc < col)) → numberAt p nr nc ≡ numberAt p row col → ⊥
+  own-cell-apart row col nr nc inside near side e =
       let s = same-cell nr nc row col near inside e in
-      ⊎-elim (λ l. apart nr row hr l (s .0)) (λ l. apart nc col hc l (s .1)) side
+      ⊎-elim (λ l. apart nr row (l .0) (l .1) (s .0)) (λ l. apart nc col (l .0) (l .1) (s .1)) side
     where
       apart : (a b : ℕ) → b % p .unit ≡ 0 → a < b → a / p .unit ≡ b / p .unit → ⊥
       apart a b h l q =
           let m = div-add-mod' b (p .unit) in
           let k : a / p .unit < b / p .unit = div-lt-iff-lt-mul unit-pos .1 (omega arith) in
           omega arith
+
+-- The chroma rule, of a block whose current luma place is its own, is 6.4.1's: above the block everywhere, beside it off its own cell.
+pub chroma-agrees : (b : ChromaBlock) → Good (b .picture) → (nr nc : ℕ) → let p = b .picture in
+    let down = subHeight (b .format) in
+    let across = subWidth (b .format) in
+    let number : ℕ → ℕ → ℕ = λ r c. numberAt p (r * down) (c * across) in
+    numberAt p (b .«cur_luma_row» .0) (b .«cur_luma_col» .0) ≡ number (b .row .0) (b .col .0)
+    → (nc * across < p .width → (nr < b .row .0) ⊎ (number nr nc ≡ number (b .row .0) (b .col .0) → ⊥))
+    → chromaHas b (pos nr) (pos nc)
+    ≡ available (gridOf p) (b .col .0 * across) (b .row .0 * down) (pos (nc * across)) (pos (nr * down))
+unfolding available chromaHas numberAt
+chroma-agrees b g nr nc own side =
+    let p = b .picture in
+    let down = subHeight (b .format) in
+    let across = subWidth (b .format) in
+    let nb = numberAt p (nr * down) (nc * across) in
+    ap₂ (λ (x y : Bool). x && y && (ltb nb cur || eqb nb cur && ltb nr (b .row .0)))
+    (in-its-plane nr (p .height) down (g .tall) (step-height (b .format)))
+    (in-its-plane nc (p .width) across (g .wide) (step-width (b .format)))
+    ∙ ap (λ (k : ℕ). ltb (nr * down) (p .height) && ltb (nc * across) (p .width) && (ltb nb k || eqb nb k && ltb nr (b .row .0))) own
+    ∙ columns-first (ltb (nr * down) (p .height)) (ltb (nc * across) (p .width))
+    (λ e. no-later nb (numberAt p (b .row .0 * down) (b .col .0 * across)) nr (b .row .0) (side (ltb-true (nc * across) (p .width) e)))
+  where
+    cur : ℕ
+    cur = numberAt (b .picture) (b .«cur_luma_row» .0) (b .«cur_luma_col» .0)

@@ -1,5 +1,6 @@
--- Demand 2 on one page: 'Luma gathering, smoothing, planar, DC and angular prediction are proved equal to ITU-T H.265'. For each door: what
--- meets its contract, as the prover reads it, with the number 0, has the samples of the standard (crates/h265). Proof2 proves it.
+-- Demand 2 on one page: 'Luma gathering, smoothing, planar, DC and angular prediction are proved equal to ITU-T H.265', and chroma
+-- gathering at a block's own place. For each door: what meets its contract, as the prover reads it, with the number 0, has the samples of
+-- the standard (crates/h265). Proof2 proves it.
 use mathlib.Core.Path.{_≡_}
 use mathlib.Core.Bool.{Bool, true, false, not}
 use mathlib.Core.List.{List}
@@ -27,18 +28,23 @@ use Rattle.h265.specs.Mean.{Agree}
 use Rattle.bytes.specs.Bytes.{samplesOf}
 use Rattle.bytes.specs.Laws.{AreBytes}
 use Rattle.order.specs.Order.{gridOf}
+use Rattle.order.specs.Reach.{chromaWidth}
 use Rattle.domain.specs.declared.rows.Rows.{Rows}
 use Rattle.domain.specs.declared.rows.Gathered.{Gathered}
-use Rattle.domain.specs.rows.Neighbours.{neighboursOf}
+use Rattle.domain.specs.rows.Neighbours.{neighboursOf, zeroRows}
+use Rattle.refs.specs.declared.GatheredPair.{GatheredPair}
 use Rattle.refs.specs.declared.LumaRefGeometry.{LumaRefGeometry}
+use Rattle.refs.specs.declared.ChromaRefGeometry.{ChromaRefGeometry}
 use Rattle.refs.specs.Gather.{sampleOf}
-use Rattle.refs.specs.Door.{lumaGeometry}
+use Rattle.refs.specs.Door.{lumaGeometry, formatOf, chromaGeometry, chromaPicture, chromaBlock}
+use Rattle.refs.specs.Component.{componentOf, OwnPlace}
 use Rattle.smooth.specs.declared.Rule.{Rule}
 use Rattle.smooth.specs.declared.FilteredRows.{FilteredRows}
 use Rattle.smooth.specs.declared.Smoothed.{Smoothed}
 use Rattle.predict.specs.Contents.{chromaAt}
 use Rattle.predict.specs.declared.scratch.AngularScratch.{AngularScratch}
 use Rattle.refs.proofs.get_reference_samples.Reads as gather
+use Rattle.refs.proofs.get_reference_samples_chroma_pair.Reads as pair-gather
 use Rattle.smooth.proofs.should_filter_refs.Reads as rule
 use Rattle.smooth.proofs.filter_references.Reads as weak-filter
 use Rattle.smooth.proofs.filter_luma_refs.Reads as luma-filter
@@ -54,6 +60,7 @@ use Rattle.predict.proofs.predict_luma_tb_slices.Reads as luma-slices
 use Rattle.predict.proofs.scratch_predict.predict_luma_tb_into as luma-into
 use Rattle.predict.proofs.scratch_predict.predict_luma_tb_fresh.Reads as luma-fresh
 use Rattle.camera.proofs.salvrunde_luma_refs.Reads as c-luma-refs
+use Rattle.camera.proofs.salvrunde_chroma_refs_ctu.Reads as c-chroma-refs
 use Rattle.camera.proofs.salvrunde_planar.Reads as c-planar
 use Rattle.camera.proofs.salvrunde_dc.Reads as c-dc
 use Rattle.camera.proofs.salvrunde_angular.Reads as c-angular
@@ -84,9 +91,9 @@ inRows corner above left = fromRows corner (now above) (now left)
 abbrev pub inBytes : ℕ → LentSlice → LentSlice → Neighbours
 inBytes corner above left = fromRows corner (samplesOf (now above)) (samplesOf (now left))
 
--- and those in one line of samples: the corner, 65 above, 65 left
-abbrev pub fromOneLine : List ℕ → Neighbours
-fromOneLine l = record { corner = getD l 0 0; above = λ i. getD l (1 + i) 0; left = λ i. getD l (66 + i) 0 }
+-- and those in one line of samples from place k on: the corner, 65 above, 65 left
+abbrev pub fromOneLine : ℕ → List ℕ → Neighbours
+fromOneLine k l = record { corner = getD l k 0; above = λ i. getD l (k + 1 + i) 0; left = λ i. getD l (k + 66 + i) 0 }
 
 -- 8.4.4.2.1 of the first edition: a block's samples in a mode, from neighbours that are not yet filtered
 abbrev pub lumaSamples : ℕ → ℕ → ℕ → Neighbours → ℕ → ℕ → ℕ
@@ -107,6 +114,16 @@ abbrev pub standardBlock : List ℕ → LumaRefGeometry → ℕ → ℕ → ℕ 
 standardBlock plane g mode =
     predicted (gridOf (g .picture)) (lumaAt (g .bits)) firstEditionStrong (g .n) mode (g .«block_col» .0) (g .«block_row» .0)
     (planeSample plane g)
+
+-- the neighbours that 6.4.1 and 8.4.4.2.2 give a chroma block of a plane, by its format's component and its picture's CTU; that these are
+-- others, in the corner and entries 0 .. 2n - 1 above and left
+abbrev pub standardChroma : List ℕ → ChromaRefGeometry → Neighbours
+standardChroma plane g =
+    neighbours (gridOf (chromaPicture g)) (componentOf (formatOf (g .format)) (g .bits)) (g .n) (g .«block_col» .0) (g .«block_row» .0)
+    (λ x y. sampleOf plane (chromaWidth (chromaBlock g)) y x)
+
+abbrev pub AreChroma : List ℕ → ChromaRefGeometry → Neighbours → Type 0
+AreChroma plane g nb = Agree (g .n) nb (standardChroma plane g)
 
 -- `clause x y` is in row y and column x of a block of side n
 abbrev pub Holds : ℕ → (ℕ → ℕ → ℕ) → List ℕ → Type 0
@@ -134,6 +151,10 @@ Spells {A} post call says =
 abbrev pub Gathers : Lfts 1 → LentSlice → LumaRefGeometry → Gathered → Type 0
 Gathers κ plane geo g = gather.Post κ (plane and geo and none) g (plane and geo and none) × (g .no ≡ 0)
 
+-- and that of the chroma pair gather
+abbrev pub GathersPair : Lfts 2 → LentSlice → LentSlice → ChromaRefGeometry → GatheredPair → Type 0
+GathersPair κs cb cr geo g = pair-gather.Post κs (cb and cr and geo and none) g (cb and cr and geo and none) × (g .no ≡ 0)
+
 -- predict's doors with the scratch as a struct, which are proved by hand
 module _ {M : Type 1} (𝓤 : URA M) (H : Heap 𝓤) (A : Atoms 𝓤) (mem : Memory → SProp 𝓤) (run : Routine → Fun 𝓤) where
   pub record WithScratch : Type 1 where
@@ -156,6 +177,12 @@ pub record Demand2 : Type 2 where
   -- refs, 6.4.1 and 8.4.4.2.2: the corner, and entries 0 .. 2n - 1 above and left
   pub get-reference-samples : (κ : Lfts 1) (plane : LentSlice) (geo : LumaRefGeometry) (g : Gathered) → Gathers κ plane geo g
       → Agree (geo .n) (neighboursOf (g .rows)) (standardNeighbours (now plane) geo)
+  -- the same of Cb and of Cr, in every format and at every CTU, where the current luma place is the block's own and the least unit no wider
+  -- than the block in luma samples
+  pub get-reference-samples-chroma-pair : (κs : Lfts 2) (cb cr : LentSlice) (geo : ChromaRefGeometry) (g : GatheredPair)
+      → GathersPair κs cb cr geo g → OwnPlace geo
+      → AreChroma (now cb) geo (neighboursOf (getD (g .planes) 0 zeroRows))
+      × AreChroma (now cr) geo (neighboursOf (getD (g .planes) 1 zeroRows))
   -- smooth, 8.4.4.2.3: the rule; both rows in the [1 2 1] form, which no depth plays a part in; corner and rows in either form
   pub should-filter-refs : (mode n : ℕ) (r : Rule) → rule.Post none (mode and n and none) r (mode and n and none) → r .no ≡ 0
       → r .yes ≡ filterFlag n mode
@@ -206,7 +233,13 @@ pub record Demand2 : Type 2 where
   pub salvrunde-luma-refs : (κs : Lfts 2) (bits width height ctu unit row col n : ℕ) (plane : LentSlice) → AreBytes (now plane)
       → Spells (c-luma-refs.Post κs)
       (λ out. bits and width and height and ctu and unit and row and col and n and plane and out and none)
-      (λ l. Agree n (fromOneLine l) (standardNeighbours (samplesOf (now plane)) (lumaGeometry bits width height ctu unit row col n)))
+      (λ l. Agree n (fromOneLine 0 l) (standardNeighbours (samplesOf (now plane)) (lumaGeometry bits width height ctu unit row col n)))
+  pub salvrunde-chroma-refs-ctu : (κs : Lfts 3) (bits format width height ctu unit row col n curRow curCol : ℕ) (cb cr : LentSlice)
+      → AreBytes (now cb) → AreBytes (now cr) → let geo = chromaGeometry bits format width height ctu unit row col n curRow curCol in
+      OwnPlace geo → Spells (c-chroma-refs.Post κs)
+      (λ out. bits and format and width and height and ctu and unit and row and col and n and curRow and curCol and cb and cr and out
+      and none)
+      (λ l. AreChroma (samplesOf (now cb)) geo (fromOneLine 0 l) × AreChroma (samplesOf (now cr)) geo (fromOneLine 131 l))
   pub salvrunde-planar : (κs : Lfts 3) (n : ℕ) (above left : LentSlice) → AreBytes (now above) → AreBytes (now left)
       → Spells (c-planar.Post κs) (λ out. n and above and left and out and none) (Holds n (planar n (inBytes 0 above left)))
   pub salvrunde-dc : (κs : Lfts 3) (n edge : ℕ) (above left : LentSlice) → AreBytes (now above) → AreBytes (now left)

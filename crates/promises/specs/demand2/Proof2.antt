@@ -25,10 +25,13 @@ use Rattle.h265.specs.Mean.{Agree}
 use Rattle.domain.specs.Domain.{sizeOk}
 use Rattle.domain.specs.Facts.{size-of, size-small}
 use Rattle.domain.specs.declared.rows.Gathered.{Gathered}
-use Rattle.domain.specs.rows.Neighbours.{neighboursOf}
+use Rattle.domain.specs.rows.Neighbours.{neighboursOf, zeroRows}
+use Rattle.refs.specs.declared.GatheredPair.{GatheredPair}
 use Rattle.refs.specs.declared.LumaRefGeometry.{LumaRefGeometry}
-use Rattle.refs.specs.Door.{lumaGeometry, lumaNo, getReferenceSamples}
-use Rattle.refs.specs.standard.Standard.{luma-standard}
+use Rattle.refs.specs.declared.ChromaRefGeometry.{ChromaRefGeometry}
+use Rattle.refs.specs.Door.{lumaGeometry, lumaNo, getReferenceSamples, chromaGeometry, chromaNo, getReferenceSamplesChromaPair}
+use Rattle.refs.specs.Component.{OwnPlace}
+use Rattle.refs.specs.standard.Standard.{luma-standard, chroma-standard}
 use Rattle.smooth.specs.declared.Rule.{Rule}
 use Rattle.smooth.specs.declared.FilteredRows.{FilteredRows}
 use Rattle.smooth.specs.declared.Smoothed.{Smoothed}
@@ -41,9 +44,10 @@ use Rattle.predict.specs.planar_dc.Flat.{ready}
 use Rattle.predict.specs.angular.Door.{fit}
 use Rattle.predict.specs.by_mode.Door.{given, highest}
 use Rattle.predict.specs.modes.Modes.{pred-alone}
-use Rattle.promises.specs.demand2.Demand2.{LentSlice, LentTables, Holds, lumaSamples, standardNeighbours, standardBlock}
+use Rattle.promises.specs.demand2.Demand2.{LentSlice, LentTables, Holds, lumaSamples, standardNeighbours, AreChroma, standardBlock}
 use Rattle.promises.specs.demand2.Demand2.{WithScratch, Demand2}
-use Rattle.promises.specs.demand2.Spelt2.{luma-size, luma-refs-spelt, planar-spelt, dc-spelt, angular-spelt, chroma-spelt}
+use Rattle.promises.specs.demand2.Spelt2.{luma-size, luma-refs-spelt, chroma-refs-spelt}
+use Rattle.promises.specs.demand2.Spelt2.{planar-spelt, dc-spelt, angular-spelt, chroma-spelt}
 
 abbrev pub entriesIn : LentSlice → ℕ
 entriesIn s = length (now s)
@@ -95,6 +99,18 @@ module _ (plane : List ℕ) (geo : LumaRefGeometry) (g : Gathered) (met : g ≡ 
       ∙ pred-alone (lumaAt (geo .bits)) firstEditionStrong (geo .n) mode x y _ _ (luma-size _ geo no-is)
       (highest (given (geo .bits) (geo .n) mode lent (sym e ∙ zero) .block)) hx hy gathered
 
+-- the chroma pair gather
+module _ (cb cr : List ℕ) (geo : ChromaRefGeometry) (g : GatheredPair) (met : g ≡ getReferenceSamplesChromaPair cb cr geo)
+    (served-call : g .no ≡ 0) (own : OwnPlace geo) where
+  pair-no : chromaNo (length cb) (length cr) geo ≡ 0
+  unfolding getReferenceSamplesChromaPair
+  pair-no = ap (λ (d : GatheredPair). d .no) (sym met) ∙ served-call
+
+  gathered-pair : AreChroma cb geo (neighboursOf (getD (g .planes) 0 zeroRows))
+      × AreChroma cr geo (neighboursOf (getD (g .planes) 1 zeroRows))
+  unfolding getReferenceSamplesChromaPair
+  gathered-pair = rw met (rw pair-no (chroma-standard _ _ geo pair-no own cb, chroma-standard _ _ geo pair-no own cr))
+
 -- smoothing
 ruled : (mode n : ℕ) (r : Rule) → r ≡ shouldFilterRefs mode n → r .no ≡ 0 → r .yes ≡ filterFlag n mode
 unfolding shouldFilterRefs
@@ -141,6 +157,7 @@ module _ {M : Type 1} (𝓤 : URA M) (H : Heap 𝓤) (A : Atoms 𝓤) (mem : Mem
 pub demand-2 : Demand2
 demand-2 = record {
   get-reference-samples = λ κ plane geo g m. gathered (now plane) geo g (m .0) (m .1);
+  get-reference-samples-chroma-pair = λ κs cb cr geo g m own. gathered-pair (now cb) (now cr) geo g (m .0) (m .1) own;
   should-filter-refs = ruled;
   filter-references = λ κs corner above left n. weakly corner (now above) (now left) n;
   filter-luma-refs = λ κs corner above left n. either-form corner (now above) (now left) n;
@@ -167,6 +184,8 @@ demand-2 = record {
   with-scratch = with-scratch;
   salvrunde-luma-refs = λ κs bits width height ctu unit row col n plane bytes out out′ number.
       luma-refs-spelt (now plane) (lumaGeometry bits width height ctu unit row col n) (now out) bytes;
+  salvrunde-chroma-refs-ctu = λ κs bits format width height ctu unit row col n curRow curCol cb cr a b own out out′ number.
+      chroma-refs-spelt (now cb) (now cr) (chromaGeometry bits format width height ctu unit row col n curRow curCol) (now out) a b own;
   salvrunde-planar = λ κs n above left a l out out′ number. planar-spelt n (now above) (now left) (now out) a l;
   salvrunde-dc = λ κs n edge above left a l out out′ number. dc-spelt n (now above) (now left) (now out) a l edge;
   salvrunde-angular = λ κs bits n mode edge corner above left c a l out out′ number.

@@ -12,7 +12,7 @@ use lib.IntN.{ℤ, pos, negsuc, natAbs, _+ℤ_, _-ℤ_}
 use lib.ListN.{getD}
 use borrow.Author.Tests.{lt-ltb, le-ltb}
 use Rattle.h265.specs.Notation.{Neighbours, near, _>>_, clipTo}
-use Rattle.h265.specs.Setting.{Grid, lumaAt, firstEditionStrong}
+use Rattle.h265.specs.Setting.{Grid, Component, lumaAt, firstEditionStrong}
 use Rattle.h265.specs.Substitution.{placeX, placeY, firstMarked, settled, substitutedAt, fromPlaces, neighbours}
 use Rattle.h265.specs.Filtering.{strongAt, weakAt, biIntFlag, filtered}
 use Rattle.h265.specs.Angular.{intraPredAngle, invAngle, ref, project, angular}
@@ -60,10 +60,11 @@ module _ (m : ℕ) where
       at : (k : ℕ) → substitutedAt bits n marked value k ≤ m
       at k = let found = firstMarked marked 0 (4 * n + 1) in either (ltb found (4 * n + 1)) (settled-most marked value found h k) l
 
-  pub neighbours-most : (g : Grid) (bits n x y : ℕ) (samples : ℕ → ℕ → ℕ) → ((a b : ℕ) → samples a b ≤ m) → 2 ^ (bits - 1) ≤ m
-      → Most m (neighbours g (lumaAt bits) n x y samples)
+  pub neighbours-most : (g : Grid) (c : Component) (n x y : ℕ) (samples : ℕ → ℕ → ℕ) → ((a b : ℕ) → samples a b ≤ m)
+      → 2 ^ (c .bits - 1) ≤ m → Most m (neighbours g c n x y samples)
   unfolding neighbours
-  neighbours-most g bits n x y samples h l = places-most bits n _ _ (λ k. h (natAbs (pos x +ℤ placeX n k)) (natAbs (pos y +ℤ placeY n k))) l
+  neighbours-most g c n x y samples h l =
+      places-most (c .bits) n _ _ (λ k. h (natAbs (pos x +ℤ placeX n k)) (natAbs (pos y +ℤ placeY n k))) l
 
   -- filtering
   module _ (nb : Neighbours) (a : Most m nb) where
@@ -150,7 +151,7 @@ unfolding predictedAt predicted prepared byMode
 predicted-most s b plane depth size mode most r c hr hc =
     let m = largestIn s in
     let neutral = at-depth (λ (k : ℕ). 2 ^ (k - 1) ≤ 2 ^ k - 1) (omega arith) (omega arith) (omega arith) (s .bits) depth in
-    let nb = neighbours-most m _ (s .bits) (b .side) (b .col) (b .row) (λ x y. sampleAt s plane y x) (λ x y. most _) neutral in
+    let nb = neighbours-most m _ (lumaAt (s .bits)) (b .side) (b .col) (b .row) (λ x y. sampleAt s plane y x) (λ x y. most _) neutral in
     let p = either-of m (filters (lumaAt (s .bits)) firstEditionStrong (b .side) (b .mode))
     (filtered-most m _ nb true (s .bits) (b .side)) nb in
     rw (is-by-mode (lumaAt (s .bits)) firstEditionStrong (b .side) (b .mode) _ c r)

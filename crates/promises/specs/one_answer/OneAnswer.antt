@@ -140,7 +140,7 @@ use Rattle.probes.proofs.walk_probes.salvrunde_probe_replay_records as walk-pro
 use Rattle.bytes.proofs.pairs.read.Reads as pairs-read
 use Rattle.bytes.proofs.pairs.store.Reads as pairs-store
 use Rattle.camera.proofs.salvrunde_luma_refs.Reads as camera-salvrunde-luma-refs
-use Rattle.camera.proofs.salvrunde_chroma_refs.Reads as camera-salvrunde-chroma-refs
+use Rattle.camera.proofs.salvrunde_chroma_refs_ctu.Reads as camera-salvrunde-chroma-refs-ctu
 use Rattle.camera.proofs.salvrunde_planar.Reads as camera-salvrunde-planar
 use Rattle.camera.proofs.salvrunde_dc.Reads as camera-salvrunde-dc
 use Rattle.camera.proofs.salvrunde_angular.Reads as camera-salvrunde-angular
@@ -609,9 +609,9 @@ by-after p q = (ap (λ (v : After). v .number) (p ∙ sym q), ap (λ (v : After)
 camera-salvrunde-luma-refs-once : (κs : Lfts 2) → OnceLeft (λ s. now (s .1 .1 .1 .1 .1 .1 .1 .1 .1 .0)) (camera-salvrunde-luma-refs.Post κs)
 camera-salvrunde-luma-refs-once κs a x y s t p q = by-written p q
 
-camera-salvrunde-chroma-refs-once : (κs : Lfts 3)
-    → OnceLeft (λ s. now (s .1 .1 .1 .1 .1 .1 .1 .1 .1 .1 .1 .1 .0)) (camera-salvrunde-chroma-refs.Post κs)
-camera-salvrunde-chroma-refs-once κs a x y s t p q = by-written p q
+camera-salvrunde-chroma-refs-ctu-once : (κs : Lfts 3)
+    → OnceLeft (λ s. now (s .1 .1 .1 .1 .1 .1 .1 .1 .1 .1 .1 .1 .1 .0)) (camera-salvrunde-chroma-refs-ctu.Post κs)
+camera-salvrunde-chroma-refs-ctu-once κs a x y s t p q = by-written p q
 
 camera-salvrunde-planar-once : (κs : Lfts 3) → OnceLeft (λ s. now (s .1 .1 .1 .0)) (camera-salvrunde-planar.Post κs)
 camera-salvrunde-planar-once κs a x y s t p q = by-written p q

@@ -1,5 +1,5 @@
 -- Document 01, 'use from C': the table of numbers at the camera's entries, where number 5 counts bytes. Rests on Exact and on the
--- doors' tables.  salvrunde_luma_refs     luma-refs        salvrunde_angular        angular salvrunde_chroma_refs   chroma-refs
+-- doors' tables.  salvrunde_luma_refs     luma-refs        salvrunde_angular        angular salvrunde_chroma_refs_ctu chroma-refs
 -- salvrunde_chroma_block   chroma-block salvrunde_planar        planar           salvrunde_replay         replay salvrunde_dc
 -- dc  gather::store_reference_samples and gather::store_reference_samples_chroma_pair, to which the gathers forward, have luma-refs
 -- and chroma-refs too.

@@ -50,7 +50,7 @@ use Rattle.refs.specs.declared.substitution.Flags.{Flags}
 use Rattle.refs.specs.declared.LumaRefGeometry.{LumaRefGeometry}
 use Rattle.refs.specs.declared.ChromaRefGeometry.{ChromaRefGeometry}
 use Rattle.refs.specs.substitution.Door.{substituteNo, substituteRefs}
-use Rattle.refs.specs.Door.{lumaBlock, lumaNumber, lumaLength, lumaNo, getReferenceSamples, formatOf, chromaPicture, chromaBlock}
+use Rattle.refs.specs.Door.{lumaBlock, lumaNumber, lumaLength, lumaNo, getReferenceSamples, chromaPicture, chromaBlock}
 use Rattle.refs.specs.Door.{chromaLength, chromaNumber, chromaNo, getReferenceSamplesChromaPair}
 use Rattle.refs.specs.Served.{gatherNo}
 use Rattle.camera.specs.gather.Door.{lumaBytesNo, lumaBytesDoor}
@@ -81,11 +81,11 @@ BadLuma b =
     let p = b .picture in
     BadPlace (p .height) (p .width) (b .row .0) (b .col .0) (b .n) or p .ctu < b .n or (¬ Unit (p .unit)) or b .n < p .unit
 
--- number 6 of a chroma block, counted in chroma samples; the current place is a luma place. Above says that n is above the CTU.
-abbrev pub BadChroma : ChromaBlock → Type 0 → Type 0
-BadChroma b Above =
-    BadPlace (chromaHeight b) (chromaWidth b) (b .row .0) (b .col .0) (b .n) or Above or Outside (b .picture) (b .«cur_luma_row» .0)
-    (b .«cur_luma_col» .0)
+-- number 6 of a chroma block, counted in chroma samples, n against the CTU over the width's subsampling; the current place is a luma place
+abbrev pub BadChroma : ChromaBlock → Type 0
+BadChroma b =
+    BadPlace (chromaHeight b) (chromaWidth b) (b .row .0) (b .col .0) (b .n) or b .picture .ctu / subWidth (b .format) < b .n
+    or Outside (b .picture) (b .«cur_luma_row» .0) (b .«cur_luma_col» .0)
 
 -- number 5 of a predictor: the rows, the block buffer, and the scratch
 abbrev pub Short : ℕ → Lengths → Type 0
@@ -183,10 +183,11 @@ luma-place b =
     all-of (all-of (all-of (placed (p .height) (p .width) (b .row .0) (b .col .0) (b .n)) (at-most (b .n) (p .ctu))) (unit (p .unit)))
     (at-most (p .unit) (b .n))
 
-chroma-place : (b : ChromaBlock) {Above : Type 0} → Tells (leb (b .n) (b .picture .ctu / subWidth (b .format))) Above
-    → Tells (chromaPlaceOk b) (BadChroma b Above)
-chroma-place b t =
-    all-of (all-of (placed (chromaHeight b) (chromaWidth b) (b .row .0) (b .col .0) (b .n)) t)
+chroma-place : (b : ChromaBlock) → Tells (chromaPlaceOk b) (BadChroma b)
+chroma-place b =
+    all-of
+    (all-of (placed (chromaHeight b) (chromaWidth b) (b .row .0) (b .col .0) (b .n))
+    (at-most (b .n) (b .picture .ctu / subWidth (b .format))))
     (outside (b .picture) (b .«cur_luma_row» .0) (b .«cur_luma_col» .0))
 
 pub luma-reach : (b : LumaBlock) → Exact (lumaReach b .no)
@@ -204,14 +205,13 @@ coloured Yuv444 = record { passed = λ e h. true≢false (ap hasChroma h); faile
 
 pub chroma-reach : (b : ChromaBlock)
     → Exact (chromaReach b .no)
-    ((2 when ¬ Size (b .n)) ∷ (4 when BadPicture (b .picture) or b .format ≡ Monochrome)
-    ∷ (6 when BadChroma b (b .picture .ctu / subWidth (b .format) < b .n)) ∷ [])
+    ((2 when ¬ Size (b .n)) ∷ (4 when BadPicture (b .picture) or b .format ≡ Monochrome) ∷ (6 when BadChroma b) ∷ [])
 unfolding chromaReach chromaReachNo
 chroma-reach b =
     exact-answer (λ (r : Reach). r .no) _ _ refl refl
     (exact-row (size (b .n)) refl
     (λ e. exact-row (all-of (picture (b .picture)) (coloured (b .format))) refl
-    (λ e. exact-row (chroma-place b (at-most (b .n) (b .picture .ctu / subWidth (b .format)))) refl (λ e. exact-none))))
+    (λ e. exact-row (chroma-place b) refl (λ e. exact-none))))
 
 -- refs
 pub substitute-refs : (rows : Rows) (flags : Flags) (n bits : ℕ)
@@ -257,30 +257,19 @@ pub luma-gather-bytes : (b : List ℕ) (g : LumaRefGeometry) → Exact (lumaByte
 unfolding lumaBytesDoor lumaBytesNo
 luma-gather-bytes b g = luma-number (same (length b) (2 * lumaLength g)) g
 
--- no chroma block of a legal size is above a CTU of 64
-in-64 : (n : ℕ) (f : ChromaFormat) → Size n → Tells (leb n (64 / subWidth f)) (64 < n)
-in-64 n f s = record { passed = λ e h. omega (arith, size-small n s); failed = λ e. absurd (go f (leb-false n (64 / subWidth f) e)) }
-  where
-    go : (f : ChromaFormat) → 64 / subWidth f < n → ⊥
-    go Monochrome h = omega (arith, size-small n s)
-    go Yuv420 h = omega (arith, size-small n s)
-    go Yuv422 h = omega (arith, size-small n s)
-    go Yuv444 h = omega (arith, size-small n s)
-
 -- the rows of a chroma gather, where P says that a plane is not whole
 abbrev pub chromaTable : Type 0 → ChromaRefGeometry → List (Row ℕ)
 chromaTable P g =
     (1 when ¬ Depth (g .bits)) ∷ (2 when ¬ Size (g .n)) ∷ (4 when BadPicture (chromaPicture g) or g .format < 1 or 3 < g .format)
     ∷ (5 when P)
-    ∷ (6 when BadChroma (chromaBlock g) (64 < g .n)) ∷ []
+    ∷ (6 when BadChroma (chromaBlock g)) ∷ []
 
 pub chroma-number : {whole : Bool} {P : Type 0} → Tells whole P → (g : ChromaRefGeometry) → Exact (chromaNumber whole g) (chromaTable P g)
 chroma-number t g =
     exact-row (depth (g .bits)) refl
     (λ e. exact-row (size (g .n)) refl
-    (λ s. exact-row (all-of (all-of (picture (chromaPicture g)) (at-most 1 (g .format))) (at-most (g .format) 3)) refl
-    (λ e. exact-row t refl
-    (λ e. exact-row (chroma-place (chromaBlock g) (in-64 (g .n) (formatOf (g .format)) (size-of (g .n) s))) refl (λ e. exact-none)))))
+    (λ e. exact-row (all-of (all-of (picture (chromaPicture g)) (at-most 1 (g .format))) (at-most (g .format) 3)) refl
+    (λ e. exact-row t refl (λ e. exact-row (chroma-place (chromaBlock g)) refl (λ e. exact-none)))))
 
 pub chroma-gather : (cb cr : List ℕ) (g : ChromaRefGeometry)
     → Exact (getReferenceSamplesChromaPair cb cr g .no)

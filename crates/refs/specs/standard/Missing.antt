@@ -29,7 +29,8 @@ use Rattle.refs.specs.substitution.Door.{neutralAt}
 use Rattle.refs.specs.Gather.{flagsBy, samplesBy, gatheredBy, sampleOf}
 use Rattle.refs.specs.Door.{lumaBlock, lumaNo, lumaRows}
 use Rattle.refs.specs.standard.Shorter.{clash, found-marked, found-by}
-use Rattle.refs.specs.standard.Standard.{on-left, on-corner, on-above, Full, filled, filled-length, placed-of, mark-is, read-is, back}
+use Rattle.refs.specs.standard.Standard.{on-left, on-corner, on-above, Full, filled, filled-length, mark-is, read-is, back}
+use Rattle.refs.specs.standard.Standard.{luma-rule-of, luma-follows-of, luma-small}
 use Rattle.refs.specs.standard.Unread.{luma-unread}
 
 -- A line of m places in the end, by the search and the filling of 8.4.4.2.2.
@@ -176,12 +177,16 @@ module _ (plane : List ℕ) (g : LumaRefGeometry) where
 
   -- THE LAW of what is missing, for a gather that is not refused
   module _ (no-is : lumaNo (length plane) g ≡ 0) where
+    abbrev len : ℕ
+    len = length plane
+
+    small : g .n ≤ 32
+    small = luma-small len g no-is .1
+
     -- its flags are 6.4.1's, and its samples the plane's
     is-marked : (k : ℕ) → k < places → is k ≡ markedOn g k
     is-marked =
-        let placed = placed-of (length plane) g no-is in
-        let small = placed .size .1 in
-        let there = mark-is placed (g .bits) sample in
+        let there = mark-is (luma-rule-of len g no-is) (luma-follows-of len g no-is) (luma-small len g no-is) sample in
         on-places (markedBy g) (2 * g .n) _ _ _
         (λ i l. filled _ false (g .n) i small l ∙ there −1 (pos i) (inr refl))
         (there −1 −1 (inl refl))
@@ -189,9 +194,7 @@ module _ (plane : List ℕ) (g : LumaRefGeometry) where
 
     value-is : (k : ℕ) → k < places → value k ≡ cond (markedOn g k) (sampleOn plane g k) 0
     value-is =
-        let placed = placed-of (length plane) g no-is in
-        let small = placed .size .1 in
-        let read = read-is placed (g .bits) sample in
+        let read = read-is (luma-rule-of len g no-is) (luma-follows-of len g no-is) (luma-small len g no-is) sample in
         on-places (λ (x y : ℤ). cond (markedBy g x y) (sampleBy plane g x y) 0) (2 * g .n) _ _ _
         (λ i l. filled _ 0 (g .n) i small l ∙ read −1 (pos i) (row + i) (col - 1) (inr refl) (λ e. refl) (back col))
         (read −1 −1 (row - 1) (col - 1) (inl refl) (back row) (back col))
@@ -204,9 +207,8 @@ module _ (plane : List ℕ) (g : LumaRefGeometry) where
     entry-is : (k : ℕ) → k < places → entry k ≡ inTheEnd is value places (neutralAt (g .bits)) k
     unfolding lumaRows gatheredBy substituted
     entry-is =
-        let small = placed-of (length plane) g no-is .size .1 in
         let found = firstMarked is 0 places in
-        line-at (ltb found places) (2 * g .n) (neutralAt (g .bits)) (settled is value found) rows (omega arith)
+        line-at (ltb found places) (2 * g .n) (neutralAt (g .bits)) (settled is value found) rows (omega (arith, small))
         (record { above = filled-length _ (2 * g .n + 1); left = filled-length _ (2 * g .n + 1) })
 
     -- an available neighbour is the plane's sample, whatever that is

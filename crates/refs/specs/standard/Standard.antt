@@ -1,42 +1,45 @@
--- The luma gather of document 01 against H.265 6.4.1 and 8.4.4.2.2: for a call that is not refused the two agree on all the neighbours
--- that the standard has, so what entry 2n of a row holds matters to no other entry. Assumes nothing.
+-- The gathers of document 01 against H.265 6.4.1 and 8.4.4.2.2: for a luma call that is not refused, and for a chroma call at its block's
+-- own place too, the two agree on all the neighbours that the standard has, so what entry 2n of a row holds matters to no other entry.
+-- One theorem over any component, gathered-standard; luma-standard and chroma-standard are its instances. Assumes nothing.
 use mathlib.Core.Path.{_≡_, refl, sym, ap, ap₂, _∙_, subst}
-use mathlib.Core.Bool.{Bool, true, false, cond, _&&_, false≢true}
+use mathlib.Core.Bool.{Bool, true, false, cond, false≢true}
 use mathlib.Core.List.{List}
 use mathlib.Core.Logic.{_⊎_, inl, inr, ⊎-elim}
 use Prim.Native.Nat.{ℕ, zero, suc, _+_, _-_, _*_, _%_, _≤_, _<_}
-use native.Mathlib.Nat.{mul-one}
+use native.Mathlib.Nat.{mul-one, mul-pos, mul-lt-mul-of-pos-right}
 use native.Mathlib.Omega.{arith}
 use native.Mathlib.Decide.{decLt, ℕ-discrete}
-use lib.Dec.{leb, ltb, eqb}
-use lib.IntN.{ℤ, pos, negsuc, natAbs, one, _+ℤ_, _-ℤ_, _*ℤ_, -ℤ-one, *ℤ-one}
+use lib.Dec.{ltb}
+use lib.IntN.{ℤ, pos, negsuc, natAbs, negℤ, _+ℤ_, _-ℤ_, _*ℤ_, -ℤ-one}
 use lib.ListN.{length, getD, replicate, length-replicate, getD-replicate}
-use borrow.Author.Tests.{lt-ltb, le-ltb, le-leb, lt-leb, eq-eqb, ne-eqb, leb-true, eqb-true}
-use Rattle.laws.specs.Choose.{both-true, passed}
+use borrow.Author.Tests.{lt-ltb, le-ltb, le-leb, lt-leb, eq-eqb, ne-eqb}
 use Rattle.laws.specs.Fill.{fill}
 use Rattle.laws.specs.FillLaws.{fill-at, length-fill}
 use Rattle.h265.specs.Mean.{Agree}
 use Rattle.h265.specs.Notation.{Neighbours, near}
-use Rattle.h265.specs.Setting.{lumaAt}
+use Rattle.h265.specs.Setting.{Grid, Component, lumaAt}
 use Rattle.h265.specs.Availability.{available}
 use Rattle.h265.specs.Substitution.{placeX, placeY, firstMarked, settled, substitutedAt, fromPlaces, marked, neighbours}
-use Rattle.domain.specs.Domain.{depthOk, sizeOk, sideOk, ctuOk, unitOk}
-use Rattle.domain.specs.Facts.{Size, Unit, size-of, size-small, at-size, side-of, ctu-of, unit-of}
-use Rattle.fmt.specs.declared.LumaRow.{LumaRow}
-use Rattle.fmt.specs.declared.LumaCol.{LumaCol}
-use Rattle.order.specs.declared.Picture.{Picture}
-use Rattle.order.specs.Order.{gridOf, numberAt, before, availableTo, pictureOk}
-use Rattle.order.specs.Good.{Good}
-use Rattle.order.specs.order_laws.Laws.{standard-agrees, own-cell-apart, before-up, before-left}
-use Rattle.order.specs.Reach.{lumaPlaceOk}
+use Rattle.domain.specs.Facts.{Size, Unit, size-small, at-size}
 use Rattle.domain.specs.declared.rows.Rows.{Rows}
 use Rattle.domain.specs.rows.Neighbours.{neighboursOf, levelRows}
+use Rattle.fmt.specs.Fmt.{subWidth, subHeight, sub-width, sub-height, Subsampling, step-width}
+use Rattle.order.specs.declared.LumaBlock.{LumaBlock}
+use Rattle.order.specs.declared.ChromaBlock.{ChromaBlock}
+use Rattle.order.specs.Order.{gridOf, numberAt}
+use Rattle.order.specs.Blocks.{LumaFine, luma-fine, ChromaFine, chroma-fine}
+use Rattle.order.specs.order_laws.Laws.{standard-agrees, chroma-agrees, own-cell-apart}
+use Rattle.order.specs.Reach.{lumaHas, chromaHas, chromaWidth}
 use Rattle.refs.specs.declared.substitution.Flags.{Flags}
 use Rattle.refs.specs.declared.LumaRefGeometry.{LumaRefGeometry}
+use Rattle.refs.specs.declared.ChromaRefGeometry.{ChromaRefGeometry}
 use Rattle.refs.specs.substitution.Substitution.{onLine, flagsOn, samplesOn, fromLine, substituted}
 use Rattle.refs.specs.Gather.{flagsBy, samplesBy, gatheredBy, sampleOf}
 use Rattle.refs.specs.substitution.Door.{neutralAt}
-use Rattle.refs.specs.Door.{lumaBlock, lumaNo, lumaRows}
+use Rattle.refs.specs.Door.{lumaBlock, lumaNo, lumaRows, formatOf, chromaPicture, chromaBlock, chromaNo, chromaRows}
+use Rattle.refs.specs.Component.{componentOf, OwnPlace}
+use Rattle.refs.specs.Rules.{Bounded, HasRule, luma-rule, chroma-rule, closed-along, closed-down}
+use Rattle.refs.specs.Served.{luma-passed, chroma-passed}
 use Rattle.refs.specs.standard.Shorter.{Shared, shorter}
 
 -- the places of our line
@@ -160,16 +163,31 @@ one-less : (m r : ℕ) → pos m -ℤ pos 1 ≡ pos r → suc r ≡ m
 one-less zero r h = let q : _≡_ {A = ℕ} 0 1 = cc in absurd (omega arith)
 one-less (suc m) r h = omega (arith, ap natAbs (sym (-ℤ-one (pos (suc m))) ∙ h))
 
-times-one : (z : ℤ) → z *ℤ pos 1 ≡ z
-unfolding one
-times-one z = *ℤ-one z
+-- what is there lies in the plane
+there : {has : ℤ → ℤ → Bool} → Bounded has → (r c : ℤ) → has r c ≡ true → (r ≡ pos (natAbs r)) × (c ≡ pos (natAbs c))
+there off (pos r) (pos c) h = (refl, refl)
+there off (pos r) (negsuc c) h = absurd (false≢true (sym (off .side (pos r) c) ∙ h))
+there off (negsuc r) c h = absurd (false≢true (sym (off .top r c) ∙ h))
 
--- what is there lies in the picture
-there : (p : Picture) (limit : ℕ) (r c : ℤ) → before p limit r c ≡ true → (r ≡ pos (natAbs r)) × (c ≡ pos (natAbs c))
-unfolding before
-there p limit (pos r) (pos c) h = (refl, refl)
-there p limit (pos r) (negsuc c) h = absurd (false≢true h)
-there p limit (negsuc r) c h = absurd (false≢true h)
+-- 6.4.1 has nothing above or left of the picture, whatever luma samples a component's samples stand for
+below : (a k : ℕ) → 0 < k → negsuc a *ℤ pos k ≡ negsuc (suc a * k - 1)
+below a k h = go (suc a * k) (mul-pos (omega arith) h)
+  where
+    go : (m : ℕ) → 0 < m → negℤ (pos m) ≡ negsuc (m - 1)
+    go zero l = absurd (omega arith)
+    go (suc m) l = ap negsuc (let e : m ≡ suc m - 1 = omega arith in e)
+
+none-left : (g : Grid) (x y a k : ℕ) (w : ℤ) → 0 < k → available g x y (negsuc a *ℤ pos k) w ≡ false
+unfolding available
+none-left g x y a k w h = ap (λ (z : ℤ). available g x y z w) (below a k h)
+
+none-above : (g : Grid) (x y a k : ℕ) (w : ℤ) → 0 < k → available g x y w (negsuc a *ℤ pos k) ≡ false
+unfolding available
+none-above g x y a k w h = ap (available g x y w) (below a k h) ∙ go w
+  where
+    go : (w : ℤ) → available g x y w (negsuc (suc a * k - 1)) ≡ false
+    go (pos x) = refl
+    go (negsuc x) = refl
 
 pub back : (m : ℕ) → pos m -ℤ pos 1 ≡ pos (natAbs (pos m -ℤ pos 1)) → m - 1 ≡ natAbs (pos m -ℤ pos 1)
 back m h = omega (arith, one-less m (natAbs (pos m -ℤ pos 1)) h)
@@ -185,177 +203,144 @@ if-there : (b : Bool) (x y : ℕ) → (b ≡ true → x ≡ y) → cond b x 0 �
 if-there true x y h = h refl
 if-there false x y h = refl
 
--- availability up a column and back a row, at a place whose other coordinate may lie outside
-module _ {p : Picture} (good : Good p) (limit : ℕ) where
-  has-up : (row row′ : ℕ) (c : ℤ) → row ≤ row′ → before p limit (pos row′) c ≡ true → before p limit (pos row) c ≡ true
-  unfolding before
-  has-up row row′ (pos c) h e = before-up good limit c row row′ h e
-  has-up row row′ (negsuc c) h e = e
+-- THE THEOREM, of a block of any component. A rule that tells of each sample above the block or left of it what 6.4.1 tells of the luma
+-- sample that it stands for:
+pub record Follows (g : Grid) (c : Component) (row col : ℕ) (has : ℤ → ℤ → Bool) : Type 0 where
+  pub wide : 0 < c .subWidth
+  pub high : 0 < c .subHeight
+  pub tells : (nr nc : ℕ) → (nr < row) ⊎ (nc < col)
+      → has (pos nr) (pos nc) ≡ available g (col * c .subWidth) (row * c .subHeight) (pos (nc * c .subWidth)) (pos (nr * c .subHeight))
 
-  has-back : (r : ℤ) (col col′ : ℕ) → col ≤ col′ → before p limit r (pos col′) ≡ true → before p limit r (pos col) ≡ true
-  unfolding before
-  has-back (pos r) col col′ h e = before-left good limit r col col′ h e
-  has-back (negsuc r) col col′ h e = e
+module _ {g : Grid} {c : Component} {row col n height width : ℕ} {has : ℤ → ℤ → Bool} (rule : HasRule has height width)
+    (f : Follows g c row col has) (size : (4 ≤ n) × (n ≤ 32)) (sample : ℕ → ℕ → ℕ) where
+  abbrev flags : Flags
+  flags = flagsBy has row col n
 
--- a luma block that no gather refuses: it is in its picture, at a multiple of the unit, so that no neighbour shares its cell
-pub record GatherPlaced (p : Picture) (row : LumaRow) (col : LumaCol) (n : ℕ) : Type 0 where
-  pub good : Good p
-  pub size : (4 ≤ n) × (n ≤ 32)
-  pub row-at : row .0 % p .unit ≡ 0
-  pub col-at : col .0 % p .unit ≡ 0
-  pub inside : col .0 < p .width
+  abbrev rows : Rows
+  rows = samplesBy has sample row col n
 
-module _ {p : Picture} {row : LumaRow} {col : LumaCol} {n : ℕ} (placed : GatherPlaced p row col n) where
-  -- 6.4.1 is 01's availability above the block and left of it
-  available-is : (r c : ℤ) → ((nr nc : ℕ) → r ≡ pos nr → c ≡ pos nc → (nr < row .0) ⊎ (nc < col .0))
-      → available (gridOf p) (col .0) (row .0) c r ≡ availableTo p row col r c
-  unfolding available before
-  available-is (pos nr) (pos nc) near = go (decLt nc (p .width))
+  -- the neighbour in column x and row y from the block's first sample
+  abbrev mark : ℤ → ℤ → Bool
+  mark = marked g c col row
+
+  abbrev read : ℤ → ℤ → ℕ
+  read x y = sample (natAbs (pos row +ℤ y)) (natAbs (pos col +ℤ x))
+
+  available-is : (r x : ℤ) → ((nr nc : ℕ) → r ≡ pos nr → x ≡ pos nc → (nr < row) ⊎ (nc < col))
+      → has r x ≡ available g (col * c .subWidth) (row * c .subHeight) (x *ℤ pos (c .subWidth)) (r *ℤ pos (c .subHeight))
+  available-is (pos nr) (pos nc) near = f .tells nr nc (near nr nc refl refl)
+  available-is (pos nr) (negsuc nc) near =
+      rule .off .side (pos nr) nc ∙ sym (none-left g _ _ nc (c .subWidth) (pos nr *ℤ pos (c .subHeight)) (f .wide))
+  available-is (negsuc nr) x near =
+      rule .off .top nr x ∙ sym (none-above g _ _ nr (c .subHeight) (x *ℤ pos (c .subWidth)) (f .high))
+
+  pub mark-is : (x y : ℤ) → (y ≡ negsuc 0) ⊎ (x ≡ negsuc 0) → has (pos row +ℤ y) (pos col +ℤ x) ≡ mark x y
+  unfolding marked
+  mark-is x y off = available-is (pos row +ℤ y) (pos col +ℤ x) near
     where
-      go : Dec (nc < p .width) → available (gridOf p) (col .0) (row .0) (pos nc) (pos nr) ≡ availableTo p row col (pos nr) (pos nc)
-      go (yes l) = standard-agrees (placed .good) row col nr nc
-          (own-cell-apart (placed .good) (row .0) (col .0) nr nc (placed .row-at) (placed .col-at) (placed .inside) l
-          (near nr nc refl refl))
-      go (no n) = simp (le-ltb nc (p .width) (omega arith)) (never (ltb nr (p .height)))
-        where
-          never : (b : Bool) → false ≡ b && false && ltb (numberAt p nr nc) (numberAt p (row .0) (col .0))
-          never true = refl
-          never false = refl
-  available-is (pos nr) (negsuc nc) near = refl
-  available-is (negsuc nr) (pos nc) near = refl
-  available-is (negsuc nr) (negsuc nc) near = refl
+      near : (nr nc : ℕ) → pos row +ℤ y ≡ pos nr → pos col +ℤ x ≡ pos nc → (nr < row) ⊎ (nc < col)
+      near nr nc hr hc =
+          ⊎-elim
+          (λ e. inl (omega (arith, one-less row nr (ap (λ (z : ℤ). pos row +ℤ z) (sym e) ∙ hr))))
+          (λ e. inr (omega (arith, one-less col nc (ap (λ (z : ℤ). pos col +ℤ z) (sym e) ∙ hc))))
+          off
 
-  at-one : (x y : ℕ) (c r : ℤ) → available (gridOf p) x y c r ≡ available (gridOf p) (x * 1) (y * 1) (c *ℤ pos 1) (r *ℤ pos 1)
-  at-one x y c r = rw (mul-one x, mul-one y, times-one c, times-one r)
+  mark-at : (k : ℕ) → k < 4 * n + 1 → flagsOn flags (2 * n) (suc k) ≡ mark (placeX n k) (placeY n k)
+  mark-at =
+      on-line mark n _ _ _
+      (λ i l. filled _ false n i (size .1) (omega arith) ∙ mark-is (negsuc 0) (pos i) (inr refl))
+      (mark-is (negsuc 0) (negsuc 0) (inl refl))
+      (λ i l. filled _ false n i (size .1) (omega arith) ∙ mark-is (pos i) (negsuc 0) (inl refl))
 
-  module _ (bits : ℕ) (sample : ℕ → ℕ → ℕ) where
-    abbrev has : ℤ → ℤ → Bool
-    has = availableTo p row col
+  pub read-is : (x y : ℤ) (r k : ℕ) → (y ≡ negsuc 0) ⊎ (x ≡ negsuc 0)
+      → (pos row +ℤ y ≡ pos (natAbs (pos row +ℤ y)) → r ≡ natAbs (pos row +ℤ y))
+      → (pos col +ℤ x ≡ pos (natAbs (pos col +ℤ x)) → k ≡ natAbs (pos col +ℤ x))
+      → cond (has (pos row +ℤ y) (pos col +ℤ x)) (sample r k) 0 ≡ cond (mark x y) (read x y) 0
+  read-is x y r k off hr hc =
+      let R = pos row +ℤ y in
+      let C = pos col +ℤ x in
+      if-there (has R C) (sample r k) (read x y) (λ e. let t = there (rule .off) R C e in ap₂ sample (hr (t .0)) (hc (t .1)))
+      ∙ ap (λ (b : Bool). cond b (read x y) 0) (mark-is x y off)
 
-    abbrev flags : Flags
-    flags = flagsBy has (row .0) (col .0) n
+  read-at : (k : ℕ) → k < 4 * n + 1 → samplesOn rows (2 * n) (suc k)
+      ≡ cond (mark (placeX n k) (placeY n k)) (read (placeX n k) (placeY n k)) 0
+  read-at =
+      on-line (λ (x y : ℤ). cond (mark x y) (read x y) 0) n _ _ _
+      (λ i l. filled _ 0 n i (size .1) (omega arith)
+      ∙ read-is (negsuc 0) (pos i) (row + i) (col - 1) (inr refl) (λ e. refl) (back col))
+      (read-is (negsuc 0) (negsuc 0) (row - 1) (col - 1) (inl refl) (back row) (back col))
+      (λ i l. filled _ 0 n i (size .1) (omega arith)
+      ∙ read-is (pos i) (negsuc 0) (row - 1) (col + i) (inl refl) (back row) (λ e. refl))
 
-    abbrev rows : Rows
-    rows = samplesBy has sample (row .0) (col .0) n
+  closed : Closed n flags
+  closed = record {
+    above = λ e.
+        filled _ false n (2 * n - 1) (size .1) (omega arith)
+        ∙ closed-along rule (pos row -ℤ pos 1) (col + (2 * n - 1)) (col + 2 * n) (omega arith)
+        (sym (filled _ false n (2 * n) (size .1) (omega arith)) ∙ e);
+    left = λ e.
+        filled _ false n (2 * n - 1) (size .1) (omega arith)
+        ∙ closed-down rule (pos col -ℤ pos 1) (row + (2 * n - 1)) (row + 2 * n) (omega arith)
+        (sym (filled _ false n (2 * n) (size .1) (omega arith)) ∙ e);
+  }
 
-    -- the neighbour in column x and row y from the block's first sample
-    abbrev mark : ℤ → ℤ → Bool
-    mark = marked (gridOf p) (lumaAt bits) (col .0) (row .0)
+  -- the rows gathered by it are the neighbours of 6.4.1 and 8.4.4.2.2
+  pub gathered-standard : Agree n (neighboursOf (gatheredBy has sample row col n (neutralAt (c .bits))))
+      (neighbours g c n col row (λ x y. sample y x))
+  unfolding gatheredBy neighbours
+  gathered-standard =
+      substituted-standard n flags rows size (record { above = filled-length _ (2 * n + 1); left = filled-length _ (2 * n + 1) }) closed
+      (c .bits) _ _ mark-at
+      (λ k l e. sym (read-at k l ∙ ap (λ (b : Bool). cond b (read (placeX n k) (placeY n k)) 0) e))
 
-    abbrev read : ℤ → ℤ → ℕ
-    read x y = sample (natAbs (pos (row .0) +ℤ y)) (natAbs (pos (col .0) +ℤ x))
+-- Its instances. A multiple of a block's side stands for a multiple of the unit, where the unit is no wider than the block.
+abbrev Aligned : ℕ → ℕ → ℕ → ℕ → Type 0
+Aligned v unit step n = unit ≤ n * step → v % n ≡ 0 → v * step % unit ≡ 0
 
-    pub mark-is : (x y : ℤ) → (y ≡ negsuc 0) ⊎ (x ≡ negsuc 0) → has (pos (row .0) +ℤ y) (pos (col .0) +ℤ x) ≡ mark x y
-    unfolding marked
-    mark-is x y off = sym (available-is (pos (row .0) +ℤ y) (pos (col .0) +ℤ x) near)
-        ∙ at-one (col .0) (row .0) (pos (col .0) +ℤ x) (pos (row .0) +ℤ y)
-      where
-        near : (nr nc : ℕ) → pos (row .0) +ℤ y ≡ pos nr → pos (col .0) +ℤ x ≡ pos nc → (nr < row .0) ⊎ (nc < col .0)
-        near nr nc hr hc =
-            ⊎-elim
-            (λ e. inl (omega (arith, one-less (row .0) nr (ap (λ (z : ℤ). pos (row .0) +ℤ z) (sym e) ∙ hr))))
-            (λ e. inr (omega (arith, one-less (col .0) nc (ap (λ (z : ℤ). pos (col .0) +ℤ z) (sym e) ∙ hc))))
-            off
-
-    mark-at : (k : ℕ) → k < 4 * n + 1 → flagsOn flags (2 * n) (suc k) ≡ mark (placeX n k) (placeY n k)
-    mark-at =
-        on-line mark n _ _ _
-        (λ i l. filled _ false n i (placed .size .1) (omega arith) ∙ mark-is (negsuc 0) (pos i) (inr refl))
-        (mark-is (negsuc 0) (negsuc 0) (inl refl))
-        (λ i l. filled _ false n i (placed .size .1) (omega arith) ∙ mark-is (pos i) (negsuc 0) (inl refl))
-
-    pub read-is : (x y : ℤ) (r c : ℕ) → (y ≡ negsuc 0) ⊎ (x ≡ negsuc 0)
-        → (pos (row .0) +ℤ y ≡ pos (natAbs (pos (row .0) +ℤ y)) → r ≡ natAbs (pos (row .0) +ℤ y))
-        → (pos (col .0) +ℤ x ≡ pos (natAbs (pos (col .0) +ℤ x)) → c ≡ natAbs (pos (col .0) +ℤ x))
-        → cond (has (pos (row .0) +ℤ y) (pos (col .0) +ℤ x)) (sample r c) 0 ≡ cond (mark x y) (read x y) 0
-    read-is x y r c off hr hc =
-        let R = pos (row .0) +ℤ y in
-        let C = pos (col .0) +ℤ x in
-        if-there (has R C) (sample r c) (read x y) (λ e. let t = there p (numberAt p (row .0) (col .0)) R C e in ap₂ sample (hr (t .0))
-        (hc (t .1)))
-        ∙ ap (λ (b : Bool). cond b (read x y) 0) (mark-is x y off)
-
-    read-at : (k : ℕ) → k < 4 * n + 1 → samplesOn rows (2 * n) (suc k)
-        ≡ cond (mark (placeX n k) (placeY n k)) (read (placeX n k) (placeY n k)) 0
-    read-at =
-        on-line (λ (x y : ℤ). cond (mark x y) (read x y) 0) n _ _ _
-        (λ i l. filled _ 0 n i (placed .size .1) (omega arith)
-        ∙ read-is (negsuc 0) (pos i) (row .0 + i) (col .0 - 1) (inr refl) (λ e. refl) (back (col .0)))
-        (read-is (negsuc 0) (negsuc 0) (row .0 - 1) (col .0 - 1) (inl refl) (back (row .0)) (back (col .0)))
-        (λ i l. filled _ 0 n i (placed .size .1) (omega arith)
-        ∙ read-is (pos i) (negsuc 0) (row .0 - 1) (col .0 + i) (inl refl) (back (row .0)) (λ e. refl))
-
-    closed : Closed n flags
-    closed =
-        let cur = numberAt p (row .0) (col .0) in
-        record {
-          above = λ e.
-              filled _ false n (2 * n - 1) (placed .size .1) (omega arith)
-              ∙ has-back (placed .good) cur (pos (row .0) -ℤ pos 1) (col .0 + (2 * n - 1)) (col .0 + 2 * n) (omega arith)
-              (sym (filled _ false n (2 * n) (placed .size .1) (omega arith)) ∙ e);
-          left = λ e.
-              filled _ false n (2 * n - 1) (placed .size .1) (omega arith)
-              ∙ has-up (placed .good) cur (row .0 + (2 * n - 1)) (row .0 + 2 * n) (pos (col .0) -ℤ pos 1) (omega arith)
-              (sym (filled _ false n (2 * n) (placed .size .1) (omega arith)) ∙ e);
-        }
-
-    gathered-standard : Agree n (neighboursOf (gatheredBy has sample (row .0) (col .0) n (neutralAt bits)))
-        (neighbours (gridOf p) (lumaAt bits) n (col .0) (row .0) (λ x y. sample y x))
-    unfolding gatheredBy neighbours
-    gathered-standard =
-        substituted-standard n flags rows (placed .size)
-        (record { above = filled-length _ (2 * n + 1); left = filled-length _ (2 * n + 1) }) closed bits _ _ mark-at
-        (λ k l e. sym (read-at k l ∙ ap (λ (b : Bool). cond b (read (placeX n k) (placeY n k)) 0) e))
-
--- a multiple of the block's side is one of the unit
-aligned : (unit n v : ℕ) → Unit unit → Size n → unit ≤ n → v % n ≡ 0 → v % unit ≡ 0
-aligned unit n v u s l e = ⊎-elim (at 4 four) (at 8 eight) u
+aligned : (unit n step v : ℕ) → Unit unit → Size n → Subsampling step → Aligned v unit step n
+aligned unit n step v u s t =
+    ⊎-elim
+    (λ e. ⊎-elim (at 4 1 e (λ a b. omega arith) (λ a b. omega arith) (λ a b. omega arith) (λ a b. omega arith))
+    (at 4 2 e (λ a b. omega arith) (λ a b. omega arith) (λ a b. omega arith) (λ a b. omega arith)) t)
+    (λ e. ⊎-elim (at 8 1 e (λ a b. omega arith) (λ a b. omega arith) (λ a b. omega arith) (λ a b. omega arith))
+    (at 8 2 e (λ a b. omega arith) (λ a b. omega arith) (λ a b. omega arith) (λ a b. omega arith)) t)
+    u
   where
-    four : 4 ≤ n → v % n ≡ 0 → v % 4 ≡ 0
-    four = at-size (λ (m : ℕ). 4 ≤ m → v % m ≡ 0 → v % 4 ≡ 0) (λ a b. b) (λ a b. omega arith) (λ a b. omega arith) (λ a b. omega arith) n s
+    at : (m k : ℕ) → unit ≡ m → Aligned v m k 4 → Aligned v m k 8 → Aligned v m k 16 → Aligned v m k 32 → step ≡ k → Aligned v unit step n
+    at m k p a b c d q =
+        subst (λ (x : ℕ). Aligned v x step n) (sym p)
+        (subst (λ (y : ℕ). Aligned v m y n) (sym q) (at-size (Aligned v m k) a b c d n s))
 
-    eight : 8 ≤ n → v % n ≡ 0 → v % 8 ≡ 0
-    eight = at-size (λ (m : ℕ). 8 ≤ m → v % m ≡ 0 → v % 8 ≡ 0) (λ a b. omega arith) (λ a b. b) (λ a b. omega arith) (λ a b. omega arith) n s
+-- luma
+luma-follows : (bits : ℕ) (b : LumaBlock) → LumaFine b → Follows (gridOf (b .picture)) (lumaAt bits) (b .row .0) (b .col .0) (lumaHas b)
+luma-follows bits b f = record { wide = omega arith; high = omega arith; tells = tells }
+  where
+    at : (v : ℕ) → v % b .n ≡ 0 → v % b .picture .unit ≡ 0
+    at v e = subst (λ (k : ℕ). k % b .picture .unit ≡ 0) (mul-one v)
+        (aligned (b .picture .unit) (b .n) 1 v (f .good .units) (f .size) (inl refl) (omega (arith, f .unit-in)) e)
 
-    at : (k : ℕ) → (k ≤ n → v % n ≡ 0 → v % k ≡ 0) → unit ≡ k → v % unit ≡ 0
-    at k f q = subst (λ (m : ℕ). v % m ≡ 0) (sym q) (f (omega arith) e)
+    tells : (nr nc : ℕ) → (nr < b .row .0) ⊎ (nc < b .col .0)
+        → lumaHas b (pos nr) (pos nc) ≡ available (gridOf (b .picture)) (b .col .0 * 1) (b .row .0 * 1) (pos (nc * 1)) (pos (nr * 1))
+    tells nr nc side =
+        rw (mul-one nr, mul-one nc, mul-one (b .row .0), mul-one (b .col .0))
+        (standard-agrees (f .good) (b .row) (b .col) nr nc
+        (λ l. own-cell-apart (f .good) (b .row .0) (b .col .0) nr nc
+        (omega (arith, f .placed .col-in, size-small (b .n) (f .size))) l
+        (⊎-elim (λ h. inl (at (b .row .0) (f .placed .row-at), h)) (λ h. inr (at (b .col .0) (f .placed .col-at), h)) side)))
 
--- what the gather's number 0 says
-pub placed-of : (len : ℕ) (g : LumaRefGeometry) → lumaNo len g ≡ 0 → GatherPlaced (g .picture) (g .«block_row») (g .«block_col») (g .n)
-unfolding lumaNo
-placed-of len g e =
-    let p = g .picture in
-    let row = g .«block_row» .0 in
-    let col = g .«block_col» .0 in
-    let depth = passed (depthOk (g .bits)) _ 1 (omega arith) e in
-    let size = passed (sizeOk (g .n)) _ 2 (omega arith) (depth .1) in
-    let picture = passed (pictureOk p) _ 4 (omega arith) (size .1) in
-    let long = passed (eqb len (p .height * p .width)) _ 5 (omega arith) (picture .1) in
-    let place = passed (lumaPlaceOk (lumaBlock g)) _ 6 (omega arith) (long .1) in
-    let ctus = both-true (sideOk (p .width) && sideOk (p .height)) (ctuOk (p .ctu)) (picture .0) in
-    let sides = both-true (sideOk (p .width)) (sideOk (p .height)) (ctus .0) in
-    let small = both-true _ (leb (p .unit) (g .n)) (place .0) in
-    let units = both-true _ (unitOk (p .unit)) (small .0) in
-    let most = both-true _ (leb (g .n) (p .ctu)) (units .0) in
-    let wide = both-true _ (leb (col + g .n) (p .width)) (most .0) in
-    let tall = both-true _ (leb (row + g .n) (p .height)) (wide .0) in
-    let at = both-true (eqb (row % g .n) 0) (eqb (col % g .n) 0) (tall .0) in
-    let unit = unit-of (p .unit) (units .1) in
-    let side = size-of (g .n) (size .0) in
-    let room = size-small (g .n) side in
-    let l = leb-true (p .unit) (g .n) (small .1) in
-    record {
-      good = record {
-        wide = side-of (p .width) (sides .0);
-        tall = side-of (p .height) (sides .1);
-        ctus = ctu-of (p .ctu) (ctus .1);
-        units = unit;
-      };
-      size = room;
-      row-at = aligned (p .unit) (g .n) row unit side l (eqb-true (row % g .n) 0 (at .0));
-      col-at = aligned (p .unit) (g .n) col unit side l (eqb-true (col % g .n) 0 (at .1));
-      inside = omega (arith, leb-true (col + g .n) (p .width) (wide .1));
-    }
+-- of a gather that is not refused
+module _ (len : ℕ) (g : LumaRefGeometry) (e : lumaNo len g ≡ 0) where
+  block-fine : LumaFine (lumaBlock g)
+  block-fine = luma-fine (lumaBlock g) (luma-passed len g e .1)
+
+  pub luma-rule-of : HasRule (lumaHas (lumaBlock g)) (g .picture .height) (g .picture .width)
+  luma-rule-of = luma-rule (lumaBlock g) (block-fine .good)
+
+  pub luma-follows-of : Follows (gridOf (g .picture)) (lumaAt (g .bits)) (g .«block_row» .0) (g .«block_col» .0) (lumaHas (lumaBlock g))
+  luma-follows-of = luma-follows (g .bits) (lumaBlock g) block-fine
+
+  pub luma-small : (4 ≤ g .n) × (g .n ≤ 32)
+  luma-small = size-small (g .n) (block-fine .size)
 
 -- the luma gather gives the neighbours of 6.4.1 and 8.4.4.2.2
 pub luma-standard : (plane : List ℕ) (g : LumaRefGeometry) → lumaNo (length plane) g ≡ 0
@@ -363,4 +348,43 @@ pub luma-standard : (plane : List ℕ) (g : LumaRefGeometry) → lumaNo (length 
     (neighbours (gridOf (g .picture)) (lumaAt (g .bits)) (g .n) (g .«block_col» .0) (g .«block_row» .0)
     (λ x y. sampleOf plane (g .picture .width) y x))
 unfolding lumaRows
-luma-standard plane g e = gathered-standard (placed-of (length plane) g e) (g .bits) (sampleOf plane (g .picture .width))
+luma-standard plane g e =
+    let len = length plane in
+    gathered-standard (luma-rule-of len g e) (luma-follows-of len g e) (luma-small len g e) (sampleOf plane (g .picture .width))
+
+-- chroma, in every format and at every CTU, where the current place is the block's own and the unit no wider than the block
+chroma-follows : (bits : ℕ) (b : ChromaBlock) → ChromaFine b
+    → b .«cur_luma_row» .0 ≡ b .row .0 * subHeight (b .format) → b .«cur_luma_col» .0 ≡ b .col .0 * subWidth (b .format)
+    → b .picture .unit ≤ b .n * subWidth (b .format)
+    → Follows (gridOf (b .picture)) (componentOf (b .format) bits) (b .row .0) (b .col .0) (chromaHas b)
+chroma-follows bits b f row-own col-own narrow =
+    record { wide = sub-width (b .format) .0; high = sub-height (b .format) .0; tells = tells }
+  where
+    tells : (nr nc : ℕ) → (nr < b .row .0) ⊎ (nc < b .col .0) → chromaHas b (pos nr) (pos nc)
+        ≡ available (gridOf (b .picture)) (b .col .0 * subWidth (b .format)) (b .row .0 * subHeight (b .format))
+        (pos (nc * subWidth (b .format))) (pos (nr * subHeight (b .format)))
+    tells nr nc side =
+        let p = b .picture in
+        let down = subHeight (b .format) in
+        let across = subWidth (b .format) in
+        chroma-agrees b (f .good) nr nc (ap₂ (numberAt p) row-own col-own)
+        (λ l. ⊎-elim inl
+        (λ h. inr (own-cell-apart (f .good) (b .row .0 * down) (b .col .0 * across) (nr * down) (nc * across)
+        (subst (λ (k : ℕ). k < p .width) col-own (f .cur-col)) l
+        (inr (
+          aligned (p .unit) (b .n) across (b .col .0) (f .good .units) (f .size) (step-width (b .format)) narrow (f .placed .col-at),
+          mul-lt-mul-of-pos-right h (sub-width (b .format) .0),
+        ))))
+        side)
+
+-- the pair gather gives in each plane the neighbours of 6.4.1 and 8.4.4.2.2 of that component
+pub chroma-standard : (cb cr : ℕ) (g : ChromaRefGeometry) → chromaNo cb cr g ≡ 0 → OwnPlace g → (plane : List ℕ)
+    → Agree (g .n) (neighboursOf (chromaRows plane g))
+    (neighbours (gridOf (chromaPicture g)) (componentOf (formatOf (g .format)) (g .bits)) (g .n) (g .«block_col» .0) (g .«block_row» .0)
+    (λ x y. sampleOf plane (chromaWidth (chromaBlock g)) y x))
+unfolding chromaRows
+chroma-standard cb cr g e own plane =
+    let b = chromaBlock g in
+    let f = chroma-fine b (chroma-passed cb cr g e .1) in
+    gathered-standard (chroma-rule b (f .good)) (chroma-follows (g .bits) b f (own .row-own) (own .col-own) (own .unit-in))
+    (size-small (g .n) (f .size)) (sampleOf plane (chromaWidth b))
