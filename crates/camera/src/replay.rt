@@ -250,7 +250,7 @@ fn verdict(
 }
 
 // Stores a number of four bytes.
-fn put_word(b: &mut [u8], at: usize, v: u32)
+pub(crate) fn put_word(b: &mut [u8], at: usize, v: u32)
     requires { ⌜ at + 3 < length (now b) ⌝ }
     ensures { λ _. ⌜ now (b .exit) ≡ putWord (now (b .entry)) at v ⌝ }
 {
