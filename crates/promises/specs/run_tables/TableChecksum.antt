@@ -2,17 +2,13 @@
 -- the doors' tables.  checksum::picture_checksum   picture-checksum   on_bytes::picture_checksum_bytes   picture-checksum-bytes
 -- salvrunde_checksum   checksum
 use mathlib.Core.Path.{_≡_, refl}
-use mathlib.Core.Bool.{Bool, true, true≢false, _&&_}
+use mathlib.Core.Bool.{Bool, true, _&&_}
 use mathlib.Core.List.{List, [], _∷_}
-use mathlib.Core.Logic.{inl, inr, ⊎-elim}
-use Prim.Native.Nat.{ℕ, zero, suc, _-_, _*_, _%_, _^_, _≤_, _<_}
-use native.Mathlib.Nat.{not-suc-le-zero, le-of-suc-le-suc}
-use native.Mathlib.Omega.{arith}
+use Prim.Native.Nat.{ℕ, _-_, _*_, _%_, _^_, _≤_, _<_}
 use lib.Dec.{leb, eqb}
-use lib.ListN.{length, getD}
+use lib.ListN.{length}
 use borrow.Author.Tests.{le-leb, leb-true, eq-eqb, eqb-true}
 use Rattle.laws.specs.Choose.{both-true}
-use Rattle.laws.specs.Every.{every}
 use Rattle.domain.specs.Domain.{planeSideOk}
 use Rattle.domain.specs.Facts.{Depth}
 use Rattle.bytes.specs.Bytes.{samplesOf}
@@ -22,7 +18,7 @@ use Rattle.camera.specs.Written.{entry}
 use Rattle.camera.specs.sums.Entry.{checksumEntry}
 use Rattle.promises.specs.tables.Exact.{Row, _when_, _or_, Exact, Tells, exact-none, exact-row, all-of, at-most, same, fact}
 use Rattle.promises.specs.tables.Table.{depth, held}
-use Rattle.promises.specs.run_tables.TableWalk.{Some}
+use Rattle.promises.specs.run_tables.TableWalk.{Some, every-one}
 
 -- number 4: a plane's side is a multiple of 4 from 4 to 4096
 pub record PlaneSide (s : ℕ) : Type 0 where
@@ -52,21 +48,6 @@ plane-side s = fact to (λ h. simp (le-leb 4 s (h .low), le-leb s 4096 (h .high)
         let q = both-true (leb 4 s) (leb s 4096) (p .0) in
         record { low = leb-true 4 s (q .0); high = leb-true s 4096 (q .1); whole = eqb-true (s % 4) 0 (p .1) }
 
-all-pass : {test : ℕ → Bool} {P : ℕ → Type 0} → ((v : ℕ) → Tells (test v) (P v)) → (l : List ℕ) → Tells (every test l) (Some 0 P l)
-unfolding every
-all-pass t [] = record { passed = λ e h. not-suc-le-zero (h .1 .0); failed = λ e. absurd (true≢false e) }
-all-pass {test} {P} t (x ∷ l) =
-    let u = all-of (t x) (all-pass t l) in
-    record {
-      passed = λ e h. u .passed e (split (h .0) (h .1 .0) (h .1 .1));
-      failed = λ e. ⊎-elim (λ p. (0, (omega arith, p)))
-          (λ h. (suc (h .0), (omega (arith, h .1 .0), h .1 .1))) (u .failed e);
-    }
-  where
-    split : (i : ℕ) → i < length (x ∷ l) → P (getD (x ∷ l) i 0) → P x or Some 0 P l
-    split zero h p = inl p
-    split (suc i) h p = inr (i, (le-of-suc-le-suc h, p))
-
 number : {fit : Bool} {Wrong : Type 0} → Tells fit Wrong → (r : RowRange) (samples : List ℕ) (sum : ℕ)
     → Exact (summedBy r fit samples sum .no) (checksumTable r Wrong samples)
 unfolding summedBy checksumNoBy
@@ -74,7 +55,7 @@ number t r samples sum =
     exact-row (depth (r .bits)) refl
     (λ e. exact-row (all-of (plane-side (r .width)) (plane-side (r .height))) refl
     (λ e. exact-row t refl
-    (λ e. exact-row (all-pass (λ v. at-most v (2 ^ r .bits - 1)) samples) refl
+    (λ e. exact-row (every-one 0 (λ v. at-most v (2 ^ r .bits - 1)) samples) refl
     (λ e. exact-row (all-of (at-most (r .first) (r .end)) (at-most (r .end) (r .height))) refl (λ e. exact-none)))))
 
 pub picture-checksum : (r : RowRange) (plane : List ℕ) (sum : ℕ)
