@@ -173,10 +173,19 @@ pub fn messages(t: &mut Tally) {
     match message::encoder() {
         None => println!("messages: no x265 here: 24 pictures compared with the sums that are kept"),
         Some(name) => {
+            let decoder = message::decoder();
             for (bits, format, planes, sums) in &lines {
-                assert_eq!(&message::written(*bits, *format, planes), sums, "{name} at {bits} bits, format {format}");
+                assert_eq!(
+                    &message::written(*bits, *format, planes, decoder.filter(|_| *bits == 8)),
+                    sums,
+                    "{name} at {bits} bits, format {format}"
+                );
             }
             println!("messages: {name} wrote the sums of 24 pictures anew, the same as those that are kept");
+            match decoder {
+                None => println!("messages: no dec265 here"),
+                Some(decoder) => println!("messages: {decoder} found those of 8 bits in what it decoded, and no other"),
+            }
         }
     }
 }

@@ -1,5 +1,6 @@
-//! The decoded picture hash message that x265 writes, read out of its bitstream.
+//! The decoded picture hash message that x265 writes, read out of its bitstream, and tested by a decoder.
 use crate::checksum::Plane;
+use std::path::Path;
 use std::process::{Command, Stdio};
 use std::{env, fs, process};
 
@@ -10,8 +11,20 @@ pub fn encoder() -> Option<String> {
     Some(text.lines().find_map(|l| l.split("version ").nth(1)).map_or("x265".into(), |v| format!("x265 {}", v.trim())))
 }
 
-/// The sums of a picture's components. Lossless, so that the decoded picture is the one given; blocks of 8, so that nothing is padded.
-pub fn written(bits: u32, format: u32, planes: &[Plane]) -> Vec<u32> {
+/// libde265's decoder, where it is installed; Debian gives it a name of its own. It is asked at 8 bits alone: above, its version 1.0.11
+/// refuses every message, also where the picture that it decodes is the one that was coded.
+pub fn decoder() -> Option<&'static str> {
+    ["dec265", "libde265-dec265"].into_iter().find(|name| Command::new(name).arg("--help").output().is_ok())
+}
+
+/// Whether the decoder finds the sums of the picture that it decodes in the stream's message.
+fn accepts(decoder: &str, stream: &Path) -> bool {
+    let done = Command::new(decoder).args(["-q", "-c"]).arg(stream).stdout(Stdio::null()).stderr(Stdio::null()).status();
+    done.expect("the decoder runs").success()
+}
+
+/// The sums of a picture's components, which the decoder must find, and must not where the message has another. Lossless, so that the decoded picture is the one given; blocks of 8, so that nothing is padded.
+pub fn written(bits: u32, format: u32, planes: &[Plane], decoder: Option<&str>) -> Vec<u32> {
     let at = env::temp_dir().join(format!("salvrunde-{}", process::id()));
     fs::create_dir_all(&at).expect("a folder for the picture");
     let (picture, stream) = (at.join("picture.yuv"), at.join("stream.hevc"));
@@ -29,7 +42,16 @@ pub fn written(bits: u32, format: u32, planes: &[Plane]) -> Vec<u32> {
         .stderr(Stdio::null())
         .status();
     assert!(done.expect("x265 runs").success(), "x265 takes the picture");
-    let sums = sums(&fs::read(&stream).expect("the bitstream is read"), planes.len());
+    let mut coded = fs::read(&stream).expect("the bitstream is read");
+    let sums = sums(&coded, planes.len());
+    if let Some(decoder) = decoder {
+        assert!(accepts(decoder, &stream), "{decoder} finds the sums at {bits} bits, format {format}");
+        // the last byte of the last sum stands before the unit's end
+        let last = coded.len() - 2;
+        coded[last] ^= 1;
+        fs::write(&stream, &coded).expect("the bitstream is written");
+        assert!(!accepts(decoder, &stream), "{decoder} finds another sum");
+    }
     fs::remove_dir_all(&at).expect("the folder is taken away");
     sums
 }
