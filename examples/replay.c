@@ -1,4 +1,5 @@
-/* Replays a still as the camera would: a few blocks a call, with the progress record passed on from call to call, and shows the plane.
+/* Replays a still as the camera would: a few blocks a call, with the progress record passed on from call to call, and shows the
+ * plane and its checksum.
  * Every call checks the whole plan and all residuals before it writes, so grant as many blocks as the time between calls allows.
  *
  *     tests/archive camera
@@ -39,6 +40,9 @@ int main(void) {
         done = number_at(result + 4);
         printf("%u of %d blocks done\n", (unsigned)done, BLOCKS);
     }
+    uint8_t sum[SALVRUNDE_SUM_BYTES];
+    if (salvrunde_checksum(8, WIDTH, HEIGHT, 0, HEIGHT, 0, plane, sizeof plane, sum, sizeof sum) != SALVRUNDE_DONE) return 1;
+    printf("picture checksum %u\n", (unsigned)number_at(sum));
     for (int row = 0; row < HEIGHT; row++)
         for (int col = 0; col < WIDTH; col++) {
             const uint8_t *sample = plane + 2 * (row * WIDTH + col);

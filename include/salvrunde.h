@@ -25,13 +25,15 @@ enum {
     SALVRUNDE_DEPTH = 1,   /* the depth is not 8, 10 or 12 bits */
     SALVRUNDE_SIZE = 2,    /* the block's side n is not 4, 8, 16 or 32 */
     SALVRUNDE_MODE = 3,    /* the mode is above 34; below 2 at the angular entry */
-    SALVRUNDE_PICTURE = 4, /* a side is no multiple of 8 from 8 to 4096, the CTU is not 16, 32 or 64, or the format has no chroma */
+    SALVRUNDE_PICTURE = 4, /* a side is no multiple of 8 from 8 to 4096 (of 4 from 4 at the checksum), the CTU is not 16, 32 or 64, or the
+                              format has no chroma */
     SALVRUNDE_BUFFER = 5,  /* a buffer is too short, a plane or residuals not exactly as long as the picture, or a plan not whole records */
     SALVRUNDE_PLACE = 6,   /* the block is not at a multiple of n or not in its plane, or n, the unit or the current place is wrong */
+    SALVRUNDE_SAMPLE = 7,  /* a sample is above the depth's largest */
     SALVRUNDE_RESIDUAL = 8, /* a residual is below -65535 or above 65535 */
     SALVRUNDE_ORDER = 9,   /* a block does not start at the next uncovered cell, or none is left */
     SALVRUNDE_GAP = 10,    /* the plan ends with cells uncovered */
-    SALVRUNDE_START = 11,  /* the progress record is above the count of blocks */
+    SALVRUNDE_START = 11,  /* the progress record is above the count of blocks, or a range of rows runs backward or leaves the plane */
     SALVRUNDE_EXCESS = 14  /* a residual is larger than the depth's largest sample, 255, 1023 or 4095: no encoder makes one */
 };
 
@@ -54,6 +56,8 @@ enum {
 #define SALVRUNDE_RECORD_BYTES 6
 /* Bytes of the replay's result: the block's list number and the next progress record, four bytes each, the lowest first. */
 #define SALVRUNDE_RESULT_BYTES 8
+/* Bytes of a checksum, the lowest first. */
+#define SALVRUNDE_SUM_BYTES 4
 /* Bytes of a block of side n. */
 #define SALVRUNDE_BLOCK_BYTES(n) (2 * (n) * (n))
 
@@ -113,6 +117,14 @@ uint32_t salvrunde_chroma_block(uint32_t bits, uint32_t n, uint32_t mode, uint16
 uint32_t salvrunde_replay(uint32_t done, uint32_t bits, uint32_t width, uint32_t height, uint32_t ctu, uint32_t grant, const uint8_t *plan,
                           size_t plan_bytes, const uint8_t *residuals, size_t residuals_bytes, uint8_t *plane, size_t plane_bytes,
                           uint8_t *result, size_t result_bytes);
+
+/* The picture checksum of one plane, of luma or of chroma, as the decoded picture hash message of H.265 Annex D has it (hash_type 2).
+ * width, height: the plane's own sides, each a multiple of 4 from 4 to 4096. first, end: the rows from first up to end, end not among them;
+ * equal ones are none. sum: the sum so far, 0 at the start. A plane may be summed in several calls, each from the sum that the one before
+ * gave: over all rows that is the message's number, whatever the calls. plane: exactly 2 * width * height bytes, all of them checked in
+ * every call. out: at least SALVRUNDE_SUM_BYTES, which are written. Numbers 1, 4, 5, 7, 11. */
+uint32_t salvrunde_checksum(uint32_t bits, uint32_t width, uint32_t height, uint32_t first, uint32_t end, uint32_t sum,
+                            const uint8_t *plane, size_t plane_bytes, uint8_t *out, size_t out_bytes);
 
 #ifdef __cplusplus
 }

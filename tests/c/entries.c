@@ -14,6 +14,9 @@
 struct references { uint32_t no; uint16_t corner, above[65], left[65]; };
 struct pair_references { uint32_t no; struct { uint16_t corner, above[65], left[65]; } planes[2]; };
 struct step { uint32_t no, block, did, done; };
+struct answer { uint32_t no, value; };
+struct answer salvrunde_probe_picture_checksum(uint32_t bits, uint32_t width, uint32_t height, uint32_t first, uint32_t end, uint32_t sum,
+    const uint16_t *plane, size_t plane_length);
 struct references *salvrunde_probe_get_reference_samples(struct references *out, const uint16_t *plane, size_t plane_length, uint32_t bits,
     uint32_t width, uint32_t height, uint32_t ctu, uint32_t unit, uint32_t row, uint32_t col, size_t n);
 struct pair_references *salvrunde_probe_get_reference_samples_chroma_pair(struct pair_references *out, const uint16_t *cb, size_t cb_length,
@@ -244,6 +247,32 @@ static void chroma(void) {
     free(cb), free(cr), give_back(&b), give_back(&r), give_back(&o);
 }
 
+static void checksum(void) {
+    uint32_t bits = some_bits(), width = 4 * (1 + chance(12)), height = 4 * (1 + chance(12)), no, wanted;
+    if (!chance(15)) width = chance(60);
+    if (!chance(15)) height = chance(2) ? 4100 : chance(60);
+    uint32_t end = chance(8) ? chance(height + 1) : chance(height + 8), first = chance(8) ? chance(end + 1) : chance(height + 2);
+    uint32_t sum = chance(4) ? (uint32_t)state : UINT32_MAX - chance(3);
+    size_t samples = (size_t)width * height;
+    struct lent p = lend(chance(10) ? 2 * samples : about(2 * samples)), o = lend(chance(10) ? 4 : about(4));
+    if (chance(8)) {
+        uint32_t high = bits > 8 && bits < 13 ? (1u << (bits - 8)) - 1 : 0;
+        for (size_t i = 0; 2 * i + 1 < p.length; i++) p.bytes[2 * i + 1] &= (uint8_t)high;
+        memcpy(p.before, p.bytes, p.length);
+    }
+    uint16_t *plane = decoded(&p, samples);
+    uint8_t bytes[4];
+    struct answer door = salvrunde_probe_picture_checksum(bits, width, height, first, end, sum, plane, samples);
+    no = salvrunde_checksum(bits, width, height, first, end, sum, p.bytes, p.length, o.bytes, o.length);
+    calls++;
+    wanted = door.no == 1 || door.no == 4 || (p.length == 2 * samples && o.length >= 4) ? door.no : 5;
+    if (no != wanted) fail("checksum", "number", no, wanted);
+    spell4(bytes, door.value);
+    check("checksum", &p, NULL, 0), check("checksum", &o, bytes, no ? 0 : 4);
+    served += no == 0;
+    free(plane), give_back(&p), give_back(&o);
+}
+
 /* A plan: quarters in decode order, split at random, those outside the picture left out. */
 enum { MOST = 1024 };
 struct plan { uint32_t blocks[MOST][4]; size_t count; };
@@ -318,7 +347,7 @@ static void replay(void) {
 int main(int count, char **words) {
     long turns = count > 1 ? atol(words[1]) : 1000;
     exact_layout = count > 2 && !strcmp(words[2], "exact");
-    for (long i = 0; i < turns; i++) predictions(), luma(), chroma(), replay();
+    for (long i = 0; i < turns; i++) predictions(), luma(), chroma(), checksum(), replay();
     printf("%lu calls, %lu served, 0 differ (%s)\n", calls, served, exact_layout ? "exact" : "guarded");
     return calls < 4 || served < calls / 8;
 }

@@ -70,6 +70,8 @@ static uint32_t substitution(void) {
     return answer.no;
 }
 
+static uint32_t checksum(void) { return salvrunde_checksum(12, WIDTH, HEIGHT, 0, HEIGHT, 0, plane, sizeof plane, result, sizeof result); }
+
 /* The plan of one CTU in blocks of `side`, all of one mode: block i lies where the bits of i say, column bit below row bit. */
 static void lay_plan(void) {
     for (uint32_t i = 0; i < WIDTH / side * (HEIGHT / side); i++) {
@@ -117,5 +119,6 @@ int main(void) {
     tell("chroma_block", chroma_block, 0, 34, 6144);
     tell("replay", replay, 0, 34, 8192);
     tell("substitution", substitution, 0, 3, 768);
+    tell("checksum", checksum, 0, 0, 1024); /* of the plane that the replays left: samples of 8 bits */
     return over;
 }

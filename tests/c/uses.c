@@ -78,5 +78,25 @@ int main(void) {
         residuals[4 * 127 + 2] = 1;
         HOLDS(salvrunde_replay(1, 8, 16, 8, 16, 9, plan, sizeof plan, residuals, sizeof residuals, still, sizeof still, result, sizeof result) == SALVRUNDE_RESIDUAL);
     }
+
+    /* the checksum of document 02's steps, 4y + x on 4 by 4 samples: all rows, two halves, and each refusal */
+    {
+        static uint8_t steps[2 * 4 * 4], sum[SALVRUNDE_SUM_BYTES + 1] = {9, 9, 9, 9, 9};
+        uint32_t i;
+        for (i = 0; i < 16; i++) steps[2 * i] = (uint8_t)i;
+        HOLDS(salvrunde_checksum(8, 4, 4, 0, 4, 0, steps, sizeof steps, sum, sizeof sum) == SALVRUNDE_DONE);
+        HOLDS(sum[0] == 120 && sum[1] == 0 && sum[2] == 0 && sum[3] == 0 && sum[4] == 9);
+        HOLDS(salvrunde_checksum(8, 4, 4, 0, 2, 0, steps, sizeof steps, sum, 4) == SALVRUNDE_DONE && sum[0] == 20);
+        HOLDS(salvrunde_checksum(8, 4, 4, 2, 4, 20, steps, sizeof steps, sum, 4) == SALVRUNDE_DONE && sum[0] == 120);
+        HOLDS(salvrunde_checksum(8, 4, 4, 4, 4, 0xFEDCBA98u, steps, sizeof steps, sum, 4) == SALVRUNDE_DONE);
+        HOLDS(sum[0] == 0x98 && sum[1] == 0xBA && sum[2] == 0xDC && sum[3] == 0xFE);
+        HOLDS(salvrunde_checksum(9, 4, 4, 0, 4, 0, steps, sizeof steps, sum, 4) == SALVRUNDE_DEPTH);
+        HOLDS(salvrunde_checksum(8, 2, 8, 0, 4, 0, steps, sizeof steps, sum, 4) == SALVRUNDE_PICTURE);
+        HOLDS(salvrunde_checksum(8, 4, 4, 0, 4, 0, steps, sizeof steps, sum, 3) == SALVRUNDE_BUFFER);
+        steps[1] = 1;
+        HOLDS(salvrunde_checksum(8, 4, 4, 0, 5, 0, steps, sizeof steps, sum, 4) == SALVRUNDE_SAMPLE);
+        HOLDS(salvrunde_checksum(10, 4, 4, 0, 5, 0, steps, sizeof steps, sum, 4) == SALVRUNDE_START);
+        HOLDS(sum[0] == 0x98 && sum[1] == 0xBA && sum[2] == 0xDC && sum[3] == 0xFE);
+    }
     return 0;
 }

@@ -3,3 +3,4 @@ pub mod Written
 pub mod gather
 pub mod prediction
 pub mod replay
+pub mod sums

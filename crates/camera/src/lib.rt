@@ -1,8 +1,10 @@
-// What the camera's C firmware calls: gathering, prediction and replay on numbers and byte slices, samples of two bytes, the lower first.
-// Each entry gives back its number, and writes nothing where it refuses. Rests on the doors' contracts and on how rows are stored.
+// What the camera's C firmware calls: gathering, prediction, replay and checksum on numbers and byte slices, samples of two bytes, the
+// lower first. Each entry gives back its number, and writes nothing where it refuses. Rests on the doors' contracts and on how rows are
+// stored.
 mod gather;
 mod prediction;
 mod replay;
+mod sums;
 
 ghost use mathlib.Core.Path.{_≡_};
 ghost use Rattle.refs.specs.Door.{lumaGeometry, chromaGeometry};
@@ -10,6 +12,9 @@ ghost use Rattle.camera.specs.replay.Door.{replayed};
 ghost use Rattle.camera.specs.Written.{wrote};
 ghost use Rattle.camera.specs.prediction.Entries.{planarEntry, dcEntry, angularEntry, chromaBlockEntry};
 ghost use Rattle.camera.specs.gather.Entry.{lumaEntry, chromaEntry};
+ghost use Rattle.checksum.specs.Checksum.{rowRange};
+ghost use Rattle.camera.specs.sums.Entry.{checksumEntry};
+use checksum::RowRange;
 use fmt::ChromaCol;
 use fmt::ChromaRow;
 use fmt::LumaCol;
@@ -170,4 +175,30 @@ pub extern "C" fn salvrunde_replay(
     let frame = Frame { width, height, ctu };
     let still = Still { bits, frame };
     replay::replay(done, still, plan, residuals, plane, result, grant)
+}
+
+// The picture checksum of H.265 Annex D over the rows from `first` up to `end` of a plane of exactly 2 · width · height bytes, from the sum
+// so far: the first 4 bytes of `out` get it, the lowest byte first. Numbers 1, 4, 5, 7, 11.
+#[no_mangle]
+pub extern "C" fn salvrunde_checksum(
+    bits: u32,
+    width: u32,
+    height: u32,
+    first: u32,
+    end: u32,
+    sum: u32,
+    plane: &[u8],
+    out: &mut [u8],
+) -> u32
+    ensures { λ r. ⌜ wrote r (now (out .exit)) ≡ checksumEntry (rowRange bits width height first end) sum (now (plane
+        .entry)) (now (out .entry)) ⌝ }
+{
+    let range = RowRange {
+        bits,
+        width,
+        height,
+        first,
+        end,
+    };
+    sums::store_checksum(plane, range, sum, out)
 }

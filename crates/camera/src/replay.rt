@@ -11,12 +11,13 @@ ghost use Rattle.laws.specs.Choose.{firstFail};
 ghost use Rattle.laws.specs.Fill.{run, block};
 ghost use Rattle.laws.specs.Paint.{paint};
 ghost use Rattle.laws.specs.Chain.{units};
+ghost use Rattle.laws.specs.Every.{every};
 ghost use Rattle.h265.specs.Notation.{clipTo};
 ghost use Rattle.bytes.specs.Bytes.{samplesOf, residualsOf};
 ghost use Rattle.plan.specs.RecordPlan.{recordsOf};
 ghost use Rattle.walk.specs.Lent.{tables, scratchTables};
 ghost use Rattle.samples.specs.deltas.Deltas.{residualWithin};
-ghost use Rattle.walk.specs.checks.Checks.{every, residualChecks};
+ghost use Rattle.walk.specs.checks.Checks.{residualChecks};
 ghost use Rattle.walk.specs.block.Predicted.{predictedAt};
 ghost use Rattle.walk.specs.block.Ready.{Ready, Lies};
 ghost use Rattle.walk.specs.block_rows.Ready.{RowIn, RowsIn};
@@ -250,7 +251,7 @@ fn verdict(
 }
 
 // Stores a number of four bytes.
-fn put_word(b: &mut [u8], at: usize, v: u32)
+pub(crate) fn put_word(b: &mut [u8], at: usize, v: u32)
     requires { ⌜ at + 3 < length (now b) ⌝ }
     ensures { λ _. ⌜ now (b .exit) ≡ putWord (now (b .entry)) at v ⌝ }
 {

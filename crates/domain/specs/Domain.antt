@@ -19,6 +19,10 @@ modeOk mode = leb mode 34
 abbrev pub sideOk : ℕ → Bool
 sideOk side = leb 8 side && leb side 4096 && eqb (side % 8) 0
 
+-- a plane's side, where it is not told whether it is of luma: a multiple of 4 from 4 to 4096
+abbrev pub planeSideOk : ℕ → Bool
+planeSideOk side = leb 4 side && leb side 4096 && eqb (side % 4) 0
+
 -- CTU 16, 32 or 64
 abbrev pub ctuOk : ℕ → Bool
 ctuOk ctu = eqb ctu 16 || eqb ctu 32 || eqb ctu 64

@@ -5,7 +5,7 @@ pub mod rows;
 
 ghost use mathlib.Core.Bool.{_&&_};
 ghost use mathlib.Core.Path.{_≡_};
-ghost use Rattle.domain.specs.Domain.{depthOk, sizeOk, modeOk, sideOk, ctuOk, unitOk};
+ghost use Rattle.domain.specs.Domain.{depthOk, sizeOk, modeOk, sideOk, planeSideOk, ctuOk, unitOk};
 
 // Number 1: a depth of 8, 10 or 12 bits.
 pub fn depth_ok(bits: u32) -> bool
@@ -33,6 +33,13 @@ fn side_ok(side: u32) -> bool
     ensures { λ r. ⌜ r ≡ sideOk side ⌝ }
 {
     (side >= 8) & (side <= 4096) & (side % 8 == 0)
+}
+
+// Number 4 of a plane, of luma or of chroma: a side that is a multiple of 4 from 4 to 4096.
+pub fn plane_side_ok(side: u32) -> bool
+    ensures { λ r. ⌜ r ≡ planeSideOk side ⌝ }
+{
+    (side >= 4) & (side <= 4096) & (side % 4 == 0)
 }
 
 fn ctu_ok(ctu: u32) -> bool

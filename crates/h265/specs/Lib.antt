@@ -23,5 +23,7 @@ pub mod Prediction
 pub mod Mean
 -- what neighbours and predictions are read from: the available samples beside a block
 pub mod Locality
+-- Annex D, the checksum of a decoded picture
+pub mod Checksum
 -- small evaluations, of other figures than document 01's
 pub mod Examples

@@ -27,6 +27,9 @@ use Rattle.refs.specs.declared.LumaRefGeometry.{LumaRefGeometry}
 use Rattle.refs.specs.declared.ChromaRefGeometry.{ChromaRefGeometry}
 use Rattle.refs.specs.substitution.Door.{substituteRefs}
 use Rattle.refs.specs.Door as gather
+use Rattle.checksum.specs.declared.RowRange.{RowRange}
+use Rattle.checksum.specs.declared.Summed.{Summed}
+use Rattle.checksum.specs.Checksum.{checksumOf}
 use Rattle.probes.specs.declared.Answer.{Answer}
 use Rattle.probes.specs.declared.PairReferences.{PairReferences}
 use Rattle.probes.specs.declared.DepthFigures.{DepthFigures}
@@ -142,3 +145,10 @@ gatherAnswer plane geo = gatheredOf (gather.getReferenceSamples plane geo)
 
 abbrev pub pairAnswer : List ℕ → List ℕ → ChromaRefGeometry → PairReferences
 pairAnswer cb cr geo = pairReferencesOf (gather.getReferenceSamplesChromaPair cb cr geo)
+
+-- the checksum's answer
+abbrev pub sumOf : Summed → Answer
+sumOf a = record { no = a .no; value = a .sum }
+
+abbrev pub checksumAnswer : RowRange → List ℕ → ℕ → Answer
+checksumAnswer r plane sum = sumOf (checksumOf r plane sum)

@@ -1,5 +1,5 @@
-// Entries at native types for the runs of what comes before prediction, the rules of fmt, order, smoothing and gathering, against
-// the Rust: each calls a door and hands its answer over as plain numbers. Rests on the doors' contracts.
+// Entries at native types for the runs of the rules of fmt, order, smoothing and gathering against the Rust, and of the checksum against
+// the standard: each calls a door and hands its answer over as plain numbers. Rests on the doors' contracts.
 pub mod predict_probes;
 pub mod walk_probes;
 
@@ -7,7 +7,10 @@ ghost use mathlib.Core.Path.{_≡_};
 ghost use Rattle.probes.specs.Probes.{depthFigures, formatFigures, onLuma, onChroma, orderAnswer, availableAnswer};
 ghost use Rattle.probes.specs.Probes.{ruleAnswer, filterAnswer, lumaAnswer};
 ghost use Rattle.probes.specs.Probes.{rowsWith, flagsWith, substituteAnswer, gatherAnswer, pairAnswer};
+ghost use Rattle.checksum.specs.Checksum.{rowRange};
+ghost use Rattle.probes.specs.Probes.{checksumAnswer};
 ghost use Rattle.refs.specs.Door.{lumaGeometry, chromaGeometry};
+use checksum::RowRange;
 use domain::rows::Rows;
 use fmt::ChromaCol;
 use fmt::ChromaFormat;
@@ -402,5 +405,31 @@ pub extern "C" fn salvrunde_probe_get_reference_samples_chroma_pair(
         cr_corner: cr.corner,
         cr_above,
         cr_left,
+    }
+}
+
+#[no_mangle]
+pub extern "C" fn salvrunde_probe_picture_checksum(
+    bits: u32,
+    width: u32,
+    height: u32,
+    first: u32,
+    end: u32,
+    sum: u32,
+    plane: &[u16],
+) -> Answer
+    ensures { λ r. ⌜ r ≡ checksumAnswer (rowRange bits width height first end) (now (plane .entry)) sum ⌝ }
+{
+    let range = RowRange {
+        bits,
+        width,
+        height,
+        first,
+        end,
+    };
+    let a = checksum::picture_checksum(plane, range, sum);
+    Answer {
+        no: a.no,
+        value: a.sum,
     }
 }

@@ -23,6 +23,7 @@ use Rattle.fmt.specs.declared.depth.DepthFrom.{DepthFrom}
 use Rattle.fmt.specs.declared.depth.DepthFrom.the-variants.{Depth, Refused}
 use Rattle.fmt.specs.depth.Depth.{depthFrom, depthNumber}
 use Rattle.refs.specs.Door.{lumaBlock, lumaGeometry, chromaBlock, chromaGeometry}
+use Rattle.checksum.specs.Checksum.{rowRange}
 use Rattle.predict.specs.refusals.Refusals.{lengths}
 use Rattle.plan.specs.declared.tiling.Verdict.{Verdict}
 use Rattle.plan.specs.tiling.Plan.{planOf, listed}
@@ -46,13 +47,17 @@ use Rattle.promises.specs.run_tables.TableWalk.{walk, replay}
 use Rattle.promises.specs.run_tables.TableBytes.{luma-refs, chroma-refs, planar, dc, angular, chroma-block}
 use Rattle.promises.specs.run_tables.TableBytes as bytes
 use Rattle.promises.specs.run_tables.TableProgram.{ProgramTable, program}
+use Rattle.promises.specs.run_tables.TableChecksum as sums
 use Rattle.camera.proofs.salvrunde_angular.Reads as camera-salvrunde-angular
+use Rattle.camera.proofs.salvrunde_checksum.Reads as camera-salvrunde-checksum
 use Rattle.camera.proofs.salvrunde_chroma_block.Reads as camera-salvrunde-chroma-block
 use Rattle.camera.proofs.salvrunde_chroma_refs_ctu.Reads as camera-salvrunde-chroma-refs-ctu
 use Rattle.camera.proofs.salvrunde_dc.Reads as camera-salvrunde-dc
 use Rattle.camera.proofs.salvrunde_luma_refs.Reads as camera-salvrunde-luma-refs
 use Rattle.camera.proofs.salvrunde_planar.Reads as camera-salvrunde-planar
 use Rattle.camera.proofs.salvrunde_replay.Reads as camera-salvrunde-replay
+use Rattle.checksum.proofs.on_bytes.picture_checksum_bytes.Reads as on-bytes-picture-checksum-bytes
+use Rattle.checksum.proofs.picture_checksum.Reads as checksum-picture-checksum
 use Rattle.fmt.proofs.depth.BitDepth.from_bits.Reads as depth-from-bits
 use Rattle.order.proofs.chroma_reach.Reads as order-chroma-reach
 use Rattle.order.proofs.decode_order.Reads as order-decode-order
@@ -89,6 +94,7 @@ use Rattle.probes.proofs.salvrunde_probe_filter_references.Reads as probes-salv
 use Rattle.probes.proofs.salvrunde_probe_get_reference_samples.Reads as probes-salvrunde-probe-get-reference-samples
 use Rattle.probes.proofs.salvrunde_probe_get_reference_samples_chroma_pair.Reads as probes-salvrunde-probe-get-reference-samples-chroma-pair
 use Rattle.probes.proofs.salvrunde_probe_is_available.Reads as probes-salvrunde-probe-is-available
+use Rattle.probes.proofs.salvrunde_probe_picture_checksum.Reads as probes-salvrunde-probe-picture-checksum
 use Rattle.probes.proofs.salvrunde_probe_should_filter_refs.Reads as probes-salvrunde-probe-should-filter-refs
 use Rattle.probes.proofs.salvrunde_probe_substitute_refs.Reads as probes-salvrunde-probe-substitute-refs
 use Rattle.probes.proofs.walk_probes.salvrunde_probe_check_plan.Reads as walk-probes-salvrunde-probe-check-plan
@@ -183,6 +189,16 @@ refs-get-reference-samples-row κs = tabled (λ a x s p. ap (λ r. r .no) p)
 refs-get-reference-samples-chroma-pair-row : (κs : Lfts 2)
     → Tabled (refs-get-reference-samples-chroma-pair.Post κs) (λ r. r .no) (λ a. chroma-gather (now (a .0)) (now (a .1 .0)) (a .1 .1 .0))
 refs-get-reference-samples-chroma-pair-row κs = tabled (λ a x s p. ap (λ r. r .no) p)
+
+-- checksum
+checksum-picture-checksum-row : (κs : Lfts 1)
+    → Tabled (checksum-picture-checksum.Post κs) (λ r. r .no) (λ a. sums.picture-checksum (a .1 .0) (now (a .0)) (a .1 .1 .0))
+checksum-picture-checksum-row κs = tabled (λ a x s p. ap (λ r. r .no) p)
+
+on-bytes-picture-checksum-bytes-row : (κs : Lfts 1)
+    → Tabled (on-bytes-picture-checksum-bytes.Post κs) (λ r. r .no)
+    (λ a. sums.picture-checksum-bytes (a .1 .0) (a .1 .1 .1 .0) (now (a .0)) (a .1 .1 .0))
+on-bytes-picture-checksum-bytes-row κs = tabled (λ a x s p. ap (λ r. r .no) p)
 
 -- smooth
 smooth-should-filter-refs-row : Tabled (smooth-should-filter-refs.Post tt) (λ r. r .no) (λ a. should-filter-refs (a .0) (a .1 .0))
@@ -326,6 +342,12 @@ camera-salvrunde-chroma-block-row : (κs : Lfts 3)
     chroma-block (a .1 .0) (now (b .0)) (now (b .1 .0)) (now (b .1 .1 .0)) (a .0) (a .1 .1 .0) (a .1 .1 .1 .0))
 camera-salvrunde-chroma-block-row κs = tabled (λ a x s p. ap (λ (w : Written). w .number) p)
 
+camera-salvrunde-checksum-row : (κs : Lfts 2)
+    → Tabled (camera-salvrunde-checksum.Post κs) (λ r. r)
+    (λ a. let b = a .1 .1 .1 .1 in
+    sums.checksum (rowRange (a .0) (a .1 .0) (a .1 .1 .0) (a .1 .1 .1 .0) (b .0)) (b .1 .0) (now (b .1 .1 .0)) (now (b .1 .1 .1 .0)))
+camera-salvrunde-checksum-row κs = tabled (λ a x s p. ap (λ (w : Written). w .number) p)
+
 -- the replay's number, with the block number that it writes
 abbrev lent : List ℕ → List ℕ → List ℕ → List ℕ → Lent
 lent plan residuals plane result = record { plan = plan; residuals = residuals; plane = length plane; result = length result }
@@ -353,6 +375,12 @@ camera-salvrunde-replay-row κs =
 -- probes
 probes-salvrunde-probe-depth-row : Tabled (probes-salvrunde-probe-depth.Post tt) (λ r. r .no) (λ a. depth-from (a .0))
 probes-salvrunde-probe-depth-row = tabled (λ a x s p. ap (λ r. r .no) p ∙ figures-number (depthFrom (a .0)))
+
+probes-salvrunde-probe-picture-checksum-row : (κs : Lfts 1)
+    → Tabled (probes-salvrunde-probe-picture-checksum.Post κs) (λ r. r .no)
+    (λ a. let b = a .1 .1 .1 .1 in
+    sums.picture-checksum (rowRange (a .0) (a .1 .0) (a .1 .1 .0) (a .1 .1 .1 .0) (b .0)) (now (b .1 .1 .0)) (b .1 .0))
+probes-salvrunde-probe-picture-checksum-row κs = tabled (λ a x s p. ap (λ r. r .no) p)
 
 probes-salvrunde-probe-decode-order-row : Tabled (probes-salvrunde-probe-decode-order.Post tt) (λ r. r .no)
     (λ a. let b = a .1 .1 .1 .1 in

@@ -9,6 +9,8 @@ pub mod OnBytes
 pub mod Program
 -- Zero: a zero in a reference row is a black sample.
 pub mod zero
+-- Checksum: the picture checksum is Annex D's, and two calls split at a row give what one gives.
+pub mod checksum
 pub mod tables
 pub mod run_tables
 pub mod one_answer

@@ -2,4 +2,5 @@
 // wrong number in one is found in seconds. Rests on the domain's tests and the figures of a depth.
 pub mod deltas;
 pub mod filters;
+pub mod ranges;
 pub mod taps;

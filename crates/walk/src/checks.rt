@@ -1,15 +1,15 @@
 // A still, and what a call on it checks before it looks at blocks: numbers 1, 4, 5, then 7, or 8 and 14; and how the plan's verdict
 // and number 11 follow. Rests on the domain's tests and on what a plan's verdict is.
 ghost use mathlib.Core.Path.{_≡_};
-ghost use Prim.Native.Nat.{ℕ};
-ghost use lib.Dec.{leb};
 ghost use Rattle.laws.specs.Choose.{firstFail};
+ghost use Rattle.laws.specs.Every.{every};
 ghost use Rattle.samples.specs.deltas.Deltas.{residualWithin};
-ghost use Rattle.walk.specs.checks.Checks.{every, isWhole, isRoomy, openingNo, residualChecks, replayNo, walkNo, settle};
+ghost use Rattle.walk.specs.checks.Checks.{isWhole, isRoomy, openingNo, residualChecks, replayNo, walkNo, settle};
 use fmt::depth;
 use plan::tiling::Frame;
 use plan::tiling::Verdict;
 use samples::deltas;
+use samples::ranges;
 
 // A still: its depth, its luma sides and its CTU.
 pub struct Still {
@@ -96,20 +96,6 @@ pub(crate) fn replay_no(
     residuals_no(residuals, depth::largest_of(s.bits))
 }
 
-// Number 7: whether every source sample is one of the depth's.
-fn samples_ok(source: &[u16], largest: u16) -> bool
-    ensures { λ b. ⌜ b ≡ every (λ (v : ℕ). leb v largest) (now (source .entry)) ⌝ }
-{
-    let count = source.len();
-    let mut ok = true;
-    let mut i = 0;
-    while i < count {
-        ok = ok & (source[i] <= largest);
-        i += 1;
-    }
-    ok
-}
-
 // Walk: the number of the checks before the plan's, 1, 4, 5, 7.
 pub(crate) fn walk_no(
     s: Still,
@@ -129,7 +115,7 @@ pub(crate) fn walk_no(
     if no != 0 {
         return no;
     }
-    if samples_ok(source, depth::largest_of(s.bits)) {
+    if ranges::samples_ok(source, depth::largest_of(s.bits)) {
         0
     } else {
         7

@@ -194,6 +194,16 @@ unsafe extern "C" {
         residual_len: usize,
     ) -> u32;
 
+    pub fn salvrunde_probe_picture_checksum(
+        bits: u32,
+        width: u32,
+        height: u32,
+        first: u32,
+        end: u32,
+        sum: u32,
+        plane: *const u16,
+        plane_length: usize,
+    ) -> Answer;
     pub fn salvrunde_probe_reconstruct_into(
         pred: *const u16,
         pred_len: usize,

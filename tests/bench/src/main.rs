@@ -17,6 +17,8 @@ mod angular;
 #[path = "../../differential/src/assembled.rs"]
 mod assembled;
 mod bytes;
+#[cfg(entry = "picture_checksum")]
+mod checksum;
 #[allow(dead_code)] // what subjects that are left out call
 mod entries;
 #[cfg(all(entry = "predict_planar_into", entry = "predict_dc_into"))]
@@ -71,6 +73,8 @@ const SUBJECTS: &[Subject] = &[
     gather_chroma::time,
     #[cfg(all(entry = "compute_residual_i32_into", entry = "reconstruct_into"))]
     residual::time,
+    #[cfg(entry = "picture_checksum")]
+    checksum::time,
     // the last two, for each has a table of its own
     #[cfg(all(entry = "walk", entry = "replay"))]
     walk::time,
@@ -91,6 +95,8 @@ const MISSING: &[&str] = &[
     "chroma pair gather",
     #[cfg(not(all(entry = "compute_residual_i32_into", entry = "reconstruct_into")))]
     "residual and reconstruction",
+    #[cfg(not(entry = "picture_checksum"))]
+    "checksum",
     #[cfg(not(all(entry = "walk", entry = "replay")))]
     "walk and replay",
 ];

@@ -109,3 +109,18 @@ pub fn replay(t: &mut Tally, before: &Call, after: &Call, step: &Step) {
     let told = [&step.block.to_le_bytes()[..], &step.done.to_le_bytes(), &[DIRT]].concat();
     t.call("salvrunde_replay", &args, Want::fields(&[step.no]).then(bytes(&after.plane)).then(told));
 }
+
+/// A checksum: the sum in the first four bytes of its buffer, which is left alone where it refuses. A buffer of three bytes is refused
+/// with 5, which comes before 7 and 11 and after 1 and 4.
+pub fn checksum(t: &mut Tally, first: &[u32; 6], plane: &[u8], (no, sum): (u32, u32)) {
+    for length in [4, 5, 3] {
+        let before = vec![DIRT; length];
+        let no = if length < 4 && ![1, 4].contains(&no) { 5 } else { no };
+        let mut after = before.clone();
+        if no == 0 {
+            after[..4].copy_from_slice(&sum.to_le_bytes());
+        }
+        let args = [&numbers(first)[..], &read(plane), &lent(&before)].concat();
+        t.call("salvrunde_checksum", &args, Want::fields(&[no]).then(after));
+    }
+}

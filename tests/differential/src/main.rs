@@ -8,6 +8,7 @@
 //! to SUBJECTS, and add the entries that it calls to entries.txt.
 mod assembled;
 mod block;
+mod checksum;
 mod clauses;
 mod differences;
 mod entries;
@@ -17,6 +18,7 @@ mod host;
 mod list;
 mod list_predict;
 mod list_refs;
+mod message;
 mod order;
 mod plan;
 mod predict;
@@ -73,6 +75,8 @@ const SUBJECTS: &[(&str, Subject)] = &[
     ("walk and replay refused", walk::refused),
     ("residual limit", walk::limit),
     ("differences in references", standard::differences),
+    ("checksum", checksum::checksum),
+    ("messages", checksum::messages),
 ];
 
 fn main() -> ExitCode {

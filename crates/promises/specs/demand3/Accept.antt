@@ -10,6 +10,7 @@ use lib.IntN.{ℤ}
 use lib.ListN.{length}
 use borrow.Author.Tests.{le-leb, eqb-true, eq-eqb}
 use Rattle.laws.specs.Choose.{firstFail, passed, both-true}
+use Rattle.laws.specs.Every.{every}
 use Rattle.domain.specs.Domain.{depthOk}
 use Rattle.domain.specs.Facts.{Depth, depth-of, at-depth}
 use Rattle.order.specs.Order.{pictureOk}
@@ -21,7 +22,7 @@ use Rattle.plan.specs.tiling.Tests.{good-picture}
 use Rattle.plan.specs.tiling.Verdict.{Accepted, good-verdict}
 use Rattle.walk.specs.declared.checks.Still.{Still}
 use Rattle.walk.specs.declared.Stepped.{Stepped}
-use Rattle.walk.specs.checks.Checks.{Tables, largestIn, every, isWhole, isRoomy, residualChecks, settle}
+use Rattle.walk.specs.checks.Checks.{Tables, largestIn, isWhole, isRoomy, residualChecks, settle}
 use Rattle.walk.specs.block.Rebuilt.{replayUnit}
 use Rattle.walk.specs.block.Walked.{World, walked, walkUnit}
 use Rattle.walk.specs.calls.Door.{verdictOf, replayVerdict, replayAfter, walkVerdict, walkAfter}

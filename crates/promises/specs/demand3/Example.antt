@@ -8,13 +8,14 @@ use lib.IntN.{pos}
 use lib.ListN.{replicate}
 use borrow.Author.Tests.{le-leb}
 use Rattle.laws.specs.Choose.{both-same}
+use Rattle.laws.specs.Every.{every}
 use Rattle.plan.specs.tiling.Plan.{planOf}
 use Rattle.plan.specs.tiling.Check.{aheadBy, ahead, blockNo}
 use Rattle.plan.specs.tiling.PlanCheck.{verdictFrom}
 use Rattle.h265.specs.Notation.{halvings}
 use Rattle.walk.specs.block.Walked.{World}
 use Rattle.walk.specs.Lent.{scratchTables}
-use Rattle.walk.specs.checks.Checks.{every, settle}
+use Rattle.walk.specs.checks.Checks.{settle}
 use Rattle.walk.specs.calls.Door.{verdictOf, walkVerdict}
 use Rattle.promises.specs.demand3.Calls.{Task, Ask, Roomy, granted, Each, Served, count, fresh, calls, walkVerdictAt, walkCall}
 use Rattle.promises.specs.demand3.Calls.{replayCall}

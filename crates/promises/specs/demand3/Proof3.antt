@@ -10,13 +10,14 @@ use borrow.Author.Tests.{le-leb, leb-true}
 use contract.Monad.{fact-mono}
 use Rattle.laws.specs.Chain.{units}
 use Rattle.laws.specs.Choose.{firstFail, passed}
+use Rattle.laws.specs.Every.{every}
 use Rattle.domain.specs.Facts.{Depth, at-depth, size-small}
 use Rattle.plan.specs.tiling.Tiling.{Covered, place}
 use Rattle.plan.specs.tiling.Cover.{area}
 use Rattle.plan.specs.tiling.Verdict.{Accepted}
 use Rattle.walk.specs.declared.checks.Still.{Still}
 use Rattle.samples.specs.deltas.Deltas.{residualOk, residualWithin}
-use Rattle.walk.specs.checks.Checks.{Tables, largestIn, every, residualChecks}
+use Rattle.walk.specs.checks.Checks.{Tables, largestIn, residualChecks}
 use Rattle.walk.specs.checks.Laws.{all-within}
 use Rattle.walk.specs.block.Predicted.{sampleAt, predictedAt}
 use Rattle.walk.specs.block.Rebuilt.{replayUnit}

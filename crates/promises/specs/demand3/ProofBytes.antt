@@ -12,6 +12,7 @@ use mir.Syntax.{w32}
 use mir.Val.{SFits}
 use borrow.Author.Tests.{eq-eqb, le-leb, leb-true}
 use Rattle.laws.specs.Choose.{served, passed, worked, unserved, both-same, both-true}
+use Rattle.laws.specs.Every.{every}
 use Rattle.bytes.specs.Bytes.{samplesOf, bytesOf, residualsOf}
 use Rattle.bytes.specs.Laws.{length-samples, length-bytes, bytes-back}
 use Rattle.plan.specs.declared.tiling.Verdict.{Verdict}
@@ -19,7 +20,6 @@ use Rattle.plan.specs.RecordPlan.{recordsOf}
 use Rattle.walk.specs.declared.Progress.{Progress}
 use Rattle.walk.specs.declared.Stepped.{Stepped}
 use Rattle.samples.specs.deltas.Deltas.{residualOk}
-use Rattle.walk.specs.checks.Checks.{every}
 use Rattle.walk.specs.block.Predicted.{sampleAt}
 use Rattle.walk.specs.block.Walked.{World}
 use Rattle.walk.specs.calls.Laws.{accepted-small}

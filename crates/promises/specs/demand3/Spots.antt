@@ -15,13 +15,13 @@ use lib.Seq.{ext-getD}
 use borrow.Author.Tests.{leb-true, le-leb}
 use Rattle.laws.specs.Choose.{both-true, both-same}
 use Rattle.laws.specs.Diff.{order}
+use Rattle.laws.specs.Every.{every}
 use Rattle.domain.specs.helpers.Ways.{apart-below, apart-above}
 use Rattle.plan.specs.declared.tiling.Block.{Block}
 use Rattle.plan.specs.tiling.Tiling.{In, Covered, place}
 use Rattle.plan.specs.tiling.Verdict.{Accepted}
 use Rattle.walk.specs.declared.checks.Still.{Still}
 use Rattle.walk.specs.block.Predicted.{sampleAt, predictedAt}
-use Rattle.walk.specs.checks.Checks.{every}
 use Rattle.walk.specs.lossless.Picture.{Sample, OfS, Whole, predict, residual, added, less}
 
 -- a test of every entry, entry by entry

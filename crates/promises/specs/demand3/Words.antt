@@ -12,10 +12,10 @@ use mir.Syntax.{w32}
 use mir.Val.{SFits, toZ, ofZ}
 use mir.Facts.{toZ-ofZ, fits-ofZ}
 use Rattle.laws.specs.Choose.{if-yes, both-true}
+use Rattle.laws.specs.Every.{every}
 use Rattle.bytes.specs.Bytes.{le4, byte1, byte2, byte3, residualsOf, wordOf, pairInto}
 use Rattle.bytes.specs.Laws.{AreBytes}
 use Rattle.samples.specs.deltas.Deltas.{residualOk}
-use Rattle.walk.specs.checks.Checks.{every}
 use Rattle.camera.specs.replay.Verdict.{answered}
 use Rattle.promises.specs.demand3.Calls.{Each}
 use Rattle.promises.specs.OnBytes.{recordIn}

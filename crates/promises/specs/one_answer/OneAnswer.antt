@@ -29,8 +29,10 @@ use Rattle.bytes.proofs.byte_3.Reads as bytes-byte-3
 use Rattle.domain.proofs.depth_ok.Reads as domain-depth-ok
 use Rattle.domain.proofs.size_ok.Reads as domain-size-ok
 use Rattle.domain.proofs.mode_ok.Reads as domain-mode-ok
+use Rattle.domain.proofs.plane_side_ok.Reads as domain-plane-side-ok
 use Rattle.domain.proofs.picture_ok.Reads as domain-picture-ok
 use Rattle.domain.proofs.unit_ok.Reads as domain-unit-ok
+use Rattle.samples.proofs.ranges.samples_ok.Reads as ranges-samples-ok
 use Rattle.samples.proofs.taps.interp.Reads as taps-interp
 use Rattle.samples.proofs.taps.mean.Reads as taps-mean
 use Rattle.samples.proofs.taps.edge.Reads as taps-edge
@@ -56,6 +58,8 @@ use Rattle.fmt.proofs.ChromaFormat.luma_row.Reads as fmt-luma-row
 use Rattle.fmt.proofs.ChromaFormat.luma_col.Reads as fmt-luma-col
 use Rattle.fmt.proofs.ChromaFormat.chroma_row.Reads as fmt-chroma-row
 use Rattle.fmt.proofs.ChromaFormat.chroma_col.Reads as fmt-chroma-col
+use Rattle.checksum.proofs.picture_checksum.Reads as checksum-picture-checksum
+use Rattle.checksum.proofs.on_bytes.picture_checksum_bytes.Reads as on-bytes-picture-checksum-bytes
 use Rattle.order.proofs.decode_order.Reads as order-decode-order
 use Rattle.order.proofs.is_available.Reads as order-is-available
 use Rattle.order.proofs.luma_reach.Reads as order-luma-reach
@@ -96,6 +100,7 @@ use Rattle.walk.proofs.checks.opening_no.Reads as checks-opening-no
 use Rattle.walk.proofs.checks.settled.Reads as checks-settled
 use Rattle.walk.proofs.block.geometry.Reads as block-geometry
 use Rattle.walk.proofs.block.base_of.Reads as block-base-of
+use Rattle.probes.proofs.salvrunde_probe_picture_checksum.Reads as probes-salvrunde-probe-picture-checksum
 use Rattle.probes.proofs.salvrunde_probe_depth.Reads as probes-salvrunde-probe-depth
 use Rattle.probes.proofs.salvrunde_probe_format.Reads as probes-salvrunde-probe-format
 use Rattle.probes.proofs.salvrunde_probe_on_luma.Reads as probes-salvrunde-probe-on-luma
@@ -145,6 +150,7 @@ use Rattle.camera.proofs.salvrunde_planar.Reads as camera-salvrunde-planar
 use Rattle.camera.proofs.salvrunde_dc.Reads as camera-salvrunde-dc
 use Rattle.camera.proofs.salvrunde_angular.Reads as camera-salvrunde-angular
 use Rattle.camera.proofs.salvrunde_chroma_block.Reads as camera-salvrunde-chroma-block
+use Rattle.camera.proofs.salvrunde_checksum.Reads as camera-salvrunde-checksum
 use Rattle.camera.proofs.salvrunde_replay.Reads as camera-salvrunde-replay
 use Rattle.report.proofs.report.Reads as report-report
 use Rattle.walk.proofs.Progress.replay_numbers.Reads as walk-replay-numbers
@@ -217,6 +223,9 @@ domain-depth-ok-once a x y s t p q = p ∙ sym q
 domain-size-ok-once : Once (domain-size-ok.Post tt)
 domain-size-ok-once a x y s t p q = p ∙ sym q
 
+domain-plane-side-ok-once : Once (domain-plane-side-ok.Post tt)
+domain-plane-side-ok-once a x y s t p q = p ∙ sym q
+
 domain-mode-ok-once : Once (domain-mode-ok.Post tt)
 domain-mode-ok-once a x y s t p q = p ∙ sym q
 
@@ -225,6 +234,10 @@ domain-picture-ok-once a x y s t p q = p ∙ sym q
 
 domain-unit-ok-once : Once (domain-unit-ok.Post tt)
 domain-unit-ok-once a x y s t p q = p ∙ sym q
+
+-- ranges
+ranges-samples-ok-once : (κs : Lfts 1) → Once (ranges-samples-ok.Post κs)
+ranges-samples-ok-once κs a x y s t p q = p ∙ sym q
 
 -- taps
 taps-interp-once : Once (taps-interp.Post tt)
@@ -367,6 +380,13 @@ deltas-residual-within-once a x y s t p q = p ∙ sym q
 deltas-residual-ok-once : Once (deltas-residual-ok.Post tt)
 deltas-residual-ok-once a x y s t p q = p ∙ sym q
 
+-- checksum
+checksum-picture-checksum-once : (κs : Lfts 1) → Once (checksum-picture-checksum.Post κs)
+checksum-picture-checksum-once κs a x y s t p q = p ∙ sym q
+
+on-bytes-picture-checksum-bytes-once : (κs : Lfts 1) → Once (on-bytes-picture-checksum-bytes.Post κs)
+on-bytes-picture-checksum-bytes-once κs a x y s t p q = p ∙ sym q
+
 -- smooth
 smooth-should-filter-refs-once : Once (smooth-should-filter-refs.Post tt)
 smooth-should-filter-refs-once a x y s t p q = p ∙ sym q
@@ -468,6 +488,9 @@ probes-salvrunde-probe-filter-luma-refs-once κs a x y s t p q = p ∙ sym q
 
 probes-salvrunde-probe-substitute-refs-once : (κs : Lfts 4) → Once (probes-salvrunde-probe-substitute-refs.Post κs)
 probes-salvrunde-probe-substitute-refs-once κs a x y s t p q = p ∙ sym q
+
+probes-salvrunde-probe-picture-checksum-once : (κs : Lfts 1) → Once (probes-salvrunde-probe-picture-checksum.Post κs)
+probes-salvrunde-probe-picture-checksum-once κs a x y s t p q = p ∙ sym q
 
 probes-salvrunde-probe-get-reference-samples-once : (κs : Lfts 1) → Once (probes-salvrunde-probe-get-reference-samples.Post κs)
 probes-salvrunde-probe-get-reference-samples-once κs a x y s t p q = p ∙ sym q
@@ -612,6 +635,9 @@ camera-salvrunde-luma-refs-once κs a x y s t p q = by-written p q
 camera-salvrunde-chroma-refs-ctu-once : (κs : Lfts 3)
     → OnceLeft (λ s. now (s .1 .1 .1 .1 .1 .1 .1 .1 .1 .1 .1 .1 .1 .0)) (camera-salvrunde-chroma-refs-ctu.Post κs)
 camera-salvrunde-chroma-refs-ctu-once κs a x y s t p q = by-written p q
+
+camera-salvrunde-checksum-once : (κs : Lfts 2) → OnceLeft (λ s. now (s .1 .1 .1 .1 .1 .1 .1 .0)) (camera-salvrunde-checksum.Post κs)
+camera-salvrunde-checksum-once κs a x y s t p q = by-written p q
 
 camera-salvrunde-planar-once : (κs : Lfts 3) → OnceLeft (λ s. now (s .1 .1 .1 .0)) (camera-salvrunde-planar.Post κs)
 camera-salvrunde-planar-once κs a x y s t p q = by-written p q

@@ -1,6 +1,7 @@
--- Document 01, 'Refusals', for walk, replay and the camera's entries: a refused call hands back the progress record as given and
--- leaves what is lent. The other doors are in promises/specs/tables/Refused. Rests on `kept` there.
+-- Document 01, 'Refusals', for walk, replay, checksum and the camera's entries: a refused call hands back the progress record as given,
+-- a sum of 0, and leaves what is lent. The other doors are in promises/specs/tables/Refused. Rests on `kept` there.
 use mathlib.Core.Path.{_≡_, ap₂}
+use mathlib.Core.Bool.{Bool}
 use mathlib.Core.List.{List}
 use Prim.Native.Nat.{ℕ}
 use lib.IntN.{ℤ}
@@ -14,6 +15,8 @@ use Rattle.walk.specs.checks.Checks.{Tables}
 use Rattle.walk.specs.calls.Door.{replayVerdict, replayAfter, walkVerdict, walkAfter}
 use Rattle.walk.specs.calls.Laws.{replay-refused, walk-refused}
 use Rattle.walk.specs.Door.{steppedBy}
+use Rattle.checksum.specs.declared.RowRange.{RowRange}
+use Rattle.checksum.specs.Checksum.{checksumNo, summedBy}
 use Rattle.camera.specs.replay.Verdict.{Lent, byteVerdict, answered}
 use Rattle.camera.specs.replay.Door.{planeAfter, resultAfter}
 use Rattle.camera.specs.Written.{entry}
@@ -33,8 +36,14 @@ module _ (s : Still) (plan : Plan) (t : Tables) (p : Progress) (grant : ℕ) whe
       → replayAfter s plan t (p .done) grant residuals plane ≡ plane
   replay = replay-refused s plan t (p .done) grant
 
--- the camera's entries: a refused gather or prediction, each an `entry`, leaves its buffer; a refused replay leaves the plane, and
--- writes the block number and the record as given, unless the result buffer is short
+-- the picture checksum: sum 0
+pub picture-checksum : (r : RowRange) (fit : Bool) (plane : List ℕ) (sum : ℕ) → ¬ (summedBy r fit plane sum .no ≡ 0)
+    → summedBy r fit plane sum .sum ≡ 0
+unfolding summedBy
+picture-checksum r fit plane sum h = kept (checksumNo r fit plane) _ 0 h
+
+-- the camera's entries: a refused gather, prediction or checksum, each an `entry`, leaves its buffer; a refused replay leaves the plane,
+-- and writes the block number and the record as given, unless the result buffer is short
 pub entries : (k : ℕ) (work out : List ℕ) → ¬ (entry k work out .number ≡ 0) → entry k work out .bytes ≡ out
 unfolding entry
 entries k work out h = kept k work out h

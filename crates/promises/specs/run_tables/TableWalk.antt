@@ -17,6 +17,7 @@ use lib.IntN.{ℤ, pos, natAbs}
 use lib.ListN.{length, getD}
 use borrow.Author.Tests.{eqb-true, eqb-false}
 use Rattle.laws.specs.Choose.{firstFail, served, if-no}
+use Rattle.laws.specs.Every.{every}
 use Rattle.domain.specs.Facts.{Depth, Size}
 use Rattle.order.specs.Order.{pictureOk}
 use Rattle.plan.specs.declared.tiling.Frame.{Frame}
@@ -33,7 +34,7 @@ use Rattle.plan.specs.tiling.Verdict.{bad-block, bad-cover, told, verdict-good,
 use Rattle.walk.specs.declared.checks.Still.{Still}
 use Rattle.walk.specs.declared.Progress.{Progress}
 use Rattle.walk.specs.declared.Stepped.{Stepped}
-use Rattle.walk.specs.checks.Checks.{largestIn, every, isWhole, Tables, isRoomy, openingNo, residualChecks, settle}
+use Rattle.walk.specs.checks.Checks.{largestIn, isWhole, Tables, isRoomy, openingNo, residualChecks, settle}
 use Rattle.walk.specs.calls.Steps.{doingOf}
 use Rattle.walk.specs.block.Walked.{World}
 use Rattle.walk.specs.calls.Door.{verdictOf, replayVerdict, walkVerdict}
@@ -270,7 +271,7 @@ settled found count k early =
     third = about 11 0 when count < k
 
 -- a test of every entry
-every-one : {A : Type 0} (d : A) {test : A → Bool} {P : A → Type 0} → ((x : A) → Tells (test x) (P x)) → (l : List A)
+pub every-one : {A : Type 0} (d : A) {test : A → Bool} {P : A → Type 0} → ((x : A) → Tells (test x) (P x)) → (l : List A)
     → Tells (every test l) (Some d P l)
 unfolding every
 every-one d t [] = record { passed = λ e h. not-suc-le-zero (h .1 .0); failed = λ e. absurd (true≢false e) }

@@ -1,12 +1,13 @@
 -- Documents 01 and 02: what a call on a still refuses before it looks at blocks, in its order, and how the verdict on a plan goes on from
 -- there. Assumes nothing.
 use Prim.Native.Nat.{ℕ, _-_, _*_, _^_}
-use mathlib.Core.Bool.{Bool, true, cond, _&&_}
+use mathlib.Core.Bool.{Bool, cond, _&&_}
 use mathlib.Core.List.{List, [], _∷_}
 use lib.Dec.{leb, eqb}
 use lib.IntN.{ℤ}
 use lib.ListN.{length}
 use Rattle.laws.specs.Choose.{Check, _unless_, firstFail}
+use Rattle.laws.specs.Every.{every}
 use Rattle.domain.specs.Domain.{depthOk}
 use Rattle.order.specs.Order.{pictureOk}
 use Rattle.samples.specs.deltas.Deltas.{residualOk, residualWithin}
@@ -17,11 +18,6 @@ use Rattle.walk.specs.declared.checks.Still.{Still}
 -- the largest sample of the depth
 abbrev pub largestIn : Still → ℕ
 largestIn s = 2 ^ s .bits - 1
-
--- a test of every entry
-unfoldable pub every : {A : Type 0} → (A → Bool) → List A → Bool
-every p [] = true
-every p (x ∷ l) = p x && every p l
 
 -- number 5: planes and residuals of exactly the picture's samples
 abbrev pub isWhole : Still → ℕ → Bool

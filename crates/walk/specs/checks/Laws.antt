@@ -1,16 +1,15 @@
 -- What joins the functions that check a call on a still. Assumes nothing.
 use mathlib.Core.Path.{_≡_, refl, sym, ap, _∙_}
-use mathlib.Core.Bool.{Bool, true, false, cond, _&&_}
+use mathlib.Core.Bool.{Bool, true, false, cond}
 use mathlib.Core.List.{List, [], _∷_}
-use Prim.Native.Nat.{ℕ, zero, suc, _+_, _≤_}
-use native.Mathlib.Numerals.{add-one}
+use Prim.Native.Nat.{ℕ, _≤_}
 use native.Mathlib.Nat.{le-trans}
 use native.Mathlib.Omega.{arith}
 use lib.Dec.{leb, eqb}
 use lib.IntN.{ℤ, natAbs}
-use lib.ListN.{length, getD}
 use borrow.Author.Tests.{leb-true, le-leb, eqb-true, eqb-false}
 use Rattle.laws.specs.Choose.{Check, _unless_, firstFail, passed, both-true, both-same}
+use Rattle.laws.specs.Every.{every}
 use Rattle.domain.specs.Domain.{depthOk}
 use Rattle.domain.specs.Facts.{Depth, depth-of}
 use Rattle.fmt.specs.depth.Depth.{largestOf}
@@ -20,42 +19,7 @@ use Rattle.plan.specs.declared.tiling.Verdict.{Verdict}
 use Rattle.plan.specs.tiling.Tiling.{pictureOf}
 use Rattle.samples.specs.deltas.Deltas.{residualOk, residualWithin}
 use Rattle.walk.specs.declared.checks.Still.{Still}
-use Rattle.walk.specs.checks.Checks.{largestIn, every, openingNo, callNo, residualChecks, settle}
-
--- the first k entries pass a test
-unfoldable pub passTo : {A : Type 0} → (A → Bool) → A → List A → ℕ → Bool
-passTo p z l zero = true
-passTo p z l (suc k) = passTo p z l k && p (getD l k z)
-
-module _ {A : Type 0} (p : A → Bool) (z : A) where
-  pub pass-none : (l : List A) → true ≡ passTo p z l 0
-  unfolding passTo
-  pass-none l = refl
-
-  pub pass-more : (l : List A) (i : ℕ) {a b : Bool} → a ≡ passTo p z l i → b ≡ p (getD l i z) → (a && b) ≡ passTo p z l (i + 1)
-  unfolding passTo
-  pass-more l i e q = rw (add-one, e, q)
-
-  and-assoc : (a b c : Bool) → ((a && b) && c) ≡ (a && (b && c))
-  and-assoc true b c = refl
-  and-assoc false b c = refl
-
-  from-first : (x : A) (l : List A) (k : ℕ) → passTo p z (x ∷ l) (suc k) ≡ (p x && passTo p z l k)
-  unfolding passTo
-  from-first x l zero = both-true-right (p x)
-    where
-      both-true-right : (b : Bool) → (true && b) ≡ (b && true)
-      both-true-right true = refl
-      both-true-right false = refl
-  from-first x l (suc k) = ap (λ (b : Bool). b && p (getD l k z)) (from-first x l k) ∙ and-assoc (p x) (passTo p z l k) (p (getD l k z))
-
-  all-passed : (l : List A) → passTo p z l (length l) ≡ every p l
-  unfolding passTo every
-  all-passed [] = refl
-  all-passed (x ∷ l) = from-first x l (length l) ∙ ap (λ (b : Bool). p x && b) (all-passed l)
-
-  pub pass-done : (l : List A) (i : ℕ) {a : Bool} → i ≤ length l → length l ≤ i → a ≡ passTo p z l i → a ≡ every p l
-  pass-done l i h k e = e ∙ ap (passTo p z l) (omega arith) ∙ all-passed l
+use Rattle.walk.specs.checks.Checks.{largestIn, openingNo, callNo, residualChecks, settle}
 
 -- the checks before the plan's stop at 5, or go on to the later ones
 stops : (a b c : Bool) (later : List Check) → (firstFail ((1 unless a) ∷ (4 unless b) ∷ (5 unless c) ∷ []) ≡ 0 → ⊥)

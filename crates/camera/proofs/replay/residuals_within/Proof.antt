@@ -8,7 +8,7 @@ use Rattle.laws.specs.Signed.{held}
 use Rattle.bytes.specs.Bytes.{residualsOf}
 use Rattle.bytes.specs.Laws.{length-residuals}
 use Rattle.samples.specs.deltas.Deltas.{residualWithin}
-use Rattle.walk.specs.checks.Laws.{passTo, pass-none, pass-more, pass-done}
+use Rattle.laws.specs.Every.{passTo, pass-none, pass-more, pass-done}
 use borrow.Author.Needs.{needs}
 use Rattle.camera.proofs.replay.residuals_within.Statement.{statement}
 use Rattle.camera.proofs.replay.residuals_within.Tie as tie

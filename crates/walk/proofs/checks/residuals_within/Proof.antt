@@ -5,7 +5,7 @@ use lib.ListN.{length, getD}
 use lib.IntN.{pos}
 use Rattle.laws.specs.Signed.{held}
 use Rattle.samples.specs.deltas.Deltas.{residualWithin}
-use Rattle.walk.specs.checks.Laws.{passTo, pass-none, pass-more, pass-done}
+use Rattle.laws.specs.Every.{passTo, pass-none, pass-more, pass-done}
 use borrow.Author.Needs.{needs}
 use Rattle.walk.proofs.checks.residuals_within.Statement.{statement}
 use Rattle.walk.proofs.checks.residuals_within.Tie as tie

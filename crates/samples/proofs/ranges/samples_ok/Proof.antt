@@ -1,12 +1,12 @@
--- `checks::samples_ok` meets its contract. The loop's invariant: the flag says whether the samples passed are in range.
+-- `ranges::samples_ok` meets its contract. The loop's invariant: the flag says whether the samples passed are in range.
 use mathlib.Core.Path.{_≡_, refl}
 use Prim.Native.Nat.{ℕ, _-_, _≤_}
 use lib.Dec.{leb}
 use lib.ListN.{length}
-use Rattle.walk.specs.checks.Laws.{passTo, pass-none, pass-more, pass-done}
+use Rattle.laws.specs.Every.{passTo, pass-none, pass-more, pass-done}
 use borrow.Author.Needs.{needs}
-use Rattle.walk.proofs.checks.samples_ok.Statement.{statement}
-use Rattle.walk.proofs.checks.samples_ok.Tie as tie
+use Rattle.samples.proofs.ranges.samples_ok.Statement.{statement}
+use Rattle.samples.proofs.ranges.samples_ok.Tie as tie
 
 abbrev Inv-loop : tie.InvT-loop
 Inv-loop source largest count ok₀ i₀ ok i = (i ≤ length source) × (ok ≡ passTo (λ (v : ℕ). leb v largest) 0 source i)
@@ -36,7 +36,9 @@ loop-again c =
     (search needs, pass-more (λ (v : ℕ). leb v (a .largest)) 0 (a .source .now) (l .i) (l .inv .1) refl)
 
 returns : tie.Need-returns Inv-loop μ-loop
-returns c = pass-done (λ (v : ℕ). leb v (c .before .before .args .largest)) 0 _ _ (c .before .loop .inv .0) (c .loop-test .left) (c .before .loop .inv .1)
+returns c =
+    let l = c .before .loop in
+    pass-done (λ (v : ℕ). leb v (c .before .before .args .largest)) 0 _ _ (l .inv .0) (c .loop-test .left) (l .inv .1)
 
 pub samples-ok-spec : {M : Type 1} → statement M
 samples-ok-spec = tie.close (tie.spec
