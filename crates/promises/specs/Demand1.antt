@@ -48,6 +48,7 @@ use Rattle.promises.specs.run_tables.TableBytes.{luma-refs, chroma-refs,
 use Rattle.promises.specs.run_tables.TableBytes as bytes
 use Rattle.promises.specs.run_tables.TableProgram.{ProgramTable, program}
 use Rattle.promises.specs.run_tables.TableChecksum as sums
+use Rattle.promises.specs.run_tables.TableChoose.{choose-mode}
 use Rattle.camera.proofs.salvrunde_angular.Reads as camera-salvrunde-angular
 use Rattle.camera.proofs.salvrunde_checksum.Reads as camera-salvrunde-checksum
 use Rattle.camera.proofs.salvrunde_chroma_block.Reads as camera-salvrunde-chroma-block
@@ -58,6 +59,7 @@ use Rattle.camera.proofs.salvrunde_planar.Reads as camera-salvrunde-planar
 use Rattle.camera.proofs.salvrunde_replay.Reads as camera-salvrunde-replay
 use Rattle.checksum.proofs.on_bytes.picture_checksum_bytes.Reads as on-bytes-picture-checksum-bytes
 use Rattle.checksum.proofs.picture_checksum.Reads as checksum-picture-checksum
+use Rattle.choose.proofs.choose_mode.Reads as choose-choose-mode
 use Rattle.fmt.proofs.depth.BitDepth.from_bits.Reads as depth-from-bits
 use Rattle.order.proofs.chroma_reach.Reads as order-chroma-reach
 use Rattle.order.proofs.decode_order.Reads as order-decode-order
@@ -245,6 +247,14 @@ predict-predict-luma-tb-slices-row : (κs : Lfts 4)
     predict-luma (a .1 .1 .1 .0) (a .1 .1 .0) (a .0) (length (now (b .0))) (length (now (b .1 .0))) (length (now (b .1 .1 .0))) (length
     (now (b .1 .1 .1 .0))))
 predict-predict-luma-tb-slices-row κs = tabled (λ a x s p. p .0)
+
+-- choose
+choose-choose-mode-row : (κs : Lfts 7)
+    → Tabled (choose-choose-mode.Post κs) (λ r. r .no)
+    (λ a. let b = a .1 .1 .1 .1 in let c = b .1 .1 .1 .1 in
+    choose-mode (b .1 .0) (b .0) (now (a .1 .1 .1 .0)) (lengths (length (now (a .1 .0))) (length (now (a .1 .1 .0))) (length (now
+    (b .1 .1 .0))) (length (now (b .1 .1 .1 .0))) (length (now (c .0))) (length (now (c .1 .0)))))
+choose-choose-mode-row κs = tabled (λ a x s p. p .0 .number)
 
 scratch-angular-predict-angular-fresh-row : (κs : Lfts 3)
     → Tabled (scratch-angular-predict-angular-fresh.Post κs) (λ r. r)
