@@ -67,7 +67,8 @@ module _ {bits n : ℕ} {l : Lengths} (r : Ready bits n l) where
   side-of = size-of n (r .size)
 
   -- with other rows
-  pub with-rows : (above left : ℕ) → 65 ≤ above → 65 ≤ left → Ready bits n (lengths above left (l .pred) (l .refs) (l .indices) (l .fractions))
+  pub with-rows : (above left : ℕ) → 65 ≤ above → 65 ≤ left
+      → Ready bits n (lengths above left (l .pred) (l .refs) (l .indices) (l .fractions))
   with-rows above left h k =
       let w = r .long in
       record {

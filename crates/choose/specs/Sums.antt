@@ -1,15 +1,16 @@
 -- The sum of a mode, from the block that is predicted for it: the same samples, the block mirrored, the rows smoothed. Rests on the modes'
 -- laws and the standard's rule.
-use mathlib.Core.Path.{_≡_, refl, sym, ap₂, _∙_}
+use mathlib.Core.Path.{_≡_, refl, sym, ap, ap₂, _∙_}
 use mathlib.Core.Bool.{Bool, true, false, not, _&&_, _||_, false≢true}
 use mathlib.Core.List.{List}
-use Prim.Native.Nat.{ℕ, _+_, _*_, _-_, _≤_, _<_}
+use Prim.Native.Nat.{ℕ, zero, suc, _+_, _*_, _-_, _≤_, _<_}
+use native.Mathlib.Nat.{zero-add, zero-mul, suc-mul}
 use native.Mathlib.Omega.{arith}
 use lib.Dec.{ltb, eqb}
 use lib.ListN.{length, getD}
 use Rattle.laws.specs.Fill.{block}
 use Rattle.laws.specs.FillLaws.{length-rows, rows-at}
-use Rattle.laws.specs.Sum.{total, total-none, total-more, total-same, total-turned}
+use Rattle.laws.specs.Sum.{total, total-join, total-same, total-turned}
 use Rattle.domain.specs.Facts.{Size, size-small}
 use Rattle.h265.specs.Notation.{Neighbours, fromRows}
 use Rattle.h265.specs.Setting.{lumaAt, firstEditionStrong}
@@ -28,15 +29,19 @@ unfolding differences
 same-sum n k s t p q e f =
     total-same _ _ k (λ y hy. total-same _ _ n (λ x hx. ap₂ apart (e x y hx hy) (f x y hx hy)))
 
--- a loop over the rows: none yet, and one more
-module _ (s p : ℕ → ℕ → ℕ) (n : ℕ) where
-  pub rows-none : 0 ≡ differences s p n 0
-  unfolding differences
-  rows-none = total-none _
+-- k rows of n samples that follow each other in both lists are one run
+run-of-rows : (n k : ℕ) (s p : List ℕ) → total (λ i. apart (getD s (0 + i) 0) (getD p i 0)) (k * n)
+    ≡ differences (sourceAt n s) (sourceAt n p) n k
+unfolding differences total
+run-of-rows n zero s p = ap (total _) (zero-mul n)
+run-of-rows n (suc k) s p =
+    ap (total _) (suc-mul k n)
+    ∙ sym (total-join (λ i. apart (getD s (0 + i) 0) (getD p i 0)) (k * n) n (sym (run-of-rows n k s p))
+    (total-same _ _ n (λ x h. ap (λ (j : ℕ). apart (getD s j 0) (getD p (k * n + x) 0)) (sym (zero-add (k * n + x))))))
 
-  pub rows-more : (y : ℕ) {sum v : ℕ} → sum ≡ differences s p n y → v ≡ total (λ x. apart (s x y) (p x y)) n → sum + v ≡ differences s p n (y + 1)
-  unfolding differences
-  rows-more y e q = total-more _ y e q
+pub block-run : (n : ℕ) (s p : List ℕ) {count sum : ℕ} → count ≡ n * n
+    → sum ≡ total (λ (i : ℕ). apart (getD s (0 + i) 0) (getD p i 0)) count → sum ≡ differences (sourceAt n s) (sourceAt n p) n n
+block-run n s p e q = q ∙ ap (total _) e ∙ run-of-rows n n s p
 
 -- the sum of a mirrored block
 turned-sum : (n : ℕ) (s p : ℕ → ℕ → ℕ) → differences (λ x y. s y x) (λ x y. p y x) n n ≡ differences s p n n

@@ -17,7 +17,6 @@ ghost use Rattle.predict.specs.refusals.Refusals.{lengths};
 ghost use Rattle.choose.specs.Choose.{apart, differences, sourceAt, modeSum, lendsEnough, chooseNo, Chooses, lends, ScratchKept};
 ghost use Rattle.choose.specs.Ready.{heldBy, Ready};
 ghost use Rattle.choose.specs.Sums.{turnedAt, TurnedSource, SmoothRows};
-use domain::helpers;
 use fmt::depth;
 use predict::angular;
 use predict::planar_dc;
@@ -31,41 +30,40 @@ pub struct Chosen {
     pub sum: u32,
 }
 
-// The sum of absolute differences of a row of n samples, from entry at on in both lists.
-fn row_sum(source: &[u16], pred: &[u16], at: usize, n: usize) -> u32
-    requires { ⌜ (n ≤ 32) × ((at + n ≤ length (now source)) × (at + n ≤ length (now pred))) ⌝ }
-    ensures { λ r. ⌜ (r ≡ total (λ (x : ℕ). apart (entryAt source (at + x)) (entryAt pred (at + x))) n)
-        × (r ≤ n * 65535) ⌝ }
+// How far apart two samples are, in 16 bits, in which twice as many are done at once.
+fn gap(a: u16, b: u16) -> u16
+    ensures { λ r. ⌜ (r ≡ apart a b) × (r ≤ 65535) ⌝ }
+{
+    if a < b {
+        return b - a;
+    }
+    a - b
+}
+
+// The sum of absolute differences of as many samples as count, from entry from on in the source and from the first on in what was
+// predicted. Rows that follow each other are one run: the compiler adds up many samples at once, and does so to the end.
+fn run_sum(source: &[u16], from: usize, pred: &[u16], count: usize) -> u32
+    requires { ⌜ (count ≤ 1024) × ((from + count ≤ length (now source)) × (count ≤ length (now pred))) ⌝ }
+    ensures { λ r. ⌜ (r ≡ total (λ (i : ℕ). apart (entryAt source (from + i)) (entryAt pred i)) count)
+        × (r ≤ count * 65535) ⌝ }
 {
     let mut sum = 0;
-    for x in 0..n {
-        sum += helpers::abs_diff(source[at + x] as u32, pred[at + x] as u32);
+    for i in 0..count {
+        sum += gap(source[from + i], pred[i]) as u32;
     }
     sum
 }
 
-// The sum of a block of side n.
-fn rows_sum(source: &[u16], pred: &[u16], n: usize) -> u32
-    requires { ⌜ (n ≤ 32) × ((n * n ≤ length (now source)) × (n * n ≤ length (now pred))) ⌝ }
-    ensures { λ r. ⌜ r ≡ differences (sourceAt n (now (source .entry))) (sourceAt n (now (pred .entry))) n n ⌝ }
-{
-    let mut sum = 0;
-    for y in 0..n {
-        sum += row_sum(source, pred, y * n, n);
-    }
-    sum
-}
-
-// A loop for each side, so that the compiler knows how long a row is.
+// The sum of a block. A loop for each side, so that the compiler knows how long it is.
 fn block_sum(source: &[u16], pred: &[u16], n: usize) -> u32
     requires { ⌜ Size n × ((n * n ≤ length (now source)) × (n * n ≤ length (now pred))) ⌝ }
     ensures { λ r. ⌜ r ≡ differences (sourceAt n (now (source .entry))) (sourceAt n (now (pred .entry))) n n ⌝ }
 {
     match n {
-        4 => rows_sum(source, pred, 4),
-        8 => rows_sum(source, pred, 8),
-        16 => rows_sum(source, pred, 16),
-        _ => rows_sum(source, pred, 32),
+        4 => run_sum(source, 0, pred, 16),
+        8 => run_sum(source, 0, pred, 64),
+        16 => run_sum(source, 0, pred, 256),
+        _ => run_sum(source, 0, pred, 1024),
     }
 }
 
