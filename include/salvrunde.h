@@ -56,6 +56,11 @@ enum {
 #define SALVRUNDE_RECORD_BYTES 6
 /* Bytes of the replay's result: the block's list number and the next progress record, four bytes each, the lowest first. */
 #define SALVRUNDE_RESULT_BYTES 8
+/* Least bytes of one row of a luma block that is smoothed where the rule says so, or whose mode is chosen: 65 samples at every side, as
+ * salvrunde_luma_refs lays them. */
+#define SALVRUNDE_LUMA_ROW_BYTES 130
+/* Bytes of a choice: the mode and its sum of absolute differences, four bytes each, the lowest first. */
+#define SALVRUNDE_CHOICE_BYTES 8
 /* Bytes of a checksum, the lowest first. */
 #define SALVRUNDE_SUM_BYTES 4
 /* Bytes of a block of side n. */
@@ -83,9 +88,9 @@ uint32_t salvrunde_chroma_refs_ctu(uint32_t bits, uint32_t format, uint32_t luma
 
 /* Prediction: above and left have at least SALVRUNDE_ROW_BYTES(n) each; out has at least SALVRUNDE_BLOCK_BYTES(n), which are written, the
  * block's samples row by row. edge: not 0 where edges are to be filtered, as for luma; a block of side 32 has no filtered edge.
- * Rows are taken as they are: no entry smooths them. A luma block is predicted from smoothed rows where H.265 8.4.4.2.3 says so (never for
- * DC or n = 4), and smoothing is the caller's: rows of salvrunde_luma_refs handed on as they are give another block than the replay
- * predicts, for most modes from n = 8 on. Chroma of 4:2:0 and 4:2:2 is never smoothed. */
+ * Rows are taken as they are: only salvrunde_luma_block smooths them. A luma block is predicted from smoothed rows where H.265 8.4.4.2.3
+ * says so (never for DC or n = 4): rows of salvrunde_luma_refs handed to the first three give another block than the replay predicts, for
+ * most modes from n = 8 on. Chroma of 4:2:0 and 4:2:2 is never smoothed. */
 
 /* Planar, from rows as they are. Numbers 2, 5. */
 uint32_t salvrunde_planar(uint32_t n, const uint8_t *above, size_t above_bytes, const uint8_t *left, size_t left_bytes, uint8_t *out,
@@ -102,6 +107,19 @@ uint32_t salvrunde_angular(uint32_t bits, uint32_t n, uint32_t mode, uint32_t ed
 /* A chroma block in any mode, 0 to 34: nothing is smoothed, no edge is filtered. Numbers 1, 2, 3, 5. */
 uint32_t salvrunde_chroma_block(uint32_t bits, uint32_t n, uint32_t mode, uint16_t corner, const uint8_t *above, size_t above_bytes,
                                 const uint8_t *left, size_t left_bytes, uint8_t *out, size_t out_bytes);
+
+/* A luma block in any mode, 0 to 34, as the replay predicts it: rows smoothed where H.265 8.4.4.2.3 says so, the strong form allowed, edges
+ * filtered. above and left have at least SALVRUNDE_LUMA_ROW_BYTES each, at every n. Numbers 1, 2, 3, 5. */
+uint32_t salvrunde_luma_block(uint32_t bits, uint32_t n, uint32_t mode, uint16_t corner, const uint8_t *above, size_t above_bytes,
+                              const uint8_t *left, size_t left_bytes, uint8_t *out, size_t out_bytes);
+
+/* The luma mode whose block, that of salvrunde_luma_block, has the least sum of absolute differences to a source block; of several, the
+ * lowest.
+ * above and left have at least SALVRUNDE_LUMA_ROW_BYTES each, and may hold any samples. source: its first SALVRUNDE_BLOCK_BYTES(n) bytes
+ * are the block, row by row; of these every sample is checked, and what follows is not read. out: at least SALVRUNDE_CHOICE_BYTES, which are
+ * written: the mode, then its sum. Numbers 1, 2, 5, 7. */
+uint32_t salvrunde_choose(uint32_t bits, uint32_t n, uint16_t corner, const uint8_t *above, size_t above_bytes, const uint8_t *left,
+                          size_t left_bytes, const uint8_t *source, size_t source_bytes, uint8_t *out, size_t out_bytes);
 
 /* Decodes the next blocks of a still from their residuals, as many as are granted, in the plane's own bytes; other samples stay as they
  * are.

@@ -32,6 +32,13 @@ uint32_t salvrunde_probe_predict_angular_slices(uint16_t corner, const uint16_t 
 uint32_t salvrunde_probe_predict_chroma_tb_slices(uint8_t mode, uint16_t corner, const uint16_t *above, size_t above_length,
     const uint16_t *left, size_t left_length, size_t n, uint32_t bits, uint16_t *pred, size_t pred_length, uint16_t *refs,
     size_t refs_length, uint32_t *indices, size_t indices_length, uint32_t *fractions, size_t fractions_length);
+uint32_t salvrunde_probe_predict_luma_tb_slices(uint8_t mode, uint16_t corner, const uint16_t above[65], const uint16_t left[65], size_t n,
+    uint32_t bits, uint16_t *pred, size_t pred_length, uint16_t *refs, size_t refs_length, uint32_t *indices, size_t indices_length,
+    uint32_t *fractions, size_t fractions_length);
+struct choice { uint32_t no, mode, sum; };
+struct choice salvrunde_probe_choose_mode(uint16_t corner, const uint16_t *above, size_t above_length, const uint16_t *left, size_t left_length,
+    const uint16_t *source, size_t source_length, size_t n, uint32_t bits, uint16_t *pred, size_t pred_length, uint16_t *refs,
+    size_t refs_length, uint32_t *indices, size_t indices_length, uint32_t *fractions, size_t fractions_length);
 struct step salvrunde_probe_replay(uint32_t done, uint32_t bits, uint32_t width, uint32_t height, uint32_t ctu,
     const uint32_t *rows, size_t rows_length, const uint32_t *cols, size_t cols_length, const uint32_t *sides, size_t sides_length,
     const uint32_t *modes, size_t modes_length, const int32_t *residuals, size_t residuals_length, uint16_t *plane,
@@ -123,12 +130,12 @@ static uint32_t some_ctu(void) { static const uint32_t d[] = {16, 32, 64}; retur
 static int depth_ok(uint32_t bits) { return bits == 8 || bits == 10 || bits == 12; }
 static int side_ok(uint32_t n) { return n == 4 || n == 8 || n == 16 || n == 32; }
 
-/* Numbers 1, 2, 3, 5 of a prediction, in document 01's order; depth and mode where it takes them. */
-static uint32_t prediction_no(int depth, int mode, uint32_t n, const struct lent *a, const struct lent *l, const struct lent *o) {
+/* Numbers 1, 2, 3, 5 of a prediction, in document 01's order; depth and mode where it takes them; row is the least bytes of a row. */
+static uint32_t prediction_no(int depth, int mode, uint32_t n, size_t row, const struct lent *a, const struct lent *l, const struct lent *o) {
     if (!depth) return 1;
     if (!side_ok(n)) return 2;
     if (!mode) return 3;
-    if (a->length < 4 * (size_t)n || l->length < 4 * (size_t)n || o->length < 2 * (size_t)n * n) return 5;
+    if (a->length < row || l->length < row || o->length < 2 * (size_t)n * n) return 5;
     return 0;
 }
 
@@ -137,32 +144,37 @@ enum { MOST_ROW = 700 };
 static size_t some_row(uint32_t n) { return chance(3) ? about(SALVRUNDE_ROW_BYTES(side_ok(n) ? n : 16)) : about(chance(3) ? 130 : 400); }
 
 static void predictions(void) {
-    uint32_t n = some_side(), which = chance(4), bits = some_bits(), edge = chance(3) * chance(300), no, wanted;
+    uint32_t n = some_side(), which = chance(5), bits = some_bits(), edge = chance(3) * chance(300), no, wanted;
     uint32_t mode = chance(12) ? chance(35) : chance(2) ? 35 + chance(40) : 256 + chance(35);
     uint16_t corner = (uint16_t)chance(65536), above[MOST_ROW], left[MOST_ROW], pred[1024];
     uint8_t bytes[2048];
     struct lent a = lend(some_row(n)), l = lend(some_row(n)), o = lend(about(side_ok(n) ? 2 * (size_t)n * n : 512));
-    size_t up = a.length / 2, side = l.length / 2;
+    size_t up = a.length / 2, side = l.length / 2, least = 4 * (size_t)n;
     const char *entry;
     switch (which) {
     case 0:
         entry = "planar";
-        wanted = prediction_no(1, 1, n, &a, &l, &o);
+        wanted = prediction_no(1, 1, n, least, &a, &l, &o);
         no = salvrunde_planar(n, a.bytes, a.length, l.bytes, l.length, o.bytes, o.length);
         break;
     case 1:
         entry = "dc";
-        wanted = prediction_no(1, 1, n, &a, &l, &o);
+        wanted = prediction_no(1, 1, n, least, &a, &l, &o);
         no = salvrunde_dc(n, edge, a.bytes, a.length, l.bytes, l.length, o.bytes, o.length);
         break;
     case 2:
         entry = "angular";
-        wanted = prediction_no(depth_ok(bits), mode >= 2 && mode <= 34, n, &a, &l, &o);
+        wanted = prediction_no(depth_ok(bits), mode >= 2 && mode <= 34, n, least, &a, &l, &o);
         no = salvrunde_angular(bits, n, mode, edge, corner, a.bytes, a.length, l.bytes, l.length, o.bytes, o.length);
+        break;
+    case 3:
+        entry = "luma block";
+        wanted = prediction_no(depth_ok(bits), mode <= 34, n, SALVRUNDE_LUMA_ROW_BYTES, &a, &l, &o);
+        no = salvrunde_luma_block(bits, n, mode, corner, a.bytes, a.length, l.bytes, l.length, o.bytes, o.length);
         break;
     default:
         entry = "chroma block";
-        wanted = prediction_no(depth_ok(bits), mode <= 34, n, &a, &l, &o);
+        wanted = prediction_no(depth_ok(bits), mode <= 34, n, least, &a, &l, &o);
         no = salvrunde_chroma_block(bits, n, mode, corner, a.bytes, a.length, l.bytes, l.length, o.bytes, o.length);
     }
     calls++;
@@ -177,6 +189,10 @@ static void predictions(void) {
             wanted = salvrunde_probe_predict_angular_slices(corner, above, up, left, side, n, (uint8_t)mode, edge != 0, bits, pred, 1024,
                 refs, REFS, indices, TABLE, fractions, TABLE);
             break;
+        case 3:
+            wanted = salvrunde_probe_predict_luma_tb_slices((uint8_t)mode, corner, above, left, n, bits, pred, 1024, refs, REFS, indices, TABLE,
+                fractions, TABLE);
+            break;
         default:
             wanted = salvrunde_probe_predict_chroma_tb_slices((uint8_t)mode, corner, above, up, left, side, n, bits, pred, 1024, refs, REFS,
                 indices, TABLE, fractions, TABLE);
@@ -187,6 +203,36 @@ static void predictions(void) {
     }
     check(entry, &a, NULL, 0), check(entry, &l, NULL, 0), check(entry, &o, bytes, no ? 0 : 2 * (size_t)n * n);
     give_back(&a), give_back(&l), give_back(&o);
+}
+
+/* Numbers 1, 2, 5, 7 of a choice; the source is near one value, noise, or past the depth in one sample. */
+static void choose(void) {
+    uint32_t n = some_side(), bits = some_bits(), no, wanted;
+    size_t area = side_ok(n) ? (size_t)n * n : 256;
+    uint16_t corner = (uint16_t)chance(65536), above[MOST_ROW], left[MOST_ROW], source[2048], pred[1024];
+    uint8_t bytes[8];
+    struct lent a = lend(chance(5) ? 130 : about(130)), l = lend(chance(5) ? 130 : about(130));
+    struct lent s = lend(chance(5) ? 2 * area : about(2 * area)), o = lend(chance(5) ? 8 : about(8));
+    uint32_t top = bits == 12 ? 4095 : bits == 10 ? 1023 : 255, level = chance(top + 1), noise = chance(3) ? 4 : top + 1;
+    for (size_t i = 0; 2 * i + 1 < s.length; i++) {
+        uint32_t v = (level + chance(noise)) % (top + 1);
+        if (i == area / 2 && !chance(20)) v = top + 1 + chance(9);
+        s.bytes[2 * i] = (uint8_t)v, s.bytes[2 * i + 1] = (uint8_t)(v >> 8);
+    }
+    memcpy(s.before, s.bytes, s.length);
+    for (size_t i = 0; i < a.length / 2; i++) above[i] = sample(&a, i);
+    for (size_t i = 0; i < l.length / 2; i++) left[i] = sample(&l, i);
+    for (size_t i = 0; i < s.length / 2; i++) source[i] = sample(&s, i);
+    struct choice door = salvrunde_probe_choose_mode(corner, above, a.length / 2, left, l.length / 2, source, s.length / 2, n, bits, pred, 1024,
+        refs, REFS, indices, TABLE, fractions, TABLE);
+    no = salvrunde_choose(bits, n, corner, a.bytes, a.length, l.bytes, l.length, s.bytes, s.length, o.bytes, o.length);
+    calls++;
+    wanted = door.no == 1 || door.no == 2 || o.length >= 8 ? door.no : 5;
+    if (no != wanted) fail("choose", "number", no, wanted);
+    spell4(bytes, door.mode), spell4(bytes + 4, door.sum);
+    check("choose", &a, NULL, 0), check("choose", &l, NULL, 0), check("choose", &s, NULL, 0), check("choose", &o, bytes, no ? 0 : 8);
+    served += no == 0;
+    give_back(&a), give_back(&l), give_back(&s), give_back(&o);
 }
 
 static uint32_t some_length(void) { return chance(14) ? 8 * (1 + chance(9)) : chance(90); }
@@ -347,7 +393,7 @@ static void replay(void) {
 int main(int count, char **words) {
     long turns = count > 1 ? atol(words[1]) : 1000;
     exact_layout = count > 2 && !strcmp(words[2], "exact");
-    for (long i = 0; i < turns; i++) predictions(), luma(), chroma(), checksum(), replay();
+    for (long i = 0; i < turns; i++) predictions(), choose(), luma(), chroma(), checksum(), replay();
     printf("%lu calls, %lu served, 0 differ (%s)\n", calls, served, exact_layout ? "exact" : "guarded");
     return calls < 4 || served < calls / 8;
 }

@@ -10,7 +10,7 @@ typedef unsigned long word;
 
 enum { WIDTH = 64, HEIGHT = 64, SAMPLES = WIDTH * HEIGHT, DEEP = 64 * 1024, PAINT = 0xA5 };
 
-static uint8_t plane[2 * SAMPLES], other[2 * SAMPLES], residuals[4 * SAMPLES], rows[524], above[128], left[128], block[2048], result[8];
+static uint8_t plane[2 * SAMPLES], other[2 * SAMPLES], residuals[4 * SAMPLES], rows[524], above[130], left[130], block[2048], source[2048], result[8];
 static uint8_t plan[6 * 256];
 
 static long system_call(long number, long a, long b, long c) {
@@ -45,6 +45,9 @@ static uint32_t planar(void) { return salvrunde_planar(side, above, ROW, left, R
 static uint32_t dc(void) { return salvrunde_dc(side, 1, above, ROW, left, ROW, block, sizeof block); }
 static uint32_t angular(void) { return salvrunde_angular(8, side, mode, 1, 7, above, ROW, left, ROW, block, sizeof block); }
 static uint32_t chroma_block(void) { return salvrunde_chroma_block(8, side, mode, 7, above, ROW, left, ROW, block, sizeof block); }
+static uint32_t luma_block(void) { return salvrunde_luma_block(8, side, mode, 7, above, 130, left, 130, block, sizeof block); }
+/* it tries every mode, whatever `mode` is */
+static uint32_t choose(void) { return salvrunde_choose(8, side, 7, above, 130, left, 130, source, sizeof source, result, sizeof result); }
 static uint32_t replay(void) {
     uint32_t count = WIDTH / side * (HEIGHT / side);
     return salvrunde_replay(0, 8, WIDTH, HEIGHT, 64, count, plan, 6 * count, residuals, sizeof residuals, plane, sizeof plane, result,
@@ -117,6 +120,8 @@ int main(void) {
     tell("dc", dc, 1, 1, 6144);
     tell("angular", angular, 2, 34, 6144);
     tell("chroma_block", chroma_block, 0, 34, 6144);
+    tell("luma_block", luma_block, 0, 34, 6144);
+    tell("choose", choose, 0, 0, 8704);
     tell("replay", replay, 0, 34, 8192);
     tell("substitution", substitution, 0, 3, 768);
     tell("checksum", checksum, 0, 0, 1024); /* of the plane that the replays left: samples of 8 bits */

@@ -51,6 +51,42 @@ int main(void) {
     HOLDS(salvrunde_planar(32, above, SALVRUNDE_ROW_BYTES(16), left, 130, block, sizeof block) == SALVRUNDE_BUFFER);
     HOLDS(salvrunde_dc(4, 0, above, 0, left, 0, block, sizeof block) == SALVRUNDE_BUFFER);
 
+    /* a luma block is smoothed, so its rows have 65 samples at every side */
+    HOLDS(salvrunde_luma_block(10, 8, 34, 1000, above, SALVRUNDE_LUMA_ROW_BYTES, left, SALVRUNDE_LUMA_ROW_BYTES, block, sizeof block) == SALVRUNDE_DONE);
+    HOLDS(sample(block, 0) == 1000);
+    HOLDS(salvrunde_luma_block(10, 4, 34, 1000, above, SALVRUNDE_LUMA_ROW_BYTES - 1, left, SALVRUNDE_LUMA_ROW_BYTES, block, sizeof block) == SALVRUNDE_BUFFER);
+    HOLDS(salvrunde_luma_block(10, 4, 35, 1000, above, 0, left, 0, block, 0) == SALVRUNDE_MODE);
+    HOLDS(salvrunde_luma_block(11, 5, 35, 1000, above, 0, left, 0, block, 0) == SALVRUNDE_DEPTH);
+
+    /* the choice, with document 02's figures: all modes tie, mode 34 is exact, and a sum of more than two bytes */
+    {
+        static uint8_t up[SALVRUNDE_LUMA_ROW_BYTES], side[SALVRUNDE_LUMA_ROW_BYTES], source[SALVRUNDE_BLOCK_BYTES(32) + 2];
+        static uint8_t choice[SALVRUNDE_CHOICE_BYTES + 1] = {9, 9, 9, 9, 9, 9, 9, 9, 9};
+        uint32_t i;
+        fill(up, 65, 7), fill(side, 65, 7), fill(source, 1025, 9);
+        HOLDS(salvrunde_choose(8, 4, 7, up, sizeof up, side, sizeof side, source, SALVRUNDE_BLOCK_BYTES(4), choice, sizeof choice) == SALVRUNDE_DONE);
+        HOLDS(choice[0] == 0 && choice[1] == 0 && choice[4] == 32 && choice[5] == 0 && choice[7] == 0 && choice[8] == 9);
+        for (i = 0; i < 65; i++) up[2 * i] = (uint8_t)i;
+        fill(side, 65, 0);
+        for (i = 0; i < 16; i++) source[2 * i] = (uint8_t)(1 + i / 4 + i % 4);
+        HOLDS(salvrunde_choose(8, 4, 0, up, sizeof up, side, sizeof side, source, SALVRUNDE_BLOCK_BYTES(4), choice, 8) == SALVRUNDE_DONE);
+        HOLDS(choice[0] == 34 && choice[4] == 0);
+        fill(up, 65, 65535), fill(side, 65, 65535), fill(source, 1025, 0);
+        HOLDS(salvrunde_choose(8, 32, 65535, up, sizeof up, side, sizeof side, source, SALVRUNDE_BLOCK_BYTES(32), choice, 8) == SALVRUNDE_DONE);
+        HOLDS(choice[0] == 0 && choice[4] == 0x00 && choice[5] == 0xFC && choice[6] == 0xFF && choice[7] == 0x03);
+        /* each refusal; the sample past the block is not read */
+        source[2 * 16 + 1] = 1;
+        HOLDS(salvrunde_choose(8, 4, 65535, up, sizeof up, side, sizeof side, source, sizeof source, choice, 8) == SALVRUNDE_DONE && choice[0] == 10);
+        HOLDS(choice[4] == (787440u & 255) && choice[5] == (787440u >> 8 & 255) && choice[6] == (787440u >> 16));
+        HOLDS(salvrunde_choose(8, 8, 7, up, sizeof up, side, sizeof side, source, sizeof source, choice, 8) == SALVRUNDE_SAMPLE);
+        HOLDS(salvrunde_choose(8, 8, 7, up, sizeof up, side, sizeof side, source, sizeof source, choice, 7) == SALVRUNDE_BUFFER);
+        HOLDS(salvrunde_choose(8, 8, 7, up, sizeof up, side, sizeof side, source, SALVRUNDE_BLOCK_BYTES(8) - 1, choice, 8) == SALVRUNDE_BUFFER);
+        HOLDS(salvrunde_choose(8, 4, 7, up, sizeof up - 1, side, sizeof side, source, sizeof source, choice, 8) == SALVRUNDE_BUFFER);
+        HOLDS(salvrunde_choose(8, 12, 7, up, 0, side, sizeof side, source, sizeof source, choice, 8) == SALVRUNDE_SIZE);
+        HOLDS(salvrunde_choose(7, 12, 7, up, 0, side, sizeof side, source, sizeof source, choice, 8) == SALVRUNDE_DEPTH);
+        HOLDS(choice[0] == 10 && choice[8] == 9);
+    }
+
     /* replay: two blocks of 8 by 8, one call each, then a plan that is not whole records and a record past the last block */
     {
         static const uint8_t plan[2 * SALVRUNDE_RECORD_BYTES] = {0, 0, 0, 0, 8, 1, 0, 0, 8, 0, 8, 1};

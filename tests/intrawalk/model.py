@@ -166,6 +166,17 @@ def output(data):
     return "\n".join(lines) + "\n"
 
 
+def best(data):
+    """Of a good input, a line for each block with the first mode whose sum of absolute residuals is the least, and that sum."""
+    width, height, ctu, bits, source, plan = read(data)
+    lines = []
+    for row, col, n, _ in plan:
+        own = [source[(row + r) * width + col + c] for r in range(n) for c in range(n)]
+        sums = [sum(abs(a - b) for a, b in zip(own, predicted(source, width, height, ctu, bits, (row, col, n, m)))) for m in range(35)]
+        lines.append("%d %d %d %d %d" % (row, col, n, sums.index(min(sums)), min(sums)))
+    return lines
+
+
 def encode(width, height, ctu, bits, source, plan, samples_at=None, plan_at=None, before=b"", between=b"", after=b"", count=None):
     """An input: samples, then records, then the trailer, with bytes put between them; the offsets given win over the true ones."""
     body = before + b"".join(struct.pack("<H", v) for v in source) + between

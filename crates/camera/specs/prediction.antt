@@ -3,3 +3,5 @@ pub mod Entries
 pub mod Checks
 -- Blocks: a block that was made of rows in bytes, and stored as bytes.
 pub mod Blocks
+-- Luma: a luma block that was made of rows in bytes.
+pub mod Luma

@@ -46,7 +46,7 @@ struct Around {
 }
 
 // The sample at a place of a plane.
-fn sample_in(plane: &[u8], at: usize) -> u16
+pub(crate) fn sample_in(plane: &[u8], at: usize) -> u16
     requires { ⌜ at < length (samplesOf (now plane)) ⌝ }
     ensures { λ r. ⌜ r ≡ getD (samplesOf (now (plane .entry))) at 0 ⌝ }
 {

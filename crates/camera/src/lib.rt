@@ -1,7 +1,9 @@
-// What the camera's C firmware calls: gathering, prediction, replay and checksum on numbers and byte slices, samples of two bytes, the
+// What the camera's C firmware calls: gathering, prediction, choice, replay and checksum on numbers and byte slices, samples of two bytes, the
 // lower first. Each entry gives back its number, and writes nothing where it refuses. Rests on the doors' contracts and on how rows are
 // stored.
+mod choice;
 mod gather;
+mod luma;
 mod prediction;
 mod replay;
 mod sums;
@@ -11,9 +13,11 @@ ghost use Rattle.refs.specs.Door.{lumaGeometry, chromaGeometry};
 ghost use Rattle.camera.specs.replay.Door.{replayed};
 ghost use Rattle.camera.specs.Written.{wrote};
 ghost use Rattle.camera.specs.prediction.Entries.{planarEntry, dcEntry, angularEntry, chromaBlockEntry};
+ghost use Rattle.camera.specs.prediction.Entries.{lumaBlockEntry};
 ghost use Rattle.camera.specs.gather.Entry.{lumaEntry, chromaEntry};
 ghost use Rattle.checksum.specs.Checksum.{rowRange};
 ghost use Rattle.camera.specs.sums.Entry.{checksumEntry};
+ghost use Rattle.camera.specs.choice.Entry.{choiceNo, choiceSums, ChoosesInto};
 use checksum::RowRange;
 use fmt::ChromaCol;
 use fmt::ChromaRow;
@@ -149,6 +153,45 @@ pub extern "C" fn salvrunde_chroma_block(
         .entry)) (now (out .entry)) ⌝ }
 {
     prediction::chroma(bits, n, mode, corner, above, left, out)
+}
+
+// A luma block in any mode, 0 to 34: references smoothed by the rule, edges filtered. Each row has at least 130 bytes, 65 samples, as
+// smoothing asks at every side. Numbers 1, 2, 3, 5.
+#[no_mangle]
+pub extern "C" fn salvrunde_luma_block(
+    bits: u32,
+    n: u32,
+    mode: u32,
+    corner: u16,
+    above: &[u8],
+    left: &[u8],
+    out: &mut [u8],
+) -> u32
+    ensures { λ r. ⌜ wrote r (now (out .exit)) ≡ lumaBlockEntry bits n mode corner (now (above .entry)) (now (left
+        .entry)) (now (out .entry)) ⌝ }
+{
+    luma::luma(bits, n, mode, corner, above, left, out)
+}
+
+// The luma mode, of all 35, whose block has the least sum of absolute differences to a source block, the lowest on a tie: the first 8
+// bytes of `out` get the mode and the sum, four bytes each, the lowest first. Each row has at least 130 bytes; the first 2 · n · n bytes
+// of the source are its block, in rows. Numbers 1, 2, 5, 7.
+#[no_mangle]
+pub extern "C" fn salvrunde_choose(
+    bits: u32,
+    n: u32,
+    corner: u16,
+    above: &[u8],
+    left: &[u8],
+    source: &[u8],
+    out: &mut [u8],
+) -> u32
+    ensures { λ r. ⌜ ChoosesInto
+        (choiceNo bits n (now (above .entry)) (now (left .entry)) (now (source .entry)) (now (out .entry)))
+        (choiceSums bits n corner (now (above .entry)) (now (left .entry)) (now (source .entry))) (now (out .entry))
+        (wrote r (now (out .exit))) ⌝ }
+{
+    choice::choose(bits, n, corner, above, left, source, out)
 }
 
 // Decodes the next blocks of a still, as many as are granted, in the plane's own bytes: exactly 2 · width · height of the plane, 4

@@ -20,12 +20,11 @@ use bytes::pairs;
 use predict::angular;
 use predict::planar_dc;
 
-// Whether two rows and a block's buffer are long enough, in bytes.
-fn has_room(n: usize, above: usize, left: usize, out: usize) -> bool
+// Whether two rows and a block's buffer are long enough, in bytes; `row` is the least of a row.
+fn has_room(row: usize, n: usize, above: usize, left: usize, out: usize) -> bool
     requires { ⌜ Size n ⌝ }
-    ensures { λ r. ⌜ r ≡ hasRoom n above left out ⌝ }
+    ensures { λ r. ⌜ r ≡ hasRoom row n above left out ⌝ }
 {
-    let row = 4 * n;
     (above >= row) & (left >= row) & (out >= 2 * (n * n))
 }
 
@@ -36,15 +35,23 @@ fn flat_entry_no(n: usize, above: usize, left: usize, out: usize) -> u32
     if !domain::size_ok(n) {
         return 2;
     }
-    if !has_room(n, above, left, out) {
+    if !has_room(2 * (2 * n), n, above, left, out) {
         return 5;
     }
     0
 }
 
-// The number of an entry that takes a mode; `taken` tells whether it takes this one.
-fn mode_entry_no(bits: u32, n: usize, taken: bool, above: usize, left: usize, out: usize) -> u32
-    ensures { λ r. ⌜ r ≡ modeEntryNo bits n taken above left out ⌝ }
+// The number of an entry that takes a mode; `taken` tells whether it takes this one, `row` the least bytes of a row.
+pub(crate) fn mode_entry_no(
+    row: usize,
+    bits: u32,
+    n: usize,
+    taken: bool,
+    above: usize,
+    left: usize,
+    out: usize,
+) -> u32
+    ensures { λ r. ⌜ r ≡ modeEntryNo row bits n taken above left out ⌝ }
 {
     if !domain::depth_ok(bits) {
         return 1;
@@ -55,7 +62,7 @@ fn mode_entry_no(bits: u32, n: usize, taken: bool, above: usize, left: usize, ou
     if !taken {
         return 3;
     }
-    if !has_room(n, above, left, out) {
+    if !has_room(row, n, above, left, out) {
         return 5;
     }
     0
@@ -123,7 +130,7 @@ fn mode_block(
 }
 
 // The first 2n samples of a row. Each arm has a constant count, so that reading is one copy.
-fn read_row(row: &[u8], n: usize, out: &mut [u16])
+pub(crate) fn read_row(row: &[u8], n: usize, out: &mut [u16])
     requires { ⌜ Size n ⌝ }
     ensures { λ _. ⌜ now (out .exit) ≡ readInto n (now (row .entry)) (now (out .entry)) ⌝ }
 {
@@ -239,7 +246,15 @@ pub(crate) fn angular(
         ≡ angularEntry bits n mode edge corner (now (above .entry)) (now (left .entry)) (now (out .entry)) ⌝ }
 {
     let taken = (mode >= 2) & (mode <= 34);
-    let no = mode_entry_no(bits, n as usize, taken, above.len(), left.len(), out.len());
+    let no = mode_entry_no(
+        2 * (2 * (n as usize)),
+        bits,
+        n as usize,
+        taken,
+        above.len(),
+        left.len(),
+        out.len(),
+    );
     if no == 0 {
         predict_bytes(
             bits,
@@ -269,6 +284,7 @@ pub(crate) fn chroma(
         ≡ chromaBlockEntry bits n mode corner (now (above .entry)) (now (left .entry)) (now (out .entry)) ⌝ }
 {
     let no = mode_entry_no(
+        2 * (2 * (n as usize)),
         bits,
         n as usize,
         mode <= 34,

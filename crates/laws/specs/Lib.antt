@@ -6,9 +6,10 @@ pub mod FillLaws
 pub mod Paint
 -- Choose: answers by tests, and the first check that fails.
 pub mod Choose
--- Every: a test of every entry of a list. Sum: sums over an index.
+-- Every: a test of every entry of a list. Sum: sums over an index. Least: the first of the least values.
 pub mod Every
 pub mod Sum
+pub mod Least
 -- Table: a rule at every entry of a table, by one computed test.
 pub mod Table
 -- Bytes: little-endian numbers in a list of bytes.

@@ -30,6 +30,8 @@ use Rattle.refs.specs.Door as gather
 use Rattle.checksum.specs.declared.RowRange.{RowRange}
 use Rattle.checksum.specs.declared.Summed.{Summed}
 use Rattle.checksum.specs.Checksum.{checksumOf}
+use Rattle.choose.specs.declared.Chosen.{Chosen}
+use Rattle.probes.specs.declared.predict_probes.Choice.{Choice}
 use Rattle.probes.specs.declared.Answer.{Answer}
 use Rattle.probes.specs.declared.PairReferences.{PairReferences}
 use Rattle.probes.specs.declared.DepthFigures.{DepthFigures}
@@ -152,3 +154,7 @@ sumOf a = record { no = a .no; value = a .sum }
 
 abbrev pub checksumAnswer : RowRange → List ℕ → ℕ → Answer
 checksumAnswer r plane sum = sumOf (checksumOf r plane sum)
+
+-- a choice, as it is handed over
+abbrev pub chosenOf : Choice → Chosen
+chosenOf a = record { no = a .no; mode = a .mode; sum = a .sum }

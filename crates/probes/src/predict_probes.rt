@@ -1,4 +1,4 @@
-// Entries at native types for the runs of prediction, residual and reconstruction against the Rust: each calls a door.
+// Entries at native types for the runs of prediction, choice, residual and reconstruction against the Rust: each calls a door.
 // Rests on the doors' contracts.
 ghost use mathlib.Core.Path.{_≡_};
 ghost use lib.ListN.{length};
@@ -11,6 +11,8 @@ ghost use Rattle.h265.specs.Setting.{lumaAt, firstEditionStrong};
 ghost use Rattle.h265.specs.Prediction.{predSamples};
 ghost use Rattle.predict.specs.Contents.{chromaAt};
 ghost use Rattle.predict.specs.Lent.{len, withTables, withScratch, lentNeighbours, Predicts, Untouched};
+ghost use Rattle.choose.specs.Choose.{modeSum, chooseNo, Chooses, lends, ScratchKept};
+ghost use Rattle.probes.specs.Probes.{chosenOf};
 use domain::rows::Rows;
 use predict::angular;
 use predict::planar_dc;
@@ -232,4 +234,48 @@ pub extern "C" fn salvrunde_probe_predict_luma_tb_scratch(
         left: *left,
     };
     scratch_predict::predict_luma_tb_fresh(mode, rows, n, bits, &mut *pred)
+}
+
+// A chosen mode and its sum, both 0 where the call is refused.
+#[repr(C)]
+pub struct Choice {
+    pub no: u32,
+    pub mode: u32,
+    pub sum: u32,
+}
+
+#[no_mangle]
+pub extern "C" fn salvrunde_probe_choose_mode(
+    corner: u16,
+    above: &[u16],
+    left: &[u16],
+    source: &[u16],
+    n: usize,
+    bits: u32,
+    pred: &mut [u16],
+    refs: &mut [u16],
+    indices: &mut [u32],
+    fractions: &mut [u32],
+) -> Choice
+    ensures { λ r. ⌜ Chooses (chooseNo bits n (now (source .entry)) (lends above left pred refs indices fractions))
+        (modeSum bits n (lentNeighbours corner above left) (now (source .entry))) (chosenOf r)
+        × ((r .no ≡ 0 → ⊥) → ScratchKept pred refs indices fractions) ⌝ }
+{
+    let a = choose::choose_mode(
+        corner,
+        above,
+        left,
+        source,
+        n,
+        bits,
+        &mut *pred,
+        &mut *refs,
+        &mut *indices,
+        &mut *fractions,
+    );
+    Choice {
+        no: a.no,
+        mode: a.mode as u32,
+        sum: a.sum,
+    }
 }

@@ -44,13 +44,16 @@ use Rattle.promises.specs.tables.Table.{predict-angular-scratch, predict
 use Rattle.promises.specs.tables.Table.{reconstruct}
 use Rattle.promises.specs.run_tables.TableWalk.{about, verdictIn, check-plan, check-plan-numbers, check-plan-bytes, opening, settled}
 use Rattle.promises.specs.run_tables.TableWalk.{walk, replay}
-use Rattle.promises.specs.run_tables.TableBytes.{luma-refs, chroma-refs, planar, dc, angular, chroma-block}
+use Rattle.promises.specs.run_tables.TableBytes.{luma-refs, chroma-refs, planar, dc, angular, chroma-block, luma-block}
 use Rattle.promises.specs.run_tables.TableBytes as bytes
 use Rattle.promises.specs.run_tables.TableProgram.{ProgramTable, program}
 use Rattle.promises.specs.run_tables.TableChecksum as sums
+use Rattle.promises.specs.run_tables.TableChoose.{choose-mode, choose}
 use Rattle.camera.proofs.salvrunde_angular.Reads as camera-salvrunde-angular
 use Rattle.camera.proofs.salvrunde_checksum.Reads as camera-salvrunde-checksum
 use Rattle.camera.proofs.salvrunde_chroma_block.Reads as camera-salvrunde-chroma-block
+use Rattle.camera.proofs.salvrunde_luma_block.Reads as camera-salvrunde-luma-block
+use Rattle.camera.proofs.salvrunde_choose.Reads as camera-salvrunde-choose
 use Rattle.camera.proofs.salvrunde_chroma_refs_ctu.Reads as camera-salvrunde-chroma-refs-ctu
 use Rattle.camera.proofs.salvrunde_dc.Reads as camera-salvrunde-dc
 use Rattle.camera.proofs.salvrunde_luma_refs.Reads as camera-salvrunde-luma-refs
@@ -58,6 +61,7 @@ use Rattle.camera.proofs.salvrunde_planar.Reads as camera-salvrunde-planar
 use Rattle.camera.proofs.salvrunde_replay.Reads as camera-salvrunde-replay
 use Rattle.checksum.proofs.on_bytes.picture_checksum_bytes.Reads as on-bytes-picture-checksum-bytes
 use Rattle.checksum.proofs.picture_checksum.Reads as checksum-picture-checksum
+use Rattle.choose.proofs.choose_mode.Reads as choose-choose-mode
 use Rattle.fmt.proofs.depth.BitDepth.from_bits.Reads as depth-from-bits
 use Rattle.order.proofs.chroma_reach.Reads as order-chroma-reach
 use Rattle.order.proofs.decode_order.Reads as order-decode-order
@@ -85,6 +89,7 @@ use Rattle.probes.proofs.predict_probes.salvrunde_probe_predict_chroma_tb_slice
 use Rattle.probes.proofs.predict_probes.salvrunde_probe_predict_dc_into.Reads as predict-probes-salvrunde-probe-predict-dc-into
 use Rattle.probes.proofs.predict_probes.salvrunde_probe_predict_luma_tb_scratch.Reads as predict-probes-salvrunde-probe-predict-luma-tb-scratch
 use Rattle.probes.proofs.predict_probes.salvrunde_probe_predict_luma_tb_slices.Reads as predict-probes-salvrunde-probe-predict-luma-tb-slices
+use Rattle.probes.proofs.predict_probes.salvrunde_probe_choose_mode.Reads as predict-probes-salvrunde-probe-choose-mode
 use Rattle.probes.proofs.predict_probes.salvrunde_probe_predict_planar_into.Reads as predict-probes-salvrunde-probe-predict-planar-into
 use Rattle.probes.proofs.predict_probes.salvrunde_probe_reconstruct_into.Reads as predict-probes-salvrunde-probe-reconstruct-into
 use Rattle.probes.proofs.salvrunde_probe_decode_order.Reads as probes-salvrunde-probe-decode-order
@@ -246,6 +251,14 @@ predict-predict-luma-tb-slices-row : (κs : Lfts 4)
     (now (b .1 .1 .1 .0))))
 predict-predict-luma-tb-slices-row κs = tabled (λ a x s p. p .0)
 
+-- choose
+choose-choose-mode-row : (κs : Lfts 7)
+    → Tabled (choose-choose-mode.Post κs) (λ r. r .no)
+    (λ a. let b = a .1 .1 .1 .1 in let c = b .1 .1 .1 .1 in
+    choose-mode (b .1 .0) (b .0) (now (a .1 .1 .1 .0)) (lengths (length (now (a .1 .0))) (length (now (a .1 .1 .0))) (length (now
+    (b .1 .1 .0))) (length (now (b .1 .1 .1 .0))) (length (now (c .0))) (length (now (c .1 .0)))))
+choose-choose-mode-row κs = tabled (λ a x s p. p .0 .number)
+
 scratch-angular-predict-angular-fresh-row : (κs : Lfts 3)
     → Tabled (scratch-angular-predict-angular-fresh.Post κs) (λ r. r)
     (λ a. let b = a .1 .1 .1 .1 in
@@ -341,6 +354,17 @@ camera-salvrunde-chroma-block-row : (κs : Lfts 3)
     (λ a. let b = a .1 .1 .1 .1 in
     chroma-block (a .1 .0) (now (b .0)) (now (b .1 .0)) (now (b .1 .1 .0)) (a .0) (a .1 .1 .0) (a .1 .1 .1 .0))
 camera-salvrunde-chroma-block-row κs = tabled (λ a x s p. ap (λ (w : Written). w .number) p)
+
+camera-salvrunde-luma-block-row : (κs : Lfts 3)
+    → Tabled (camera-salvrunde-luma-block.Post κs) (λ r. r)
+    (λ a. let b = a .1 .1 .1 .1 in
+    luma-block (a .1 .0) (now (b .0)) (now (b .1 .0)) (now (b .1 .1 .0)) (a .0) (a .1 .1 .0) (a .1 .1 .1 .0))
+camera-salvrunde-luma-block-row κs = tabled (λ a x s p. ap (λ (w : Written). w .number) p)
+
+camera-salvrunde-choose-row : (κs : Lfts 4)
+    → Tabled (camera-salvrunde-choose.Post κs) (λ r. r)
+    (λ a. let b = a .1 .1 .1 in choose (a .0) (a .1 .0) (now (b .0)) (now (b .1 .0)) (now (b .1 .1 .0)) (now (b .1 .1 .1 .0)))
+camera-salvrunde-choose-row κs = tabled (λ a x s p. p .number)
 
 camera-salvrunde-checksum-row : (κs : Lfts 2)
     → Tabled (camera-salvrunde-checksum.Post κs) (λ r. r)
@@ -451,6 +475,13 @@ predict-probes-salvrunde-probe-predict-chroma-tb-slices-row : (κs : Lfts 6)
     predict-chroma (b .1 .0) (b .0) (a .0) (lengths (length (now (a .1 .1 .0))) (length (now (a .1 .1 .1 .0))) (length (now (b .1 .1 .0)))
     (length (now (b .1 .1 .1 .0))) (length (now (c .0))) (length (now (c .1 .0)))))
 predict-probes-salvrunde-probe-predict-chroma-tb-slices-row κs = tabled (λ a x s p. p .0)
+
+predict-probes-salvrunde-probe-choose-mode-row : (κs : Lfts 7)
+    → Tabled (predict-probes-salvrunde-probe-choose-mode.Post κs) (λ r. r .no)
+    (λ a. let b = a .1 .1 .1 .1 in let c = b .1 .1 .1 .1 in
+    choose-mode (b .1 .0) (b .0) (now (a .1 .1 .1 .0)) (lengths (length (now (a .1 .0))) (length (now (a .1 .1 .0))) (length (now
+    (b .1 .1 .0))) (length (now (b .1 .1 .1 .0))) (length (now (c .0))) (length (now (c .1 .0)))))
+predict-probes-salvrunde-probe-choose-mode-row κs = tabled (λ a x s p. p .0 .number)
 
 predict-probes-salvrunde-probe-predict-luma-tb-slices-row : (κs : Lfts 6)
     → Tabled (predict-probes-salvrunde-probe-predict-luma-tb-slices.Post κs) (λ r. r)

@@ -11,6 +11,8 @@ pub mod Program
 pub mod zero
 -- Checksum: the picture checksum is Annex D's, and two calls split at a row give what one gives.
 pub mod checksum
+-- Choose: no mode does better than the chosen one, and every lower one does worse.
+pub mod choose
 pub mod tables
 pub mod run_tables
 pub mod one_answer

@@ -61,6 +61,15 @@ pub struct Answer {
     pub value: u32,
 }
 
+/// A call's number, and the mode with its sum.
+#[repr(C)]
+#[derive(Debug, PartialEq)]
+pub struct Choice {
+    pub no: u32,
+    pub mode: u32,
+    pub sum: u32,
+}
+
 /// A plan's number, and the block that it is about.
 #[repr(C)]
 #[derive(Debug, PartialEq)]
@@ -204,6 +213,25 @@ unsafe extern "C" {
         plane: *const u16,
         plane_length: usize,
     ) -> Answer;
+    pub fn salvrunde_probe_choose_mode(
+        corner: u16,
+        above: *const u16,
+        above_len: usize,
+        left: *const u16,
+        left_len: usize,
+        source: *const u16,
+        source_len: usize,
+        n: usize,
+        bits: u32,
+        pred: *mut u16,
+        pred_len: usize,
+        refs: *mut u16,
+        refs_len: usize,
+        indices: *mut u32,
+        indices_len: usize,
+        fractions: *mut u32,
+        fractions_len: usize,
+    ) -> Choice;
     pub fn salvrunde_probe_reconstruct_into(
         pred: *const u16,
         pred_len: usize,

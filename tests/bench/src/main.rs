@@ -5,7 +5,7 @@
 //! through, and the entry with the whole door behind it. Functions that take rows are also timed built into one that knows the
 //! rows' lengths, and the better of both counts for the Rust. Buffers are lent again and again and not cleared between calls. Both sides' answers are compared
 //! before they are timed. `bench against`, where the driver was built with another commit's
-//! archives too, times the entries of both; `bench bytes` times the entries on bytes alone; `bench modes` adds a line for every angular mode and side.
+//! archives too, times the entries of both; `bench bytes` times the entries on bytes alone, `bench choose` the choice of a mode; `bench modes` adds a line for every angular mode and side.
 //!
 //! A subject whose entries the probes do not have yet is left out; see build.rs.
 #![cfg_attr(against, allow(clashing_extern_declarations))] // the list of both sides' entries declares them without their arguments
@@ -13,12 +13,14 @@
 mod against;
 #[cfg(entry = "predict_angular_slices")]
 mod angular;
-#[cfg(all(entry = "walk", entry = "replay"))]
+#[allow(dead_code)] // what subjects that are left out call
 #[path = "../../differential/src/assembled.rs"]
 mod assembled;
 mod bytes;
 #[cfg(entry = "picture_checksum")]
 mod checksum;
+#[cfg(entry = "choose_mode")]
+mod choose;
 #[allow(dead_code)] // what subjects that are left out call
 mod entries;
 #[cfg(all(entry = "predict_planar_into", entry = "predict_dc_into"))]
@@ -75,6 +77,8 @@ const SUBJECTS: &[Subject] = &[
     residual::time,
     #[cfg(entry = "picture_checksum")]
     checksum::time,
+    #[cfg(entry = "choose_mode")]
+    choose::time,
     // the last two, for each has a table of its own
     #[cfg(all(entry = "walk", entry = "replay"))]
     walk::time,
@@ -97,6 +101,8 @@ const MISSING: &[&str] = &[
     "residual and reconstruction",
     #[cfg(not(entry = "picture_checksum"))]
     "checksum",
+    #[cfg(not(entry = "choose_mode"))]
+    "choice of a mode",
     #[cfg(not(all(entry = "walk", entry = "replay")))]
     "walk and replay",
 ];
@@ -107,7 +113,13 @@ fn main() {
         return against::time();
     }
     let mut table = Table::new(std::env::args().any(|word| word == "modes"));
-    let chosen = if std::env::args().any(|word| word == "bytes") { &SUBJECTS[SUBJECTS.len() - 1..] } else { SUBJECTS };
+    let asked = |name| std::env::args().any(|word| word == name);
+    #[cfg(entry = "choose_mode")]
+    if asked("choose") {
+        choose::time(&mut table);
+        return table.finish(MISSING);
+    }
+    let chosen = if asked("bytes") { &SUBJECTS[SUBJECTS.len() - 1..] } else { SUBJECTS };
     for subject in chosen {
         subject(&mut table);
     }

@@ -1,12 +1,13 @@
 //! Walk and replay of a still, put together from the Rust's functions: gather, rule of smoothing, smoothing, prediction with
-//! edges filtered, residual, reconstruction, block after block. The Rust has no such loop; document 01 says what it does.
+//! edges filtered, residual, reconstruction, block after block; and the search of a block's mode. The Rust has no such loops; documents
+//! 01 and 02 say what they do.
 use crate::frame::{Block, Frame};
 use crate::oracle::fmt::BitDepth;
 use crate::oracle::intra::{self, AngularScratch, LumaRefGeometry};
 use std::ops::Range;
 
 /// A luma block's references: corner, row above, row on the left.
-type References<'a> = (u16, &'a [u16], &'a [u16]);
+pub type References<'a> = (u16, &'a [u16], &'a [u16]);
 
 fn predict_from(
     mode: u8,
@@ -34,6 +35,26 @@ pub fn predict(mode: u8, bits: u32, refs: References, n: usize, pred: &mut [u16]
     }
 }
 
+/// The first of the 35 modes whose block has the least sum of absolute differences to a source block, and that sum.
+pub fn choose(
+    bits: u32,
+    refs: References,
+    source: &[u16],
+    n: usize,
+    pred: &mut [u16],
+    scratch: &mut AngularScratch,
+) -> (u8, u32) {
+    let mut best = (0, u32::MAX);
+    for mode in 0..=34 {
+        predict(mode, bits, refs, n, pred, scratch);
+        let sum = source[..n * n].iter().zip(&pred[..n * n]).map(|(s, p)| s.abs_diff(*p) as u32).sum();
+        if sum < best.1 {
+            best = (mode, sum);
+        }
+    }
+    best
+}
+
 /// A still and its plan, which are good, and the blocks of the plan that are done.
 pub struct Job<'a> {
     pub bits: u32,
@@ -43,8 +64,8 @@ pub struct Job<'a> {
 }
 
 impl Job<'_> {
-    /// A block's prediction from a plane.
-    fn predict_at(&self, [row, col, side, mode]: Block, plane: &[u16], pred: &mut [u16], scratch: &mut AngularScratch) {
+    /// A block's references out of a plane.
+    pub fn gather(&self, [row, col, side, _]: Block, plane: &[u16]) -> (u16, [u16; 65], [u16; 65]) {
         let Frame { width, height, ctu } = self.frame;
         let geometry = LumaRefGeometry {
             stride: width as usize,
@@ -57,12 +78,17 @@ impl Job<'_> {
             min_pu: 4,
             neutral: BitDepth::from_bits(self.bits as u8).neutral(),
         };
-        let (corner, above, left) = intra::get_reference_samples(plane, geometry);
-        predict(mode as u8, self.bits, (corner, &above, &left), side as usize, pred, scratch);
+        intra::get_reference_samples(plane, geometry)
+    }
+
+    /// A block's prediction from a plane.
+    fn predict_at(&self, block: Block, plane: &[u16], pred: &mut [u16], scratch: &mut AngularScratch) {
+        let (corner, above, left) = self.gather(block, plane);
+        predict(block[3] as u8, self.bits, (corner, &above, &left), block[2] as usize, pred, scratch);
     }
 
     /// Where a block's rows lie in a plane.
-    fn rows(&self, [row, col, side, _]: Block) -> impl Iterator<Item = Range<usize>> {
+    pub fn rows(&self, [row, col, side, _]: Block) -> impl Iterator<Item = Range<usize>> {
         let width = self.frame.width as usize;
         (row as usize..(row + side) as usize).map(move |r| r * width + col as usize..r * width + (col + side) as usize)
     }

@@ -124,7 +124,9 @@ pub fn ask(t: &mut Tally, call: &Block, scratch: &mut AngularScratch, random: &m
     }
     let name = if call.luma { "salvrunde_probe_predict_luma_tb_slices" } else { "salvrunde_probe_predict_chroma_tb_slices" };
     t.call(name, &args, want);
-    if !call.luma {
+    if call.luma {
+        entries::luma_block(t, call, scratch);
+    } else {
         entries::chroma_block(t, call, scratch);
     }
 }

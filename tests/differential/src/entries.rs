@@ -1,6 +1,7 @@
 //! The firmware's entries on bytes, with what the Rust gives for the same values. Each is asked beside its door, on every call whose
 //! numbers the entry's types can hold; an entry has scratch of its own, and lengths are those of the samples in bytes.
 use crate::block;
+use crate::choose::Search;
 use crate::host::Arg::{self, Lent, Number, Read};
 use crate::oracle::intra::AngularScratch;
 use crate::predict::{Angular, Flat};
@@ -51,6 +52,22 @@ pub fn chroma_block(t: &mut Tally, call: &block::Block, scratch: &mut AngularScr
     let first = [call.bits, n, call.mode as u32, call.corner as u32];
     let rows = Flat { above: call.above.clone(), left: call.left.clone(), n: call.n, pred: call.pred.clone() };
     predicts(t, "salvrunde_chroma_block", &first, &rows, call.answer(true, scratch));
+}
+
+/// A luma block. Its rows have 65 samples by the door's type; the entry is asked with those, with more bytes and with fewer, which is
+/// number 5 where no number before it counts.
+pub fn luma_block(t: &mut Tally, call: &block::Block, scratch: &mut AngularScratch) {
+    let Ok(n) = u32::try_from(call.n) else { return };
+    let first = numbers(&[call.bits, n, call.mode as u32, call.corner as u32]);
+    let (no, after) = call.answer(true, scratch);
+    let [up, side] = [&call.above, &call.left].map(|row| [bytes(row), vec![DIRT; 3]].concat());
+    let before = bytes(&call.pred);
+    for (above, left) in [(130, 130), (131, 133), (129, 133), (133, 129), (0, 130)] {
+        let no = if no == 0 && above.min(left) < 130 { 5 } else { no };
+        let after = if no == 0 { bytes(&after) } else { before.clone() };
+        let args = [&first[..], &read(&up[..above]), &read(&side[..left]), &lent(&before)].concat();
+        t.call("salvrunde_luma_block", &args, Want::fields(&[no]).then(after));
+    }
 }
 
 /// An entry that gathers: served into the first bytes of its buffer, which is left alone where it refuses. A buffer that is one byte short
@@ -122,5 +139,24 @@ pub fn checksum(t: &mut Tally, first: &[u32; 6], plane: &[u8], (no, sum): (u32, 
         }
         let args = [&numbers(first)[..], &read(plane), &lent(&before)].concat();
         t.call("salvrunde_checksum", &args, Want::fields(&[no]).then(after));
+    }
+}
+
+/// A choice of a mode: mode and sum in the first eight bytes of its buffer, which is left alone where it refuses. A buffer of seven bytes
+/// is refused with 5, which comes before 7 and after 1 and 2.
+pub fn choose(t: &mut Tally, call: &Search, (no, mode, sum): (u32, u8, u32)) {
+    let Ok(n) = u32::try_from(call.n) else { return };
+    let first = numbers(&[call.bits, n, call.corner as u32]);
+    let [up, side, source] = [&call.above, &call.left, &call.source].map(|samples| bytes(samples));
+    for length in [8, 9, 7] {
+        let before = vec![DIRT; length];
+        let no = if length < 8 && ![1, 2].contains(&no) { 5 } else { no };
+        let mut after = before.clone();
+        if no == 0 {
+            after[..4].copy_from_slice(&(mode as u32).to_le_bytes());
+            after[4..8].copy_from_slice(&sum.to_le_bytes());
+        }
+        let args = [&first[..], &read(&up), &read(&side), &read(&source), &lent(&before)].concat();
+        t.call("salvrunde_choose", &args, Want::fields(&[no]).then(after));
     }
 }

@@ -9,6 +9,7 @@
 mod assembled;
 mod block;
 mod checksum;
+mod choose;
 mod clauses;
 mod differences;
 mod entries;
@@ -77,6 +78,8 @@ const SUBJECTS: &[(&str, Subject)] = &[
     ("differences in references", standard::differences),
     ("checksum", checksum::checksum),
     ("messages", checksum::messages),
+    ("choose", choose::choose),
+    ("chosen plans", walk::chosen),
 ];
 
 fn main() -> ExitCode {

@@ -1,4 +1,6 @@
 //! Walk and replay of whole pictures, in calls of every kind, and every refusal. What is wanted of a call is in step.rs.
+use crate::assembled::Job;
+use crate::choose::Search;
 use crate::frame::{Block, Frame};
 use crate::plan::change;
 use crate::random::Random;
@@ -82,6 +84,20 @@ impl Still {
         self.source.len()
     }
 
+    /// Has the chooser pick the mode of every block; gives the sums.
+    fn choose(&mut self, t: &mut Tally, random: &mut Random) -> Vec<u32> {
+        let job = Job { bits: self.bits, frame: self.frame, plan: &[], blocks: 0..0 };
+        let mut sums = Vec::new();
+        for block in &mut self.plan {
+            let (corner, above, left) = job.gather(*block, &self.source);
+            let own: Vec<u16> = job.rows(*block).flat_map(|row| self.source[row].to_vec()).collect();
+            let (mode, sum) = Search::new(self.bits, block[2] as usize, (corner, &above, &left), &own).ask(t, random);
+            block[3] = mode as u32;
+            sums.push(sum);
+        }
+        sums
+    }
+
     /// A fresh walk into a plane and residuals that hold anything.
     fn walk(&self, random: &mut Random) -> Call {
         Call {
@@ -109,6 +125,32 @@ impl Still {
         let mut call = self.walk(random);
         assert_eq!(call.make().no, 0, "the driver's own stills are good");
         call.residuals
+    }
+}
+
+/// Plans whose modes the chooser picks from neighbours that are the source's own, as a walk that loses nothing has them: each block's
+/// residuals come to the sum that it tells, and replay gives the source back.
+pub fn chosen(t: &mut Tally) {
+    let mut random = Random::new(31);
+    for (width, height) in PICTURES.into_iter().filter(|p| p.0.max(p.1) <= 72) {
+        for bits in DEPTHS {
+            for kind in 0..SOURCES {
+                let ctu = random.pick(&CTUS);
+                let mut still = Still::any(Frame { width, height, ctu }, bits, kind, &mut random);
+                let sums = still.choose(t, &mut random);
+                let mut walk = still.walk(&mut random);
+                assert_eq!(walk.ask(t, &mut random).no, 0);
+                let mut at = 0;
+                for (block, sum) in still.plan.iter().zip(sums) {
+                    let area = (block[2] * block[2]) as usize;
+                    assert_eq!(walk.residuals[at..at + area].iter().map(|r| r.unsigned_abs()).sum::<u32>(), sum);
+                    at += area;
+                }
+                let mut replay = still.replay(walk.residuals, &mut random);
+                assert_eq!(replay.ask(t, &mut random).no, 0);
+                assert_eq!(replay.plane, still.source);
+            }
+        }
     }
 }
 

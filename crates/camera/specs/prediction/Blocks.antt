@@ -15,6 +15,7 @@ use Rattle.bytes.specs.Bytes.{samplesOf}
 use Rattle.bytes.specs.pairs.Into.{readInto, storeInto}
 use Rattle.bytes.specs.pairs.Laws.{read-done, store-done}
 use Rattle.domain.specs.Facts.{Size, size-small}
+use Rattle.h265.specs.Mean.{Agree}
 use Rattle.h265.specs.Notation.{fromRows}
 use Rattle.h265.specs.Planar.{planar}
 use Rattle.h265.specs.Dc.{dc, dcVal}
@@ -69,13 +70,21 @@ stored g n k p d e few hp hd {pred} {out} made put =
     ap (λ (v : ℕ). v / 256 ^ (j % 2) % 256)
     (ap (λ (m : List ℕ). getD m (j / 2) 0) made ∙ fill-at (λ i. g (i / n) (i % n)) (n * n) p (j / 2) 0 (omega arith) (omega arith)))
 
--- a row as it was read, and as the definitions have it, as far as a side reads
-alike : (n : ℕ) (b : List ℕ) → n ≤ 32 → 4 * n ≤ length b → {a : List ℕ} → a ≡ readInto n b (replicate 64 0) → (i : ℕ) → i < 2 * n
-    → getD a i 0 ≡ getD (samplesOf b) i 0
-alike n b most long e i h =
-    let q = length-replicate {A = ℕ} 64 0 in
-    ap (λ (l : List ℕ). getD l i 0) (e ∙ read-done n b (replicate 64 0) most long (omega arith))
-    ∙ fill-at (λ j. getD (samplesOf b) j 0) (2 * n) (replicate 64 0) i 0 h (omega arith)
+-- a row as it was read into k zeros, and as the definitions have it, as far as a side reads
+alike : (k n : ℕ) (b : List ℕ) → 64 ≤ k → n ≤ 32 → 4 * n ≤ length b → {a : List ℕ} → a ≡ readInto n b (replicate k 0) → (i : ℕ)
+    → i < 2 * n → getD a i 0 ≡ getD (samplesOf b) i 0
+alike k n b room most long e i h =
+    let q = length-replicate {A = ℕ} k 0 in
+    ap (λ (l : List ℕ). getD l i 0) (e ∙ read-done n b (replicate k 0) most long (omega arith))
+    ∙ fill-at (λ j. getD (samplesOf b) j 0) (2 * n) (replicate k 0) i 0 h (omega arith)
+
+-- the neighbours in two rows as they were read, and in the rows of bytes
+pub read-agree : (k n corner : ℕ) (above left : List ℕ) → 64 ≤ k → Size n → 4 * n ≤ length above → 4 * n ≤ length left
+    → {a l : List ℕ} → a ≡ readInto n above (replicate k 0) → l ≡ readInto n left (replicate k 0)
+    → Agree n (fromRows corner a l) (neighboursIn corner above left)
+read-agree k n corner above left room s ha hl ea el =
+    let m = size-small n s in
+    record { corner = refl; above = alike k n above room (m .1) ha ea; left = alike k n left room (m .1) hl el }
 
 -- a block made of rows that were read is the one of the rows in bytes
 pub read-block : (bits n mode corner : ℕ) (edge : Bool) (above left p : List ℕ) → Predictable bits n mode → 4 * n ≤ length above
@@ -88,7 +97,7 @@ read-block bits n mode corner edge above left p b ha hl ea el =
     rows-same _ _ n n p
     (λ y x hy hx.
     by-mode-alone n mode (side b) (highest b) x y hx hy bits edge edge _ _
-    (record { corner = refl; above = alike n above (m .1) ha ea; left = alike n left (m .1) hl el }))
+    (read-agree 64 n corner above left (omega arith) (side b) ha hl ea el))
     (omega arith)
 
 -- which block an entry asks for

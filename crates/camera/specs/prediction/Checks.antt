@@ -7,6 +7,7 @@ use lib.Dec.{leb}
 use borrow.Author.Tests.{leb-true}
 use Rattle.laws.specs.Choose.{passed, both-true}
 use Rattle.domain.specs.Domain.{depthOk, sizeOk, modeOk, predictorRow}
+use Rattle.domain.specs.Facts.{Size, size-of}
 use Rattle.predict.specs.by_mode.Door.{Predictable}
 use Rattle.camera.specs.prediction.Entries.{hasRoom, flatEntryNo, modeEntryNo}
 
@@ -16,9 +17,8 @@ pub record HasRoom (n above left out : ℕ) : Type 0 where
   pub left-long : 4 * n ≤ left
   pub block-long : 2 * (n * n) ≤ out
 
-fit : (n above left out : ℕ) → hasRoom n above left out ≡ true → HasRoom n above left out
-fit n above left out e =
-    let row = 2 * predictorRow n in
+fit : (row n above left out : ℕ) → 4 * n ≤ row → hasRoom row n above left out ≡ true → HasRoom n above left out
+fit row n above left out long e =
     let a = both-true (leb row above && leb row left) (leb (2 * (n * n)) out) e in
     let b = both-true (leb row above) (leb row left) (a .0) in
     let ha = leb-true row above (b .0) in
@@ -31,16 +31,19 @@ pub flat-fit : (n above left out : ℕ) → flatEntryNo n above left out ≡ 0 �
 unfolding flatEntryNo
 flat-fit n above left out e bits mode d m =
     let s = passed (sizeOk n) _ 2 (omega arith) e in
-    (record { depth = d; size = s .0; inside = m }, fit n above left out (passed (hasRoom n above left out) 0 5 (omega arith) (s .1) .0))
+    let row = 2 * predictorRow n in (
+      record { depth = d; size = s .0; inside = m },
+      fit row n above left out (omega arith) (passed (hasRoom row n above left out) 0 5 (omega arith) (s .1) .0),
+    )
 
--- angular and the chroma block, whichever modes they take
-pub mode-fit : (bits n mode above left out : ℕ) (taken : Bool) → (taken ≡ true → modeOk mode ≡ true)
-    → modeEntryNo bits n taken above left out ≡ 0
+-- angular and the blocks of any mode, whichever modes they take, where a row is as long as the side asks
+pub mode-fit : (row bits n mode above left out : ℕ) (taken : Bool) → (Size n → 4 * n ≤ row) → (taken ≡ true → modeOk mode ≡ true)
+    → modeEntryNo row bits n taken above left out ≡ 0
     → Predictable bits n mode × (HasRoom n above left out × (taken ≡ true))
 unfolding modeEntryNo
-mode-fit bits n mode above left out taken h e =
+mode-fit row bits n mode above left out taken long h e =
     let d = passed (depthOk bits) _ 1 (omega arith) e in
     let s = passed (sizeOk n) _ 2 (omega arith) (d .1) in
     let m = passed taken _ 3 (omega arith) (s .1) in
-    let t = passed (hasRoom n above left out) 0 5 (omega arith) (m .1) in
-    (record { depth = d .0; size = s .0; inside = h (m .0) }, (fit n above left out (t .0), m .0))
+    let t = passed (hasRoom row n above left out) 0 5 (omega arith) (m .1) in
+    (record { depth = d .0; size = s .0; inside = h (m .0) }, (fit row n above left out (long (size-of n (s .0))) (t .0), m .0))

@@ -65,6 +65,7 @@ use Rattle.camera.proofs.salvrunde_planar.Reads as c-planar
 use Rattle.camera.proofs.salvrunde_dc.Reads as c-dc
 use Rattle.camera.proofs.salvrunde_angular.Reads as c-angular
 use Rattle.camera.proofs.salvrunde_chroma_block.Reads as c-chroma-block
+use Rattle.camera.proofs.salvrunde_luma_block.Reads as c-luma-block
 
 -- The parameters of a call, in the source's order: `a and b and .. and none`.
 infixr 4 _and_
@@ -253,3 +254,7 @@ pub record Demand2 : Type 2 where
       → corner < 65536 → AreBytes (now above) → AreBytes (now left)
       → Spells (c-chroma-block.Post κs) (λ out. bits and n and mode and corner and above and left and out and none)
       (Holds n (chromaSamples bits n mode (inBytes corner above left)))
+  pub salvrunde-luma-block : (κs : Lfts 3) (bits n mode corner : ℕ) (above left : LentSlice)
+      → corner < 65536 → AreBytes (now above) → AreBytes (now left)
+      → Spells (c-luma-block.Post κs) (λ out. bits and n and mode and corner and above and left and out and none)
+      (Holds n (lumaSamples bits n mode (inBytes corner above left)))

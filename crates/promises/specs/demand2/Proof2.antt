@@ -47,7 +47,7 @@ use Rattle.predict.specs.modes.Modes.{pred-alone}
 use Rattle.promises.specs.demand2.Demand2.{LentSlice, LentTables, Holds, lumaSamples, standardNeighbours, AreChroma, standardBlock}
 use Rattle.promises.specs.demand2.Demand2.{WithScratch, Demand2}
 use Rattle.promises.specs.demand2.Spelt2.{luma-size, luma-refs-spelt, chroma-refs-spelt}
-use Rattle.promises.specs.demand2.Spelt2.{planar-spelt, dc-spelt, angular-spelt, chroma-spelt}
+use Rattle.promises.specs.demand2.Spelt2.{planar-spelt, dc-spelt, angular-spelt, chroma-spelt, luma-spelt}
 
 abbrev pub entriesIn : LentSlice → ℕ
 entriesIn s = length (now s)
@@ -192,4 +192,6 @@ demand-2 = record {
       angular-spelt n (now above) (now left) (now out) a l bits mode corner c edge;
   salvrunde-chroma-block = λ κs bits n mode corner above left c a l out out′ number.
       chroma-spelt n (now above) (now left) (now out) a l bits mode corner c;
+  salvrunde-luma-block = λ κs bits n mode corner above left c a l out out′ number.
+      luma-spelt n (now above) (now left) (now out) a l bits mode corner c;
 }

@@ -52,10 +52,11 @@ use Rattle.camera.specs.gather.Entry.{lumaEntryNo, lumaEntry, chromaEntryNo, ch
 use Rattle.camera.specs.gather.Room.{luma-entry-no, luma-entry-fine, chroma-entry-no, chroma-entry-fine}
 use Rattle.camera.specs.gather.Spelt.{luma-spelt-fine, chroma-spelt-fine}
 use Rattle.camera.specs.prediction.Entries.{neighboursIn, blockIn, planarEntry, dcEntry, angularMode, angularEntry, chromaBlockEntry}
+use Rattle.camera.specs.prediction.Entries.{lumaBlockEntry}
 use Rattle.camera.specs.prediction.Checks.{flat-fit, mode-fit}
-use Rattle.promises.specs.demand3.Range.{Most, neighbours-most, under, over, angular-most}
+use Rattle.promises.specs.demand3.Range.{Most, neighbours-most, under, over, angular-most, luma-most}
 use Rattle.promises.specs.demand2.Demand2.{Holds, fromOneLine, planeSample, standardNeighbours, standardChroma, AreChroma}
-use Rattle.promises.specs.demand2.Demand2.{chromaSamples}
+use Rattle.promises.specs.demand2.Demand2.{lumaSamples, chromaSamples}
 
 -- an entry that gives 0 has done its work
 done : (k : ℕ) (work kept : List ℕ) {number : ℕ} {out : List ℕ} → wrote number out ≡ entry k work kept → number ≡ 0 → (k ≡ 0) × (out ≡ work)
@@ -103,6 +104,9 @@ module _ (n corner : ℕ) (above left : List ℕ) (sample : corner < 65536) (a :
         ∙ stored-at (λ i. inRow (i / n) (i % n)) (n * n) d room j (digits-lt hy hx) (rw at (c x y hx hy _ in-range))
         ∙ at
 
+depth-small : (bits : ℕ) → Depth bits → 2 ^ bits - 1 ≤ 65535
+depth-small bits depth = at-depth (λ (k : ℕ). 2 ^ k - 1 ≤ 65535) (omega arith) (omega arith) (omega arith) bits depth
+
 -- the clauses, each of which is such
 module _ (n : ℕ) (size : Size n) where
   planar-plain : Plain n (planar n)
@@ -113,13 +117,15 @@ module _ (n : ℕ) (size : Size n) where
 
   angular-plain : (bits : ℕ) (edge : Bool) (mode : ℕ) → Depth bits → mode ≤ 34 → Plain n (angular bits edge n mode)
   angular-plain bits edge mode depth known x y hx hy nb m =
-      angular-most 65535 bits edge n mode x y nb size known hx hy
-      (at-depth (λ (k : ℕ). 2 ^ k - 1 ≤ 65535) (omega arith) (omega arith) (omega arith) bits depth) m
+      angular-most 65535 bits edge n mode x y nb size known hx hy (depth-small bits depth) m
 
   chroma-block-plain : (bits mode : ℕ) → mode ≤ 34 → Plain n (chromaSamples bits n mode)
   chroma-block-plain bits mode known x y hx hy nb m =
       rw (chroma-plain (chromaAt bits) true n mode nb x y refl refl)
       (pred-between bits n mode x y 0 65535 nb size known hx hy (over 65535 n nb) (under 65535 nb m n) .1)
+
+  luma-plain : (bits mode : ℕ) → Depth bits → mode ≤ 34 → Plain n (lumaSamples bits n mode)
+  luma-plain bits mode depth known x y hx hy nb m = luma-most 65535 bits n mode x y nb size known hx hy (depth-small bits depth) m
 
 -- the entries of the predictors
 module _ (n : ℕ) (above left d : List ℕ) (a : AreBytes above) (l : AreBytes left) {number : ℕ} {out : List ℕ} where
@@ -148,7 +154,7 @@ module _ (n : ℕ) (above left d : List ℕ) (a : AreBytes above) (l : AreBytes 
     unfolding angularEntry
     angular-spelt edge met zero =
         let w = done _ _ d met zero in
-        let f = mode-fit bits n mode _ _ _ (angularMode mode) (λ t. both-true (leb 2 mode) (modeOk mode) t .1) (w .0) in
+        let f = mode-fit _ bits n mode _ _ _ (angularMode mode) (λ z. omega arith) (λ t. both-true (leb 2 mode) (modeOk mode) t .1) (w .0) in
         let s = side (f .0) in
         let e = not (eqb edge 0) in
         block-spelt n corner above left c a l (angular bits e n mode)
@@ -159,10 +165,20 @@ module _ (n : ℕ) (above left d : List ℕ) (a : AreBytes above) (l : AreBytes 
     unfolding chromaBlockEntry
     chroma-spelt met zero =
         let w = done _ _ d met zero in
-        let f = mode-fit bits n mode _ _ _ (modeOk mode) (λ t. t) (w .0) in
+        let f = mode-fit _ bits n mode _ _ _ (modeOk mode) (λ z. omega arith) (λ t. t) (w .0) in
         let s = side (f .0) in
         block-spelt n corner above left c a l (chromaSamples bits n mode) (chroma-block-plain n s bits mode (highest (f .0))) d
         (f .1 .0 .block-long) (w .1)
+
+    pub luma-spelt : wrote number out ≡ lumaBlockEntry bits n mode corner above left d → number ≡ 0
+        → Holds n (lumaSamples bits n mode (neighboursIn corner above left)) (samplesOf out)
+    unfolding lumaBlockEntry
+    luma-spelt met zero =
+        let w = done _ _ d met zero in
+        let f = mode-fit 130 bits n mode _ _ _ (modeOk mode) (λ z. omega (arith, size-small n z)) (λ t. t) (w .0) in
+        let s = side (f .0) in
+        block-spelt n corner above left c a l (lumaSamples bits n mode)
+        (luma-plain n s bits mode (depth-of bits (f .0 .depth)) (highest (f .0))) d (f .1 .0 .block-long) (w .1)
 
 -- the rows that a gather writes: those of one plane, and those of two one after the other
 abbrev onLine : Rows → ℕ → ℕ

@@ -16,7 +16,7 @@ use Rattle.h265.specs.Setting.{Grid, Component, lumaAt, firstEditionStrong}
 use Rattle.h265.specs.Substitution.{placeX, placeY, firstMarked, settled, substitutedAt, fromPlaces, neighbours}
 use Rattle.h265.specs.Filtering.{strongAt, weakAt, biIntFlag, filtered}
 use Rattle.h265.specs.Angular.{intraPredAngle, invAngle, ref, project, angular}
-use Rattle.h265.specs.Prediction.{filters, prepared, predicted}
+use Rattle.h265.specs.Prediction.{filters, prepared, predSamples, predicted}
 use Rattle.h265.specs.Mean.{Under, even, between}
 use Rattle.domain.specs.Facts.{Depth, Size, at-depth}
 use Rattle.predict.specs.modes.Flat.{planar-between, dc-between}
@@ -144,17 +144,23 @@ angular-most m bits edge n mode x y nb s h hx hy largest a =
     (between n (λ (k : Neighbours). angular bits false n mode k x y) (mean-angular n mode s (omega arith) bits x y hx hy) 0 m nb
     (over m n nb) (under m nb a n) .1)
 
+-- a luma block, with what is smoothed and filtered
+pub luma-most : (m bits n mode x y : ℕ) (nb : Neighbours) → Size n → mode ≤ 34 → x < n → y < n → 2 ^ bits - 1 ≤ m → Most m nb
+    → predSamples (lumaAt bits) firstEditionStrong n mode nb x y ≤ m
+unfolding prepared byMode
+luma-most m bits n mode x y nb s h hx hy largest a =
+    let p = either-of m (filters (lumaAt bits) firstEditionStrong n mode) (filtered-most m _ a true bits n) a in
+    rw (is-by-mode (lumaAt bits) firstEditionStrong n mode nb x y)
+    (either m (eqb mode 0) (planar-between n x y s hx hy 0 m _ (over m n _) (under m _ p n) .1)
+    (either m (eqb mode 1) (dc-between n x y s hx hy 0 m _ (over m n _) (under m _ p n) true .1)
+    (angular-most m bits true n mode x y _ s h hx hy largest p)))
+
 pub predicted-most : (s : Still) (b : Block) (plane : List ℕ) → Depth (s .bits) → Size (b .side) → b .mode ≤ 34
     → ((i : ℕ) → getD plane i 0 ≤ largestIn s)
     → (r c : ℕ) → r < b .side → c < b .side → predictedAt s b plane r c ≤ largestIn s
-unfolding predictedAt predicted prepared byMode
+unfolding predictedAt predicted
 predicted-most s b plane depth size mode most r c hr hc =
     let m = largestIn s in
     let neutral = at-depth (λ (k : ℕ). 2 ^ (k - 1) ≤ 2 ^ k - 1) (omega arith) (omega arith) (omega arith) (s .bits) depth in
-    let nb = neighbours-most m _ (lumaAt (s .bits)) (b .side) (b .col) (b .row) (λ x y. sampleAt s plane y x) (λ x y. most _) neutral in
-    let p = either-of m (filters (lumaAt (s .bits)) firstEditionStrong (b .side) (b .mode))
-    (filtered-most m _ nb true (s .bits) (b .side)) nb in
-    rw (is-by-mode (lumaAt (s .bits)) firstEditionStrong (b .side) (b .mode) _ c r)
-    (either m (eqb (b .mode) 0) (planar-between (b .side) c r size hc hr 0 m _ (over m (b .side) _) (under m _ p (b .side)) .1)
-    (either m (eqb (b .mode) 1) (dc-between (b .side) c r size hc hr 0 m _ (over m (b .side) _) (under m _ p (b .side)) true .1)
-    (angular-most m (s .bits) true (b .side) (b .mode) c r _ size mode hc hr (omega arith) p)))
+    luma-most m (s .bits) (b .side) (b .mode) c r _ size mode hc hr (omega arith)
+    (neighbours-most m _ (lumaAt (s .bits)) (b .side) (b .col) (b .row) (λ x y. sampleAt s plane y x) (λ x y. most _) neutral)

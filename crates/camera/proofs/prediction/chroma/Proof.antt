@@ -15,7 +15,13 @@ use Rattle.camera.proofs.prediction.chroma.Tie as tie
 
 -- a call that is not refused
 served : (c : tie.Then1) → let a = c .before .before .before .before .before .args in Predictable (a .bits) (a .n) (a .mode) × (HasRoom (a .n) (length (a .above .now)) (length (a .left .now)) (length (a .out .now)) × (modeOk (a .mode) ≡ true))
-served c = let m = c .before .before .before .before .before .args .mode in mode-fit _ _ m _ _ _ (modeOk m) (λ t. t) (sym (c .before .mode-entry-no .ensures) ∙ c .if1 .taken)
+served c = let m = c .before .before .before .before .before .args .mode in mode-fit _ _ _ m _ _ _ (modeOk m) (λ s. omega arith) (λ t. t) (sym (c .before .mode-entry-no .ensures) ∙ c .if1 .taken)
+
+mul-mode-entry-no : tie.Need-mul-mode-entry-no
+mul-mode-entry-no c = search needs
+
+mul-mode-entry-no-2 : tie.Need-mul-mode-entry-no-2
+mul-mode-entry-no-2 c = search needs
 
 mode-entry-no-requires : tie.Need-mode-entry-no-requires
 mode-entry-no-requires c κs = search needs
@@ -43,6 +49,8 @@ pub chroma-spec : {M : Type 1} → statement M
 chroma-spec =
     tie.close
     (tie.spec
+    mul-mode-entry-no
+    mul-mode-entry-no-2
     mode-entry-no-requires
     cast-predict-bytes
     predict-bytes-requires

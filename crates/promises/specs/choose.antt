@@ -1,0 +1,4 @@
+-- The chooser over its contract, as the prover reads it. No code. Choose: what is promised. ProofChoose proves it. Figures: document 02's.
+pub mod Choose
+pub mod ProofChoose
+pub mod Figures
