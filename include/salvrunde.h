@@ -121,6 +121,10 @@ uint32_t salvrunde_luma_block(uint32_t bits, uint32_t n, uint32_t mode, uint16_t
 uint32_t salvrunde_choose(uint32_t bits, uint32_t n, uint16_t corner, const uint8_t *above, size_t above_bytes, const uint8_t *left,
                           size_t left_bytes, const uint8_t *source, size_t source_bytes, uint8_t *out, size_t out_bytes);
 
+/* The same by a search that drops a mode as soon as it cannot win: number, mode and sum are those of salvrunde_choose. */
+uint32_t salvrunde_choose_early(uint32_t bits, uint32_t n, uint16_t corner, const uint8_t *above, size_t above_bytes, const uint8_t *left,
+                          size_t left_bytes, const uint8_t *source, size_t source_bytes, uint8_t *out, size_t out_bytes);
+
 /* Decodes the next blocks of a still from their residuals, as many as are granted, in the plane's own bytes; other samples stay as they
  * are.
  * done: the progress record, the number of blocks done, 0 at the start. grant: the most blocks that this call may do; 0 does nothing.
