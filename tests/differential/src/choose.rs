@@ -1,6 +1,6 @@
-//! The choice of a luma mode (document 02, Wishes 1 and 8) against the same search put together from the Rust's functions (assembled.rs), on
-//! sources of every kind, and document 02's figures. Every call is made to both
-//! doors, the full search and the early one, and to both entries on bytes.
+//! The choice of a luma mode (document 02, Wishes 1 and 8) against the same search put together from the Rust's functions (assembled.rs),
+//! on sources of every kind, and document 02's figures. Every call is made to both doors, the full search and the early one, and to both
+//! entries on bytes.
 use crate::assembled;
 use crate::entries;
 use crate::host::Arg::{Lent, Number, Read};
@@ -193,8 +193,8 @@ fn ties(t: &mut Tally, bits: u32, n: usize, random: &mut Random) {
     }
 }
 
-/// Sources between the blocks of two modes, where the higher one wins by exactly one, ties with the lower, or loses by one: one step is from
-/// the higher mode's block toward the lower one's, and takes one from the one sum and gives it to the other.
+/// Sources between the blocks of two modes, where the higher one wins by exactly one, ties with the lower, or loses by one: one step is
+/// from the higher mode's block toward the lower one's, and takes one from the one sum and gives it to the other.
 fn close(t: &mut Tally, bits: u32, n: usize, random: &mut Random) {
     let block = |mode, refs: assembled::References| {
         let mut samples = vec![0; n * n];
