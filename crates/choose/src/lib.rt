@@ -379,13 +379,13 @@ fn mode_sum(
 
 // The first of the modes whose sum is the least: a later one takes over where it does better, so that one which may be dropped early has
 // lost once it is not below the best.
-fn least(
+fn least<'a>(
     corner: u16,
     above: &[u16],
     left: &[u16],
     smooth_corner: u16,
-    smooth_above: &[u16],
-    smooth_left: &[u16],
+    smooth_above: &'a [u16],
+    smooth_left: &'a [u16],
     source: &[u16],
     turned: &[u16],
     n: usize,
@@ -483,7 +483,7 @@ fn search(
             left,
             corner,
             above,
-            left,
+            above,
             source,
             turned,
             n,
@@ -496,15 +496,13 @@ fn search(
         );
     }
     let rows = smooth::filter_luma_refs(corner, above, left, n, bits).rows;
-    let up = rows.above;
-    let down = rows.left;
     least(
         corner,
         above,
         left,
         rows.corner,
-        &up,
-        &down,
+        &rows.above,
+        &rows.left,
         source,
         turned,
         n,
