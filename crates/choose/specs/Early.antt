@@ -91,7 +91,8 @@ rowApart n source g y = total (λ (x : ℕ). apart (sourceAt n source x y) (g y 
 abbrev pub sourceFrom : ℕ → List ℕ → ℕ → ℕ → ℕ → ℕ
 sourceFrom n source first x y = sourceAt n source x (first + y)
 
-pub from-row-0 : (n : ℕ) (source : List ℕ) (p : ℕ → ℕ → ℕ) → differences (sourceFrom n source 0) p n n ≡ differences (sourceAt n source) p n n
+pub from-row-0 : (n : ℕ) (source : List ℕ) (p : ℕ → ℕ → ℕ)
+    → differences (sourceFrom n source 0) p n n ≡ differences (sourceAt n source) p n n
 from-row-0 n source p =
     same-sum n n (sourceFrom n source 0) (sourceAt n source) p p (λ x y hx hy. ap (sourceAt n source x) (zero-add y)) (λ x y hx hy. refl)
 
@@ -226,7 +227,8 @@ module _ (bits n mode corner : ℕ) (above left refs : List ℕ) (s : Size n) (l
       )
       (laid-angular corner above left n s refs bits mode true x y lo (omega arith) f hx hy (omega arith))
 
-  pub upward-sum : (source : List ℕ) → total (rowApart n source (laidAt above (laidRefs corner above left n (mode - 18) refs) (mode - 18))) n
+  pub upward-sum : (source : List ℕ)
+      → total (rowApart n source (laidAt above (laidRefs corner above left n (mode - 18) refs) (mode - 18))) n
       ≡ differences (sourceAt n source) (byMode bits true true n mode (fromRows corner above left)) n n
   unfolding differences rowApart
   upward-sum source =

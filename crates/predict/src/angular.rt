@@ -6,13 +6,12 @@ ghost use Prim.Native.Nat.{ℕ, _+_, _-_, _*_, _/_, _%_, _≤_, _<_};
 ghost use mathlib.Core.List.{List};
 ghost use lib.ListN.{length, getD};
 ghost use Rattle.laws.specs.Fill.{fill, run, rows, block};
-ghost use Rattle.laws.specs.Choose.{served};
 ghost use Rattle.h265.specs.Notation.{fromRows};
 ghost use Rattle.h265.specs.Angular.{angular};
 ghost use Rattle.domain.specs.Facts.{Depth, Size};
 ghost use Rattle.samples.specs.taps.Taps.{interpOf, edgeOf};
 ghost use Rattle.predict.specs.refusals.Refusals.{angularNo, refsNo, rowsNo};
-ghost use Rattle.predict.specs.Lent.{len, entryAt, withTables, lentNeighbours, Predicts, Untouched};
+ghost use Rattle.predict.specs.Lent.{len, entryAt, withTables, lentNeighbours, Predicts, Becomes, Untouched};
 ghost use Rattle.predict.specs.angular.Unsigned.{sideOf, refAt, verticalAt, angularAt};
 ghost use Rattle.predict.specs.angles.Starts.{lineStart, fractionOf, firstOf};
 ghost use Rattle.predict.specs.angles.Angles.{turns, bends};
@@ -592,8 +591,7 @@ pub fn vertical_refs(
     refs: &mut [u16],
 ) -> u32
     ensures { λ r. ⌜ (r ≡ refsNo n mode (len above) (len left) (len refs))
-        × (now (refs .exit) ≡ served r (laidRefs corner (now (above .entry)) (now (left .entry)) n (mode - 18) (now (refs .entry)))
-        (now (refs .entry))) ⌝ }
+        × Becomes r (laidRefs corner (now (above .entry)) (now (left .entry)) n (mode - 18) (now (refs .entry))) refs ⌝ }
 {
     let no = refusals::refs_no(n, mode, above.len(), left.len(), refs.len());
     if no == 0 {
@@ -612,8 +610,8 @@ pub fn vertical_rows(
     pred: &mut [u16],
 ) -> u32
     ensures { λ r. ⌜ (r ≡ rowsNo n mode first end (len above) (len refs) (len pred))
-        × (now (pred .exit) ≡ served r (rows (λ (y x : ℕ). laidAt (now (above .entry)) (now (refs .entry)) (mode - 18)
-        (first + y) x) n (end - first) (now (pred .entry))) (now (pred .entry))) ⌝ }
+        × Becomes r (rows (λ (y x : ℕ). laidAt (now (above .entry)) (now (refs .entry)) (mode - 18) (first + y) x) n
+        (end - first) (now (pred .entry))) pred ⌝ }
 {
     let no = refusals::rows_no(n, mode, first, end, above.len(), refs.len(), pred.len());
     if no == 0 {

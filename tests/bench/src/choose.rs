@@ -1,5 +1,5 @@
-//! The choice of a luma mode, in full and early, beside the same search put together from the Rust's functions, which smooths for each mode that asks for it. The
-//! sources are a mode's own prediction with some noise, so that modes differ.
+//! The choice of a luma mode, in full and early, beside the same search put together from the Rust's functions, which smooths for each
+//! mode that asks for it. The sources are a mode's own prediction with some noise, so that modes differ.
 use crate::assembled;
 use crate::entries::{Choice, salvrunde_probe_choose_early, salvrunde_probe_choose_mode};
 use crate::inputs::{Rows, SIDES, rows};

@@ -69,14 +69,16 @@ module _ (above refs : List ℕ) (n d first count : ℕ) (p : List ℕ) (s : 0 <
 -- what is read from references that were laid is the standard's sample
 module _ (corner : ℕ) (above left : List ℕ) (n : ℕ) (s : Size n) where
   laid-vertical : (refs : List ℕ) (d r c : ℕ) → d < 17 → r < n → c < n → 65 + n ≤ length refs
-      → laidAt above (laidRefs corner above left n d refs) d r c ≡ verticalAt (fromRows corner above left) (getD turns d 0) (getD bends d 0) r c
+      → laidAt above (laidRefs corner above left n d refs) d r c
+      ≡ verticalAt (fromRows corner above left) (getD turns d 0) (getD bends d 0) r c
   unfolding laidAt
   laid-vertical refs d r c h hr hc l =
       let z = size-small n s .1 in
       ⊎-elim
       (λ low. rw (lt-ltb d 8 low) (refs-line corner above left (getD turns d 0) (getD bends d 0) n _ refs r c (turn-low d low) z hr hc l
       (sym (laid-low corner above left refs n d low))))
-      (λ high. rw (le-ltb d 8 high) (main-line corner above left (getD turns d 0) (getD bends d 0) r c (turn-high d high h .0) (omega arith)))
+      (λ high. rw (le-ltb d 8 high)
+      (main-line corner above left (getD turns d 0) (getD bends d 0) r c (turn-high d high h .0) (omega arith)))
       (order d 8)
 
   -- the whole block
@@ -91,7 +93,8 @@ module _ (corner : ℕ) (above left : List ℕ) (n : ℕ) (s : Size n) where
 
   pub laid-angular : (refs : List ℕ) (bits mode : ℕ) (edge : Bool) (x y : ℕ) → 18 ≤ mode → mode < 35 → (mode ≡ 26 → ⊥) → x < n → y < n
       → 65 + n ≤ length refs
-      → laidAt above (laidRefs corner above left n (mode - 18) refs) (mode - 18) y x ≡ angular bits edge n mode (fromRows corner above left) x y
+      → laidAt above (laidRefs corner above left n (mode - 18) refs) (mode - 18) y x
+      ≡ angular bits edge n mode (fromRows corner above left) x y
   unfolding angularAt
   laid-angular refs bits mode edge x y lo hi f hx hy l =
       let q : mode - 18 ≡ mode - 18 + (18 - mode) = omega arith in

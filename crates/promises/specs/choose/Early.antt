@@ -21,6 +21,7 @@ pub one-contract : (κs : Lfts 7) (a : Asked) (pred pred′ : LentSlice) (tables
 one-contract κs a pred pred′ tables tables′ r p = p
 
 -- the two answers are one
-pub same-choice : (κs : Lfts 7) (a : Asked) (pred full-pred early-pred : LentSlice) (tables full-tables early-tables : LentTables) (r s : Chosen)
+pub same-choice : (κs : Lfts 7) (a : Asked) (pred full-pred early-pred : LentSlice)
+    (tables full-tables early-tables : LentTables) (r s : Chosen)
     → Answers κs a pred tables r full-pred full-tables → AnswersEarly κs a pred tables s early-pred early-tables → r ≡ s
 same-choice κs a pred full-pred early-pred tables full-tables early-tables r s p q = chosen-once _ _ (p .0) (q .0)

@@ -75,6 +75,7 @@ stepped = record { corner = 5; above = λ i. cond (ltb i 4) 5 9; left = λ i. co
 abbrev flecked : List ℕ
 flecked = 5 ∷ 5 ∷ 5 ∷ 4 ∷ 4 ∷ 4 ∷ 4 ∷ 4 ∷ 5 ∷ 4 ∷ 5 ∷ 4 ∷ 4 ∷ 4 ∷ 4 ∷ 4 ∷ []
 
-pub wins-by-one : FirstLeast (modeSum 8 4 stepped flecked) 35 13 4 × ((modeSum 8 4 stepped flecked 10 ≡ 5) × (modeSum 8 4 stepped flecked 11 ≡ 5))
+pub wins-by-one : FirstLeast (modeSum 8 4 stepped flecked) 35 13 4
+    × ((modeSum 8 4 stepped flecked 10 ≡ 5) × (modeSum 8 4 stepped flecked 11 ≡ 5))
 unfolding differences total predSamples prepared filters filterFlag planar halvings dc dcVal sumTo angular project ref intraPredAngle invAngle
 wins-by-one = (tested _ 13 4 (omega arith) refl tt tt, (refl, refl))
