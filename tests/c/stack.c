@@ -124,8 +124,8 @@ int main(void) {
     tell("angular", angular, 2, 34, 6144);
     tell("chroma_block", chroma_block, 0, 34, 6144);
     tell("luma_block", luma_block, 0, 34, 6144);
-    tell("choose", choose, 0, 0, 8704);
-    tell("choose_early", choose_early, 0, 0, 8704);
+    tell("choose", choose, 0, 0, 9216);
+    tell("choose_early", choose_early, 0, 0, 9216);
     tell("replay", replay, 0, 34, 8192);
     tell("substitution", substitution, 0, 3, 768);
     tell("checksum", checksum, 0, 0, 1024); /* of the plane that the replays left: samples of 8 bits */
