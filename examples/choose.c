@@ -5,7 +5,8 @@
  *     gcc -std=c99 -Iinclude examples/choose.c target/archive/libcamera.a -o target/choose && target/choose
  *
  * The picture is 16 by 16 samples with stripes that fall to the right, three samples down for each two across. The block is the last of
- * four, 8 by 8, and its neighbours are those of the picture itself. Ends with 1 where the residuals do not come to the sum that was told. */
+ * four, 8 by 8, and its neighbours are those of the picture itself. Ends with 1 where the residuals do not come to the sum
+ * that was told. */
 #include <stdint.h>
 #include <stdio.h>
 

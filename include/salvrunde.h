@@ -116,9 +116,13 @@ uint32_t salvrunde_luma_block(uint32_t bits, uint32_t n, uint32_t mode, uint16_t
 /* The luma mode whose block, that of salvrunde_luma_block, has the least sum of absolute differences to a source block; of several, the
  * lowest.
  * above and left have at least SALVRUNDE_LUMA_ROW_BYTES each, and may hold any samples. source: its first SALVRUNDE_BLOCK_BYTES(n) bytes
- * are the block, row by row; of these every sample is checked, and what follows is not read. out: at least SALVRUNDE_CHOICE_BYTES, which are
- * written: the mode, then its sum. Numbers 1, 2, 5, 7. */
+ * are the block, row by row; of these every sample is checked, and what follows is not read. out: at least SALVRUNDE_CHOICE_BYTES, which
+ * are written: the mode, then its sum. Numbers 1, 2, 5, 7. */
 uint32_t salvrunde_choose(uint32_t bits, uint32_t n, uint16_t corner, const uint8_t *above, size_t above_bytes, const uint8_t *left,
+                          size_t left_bytes, const uint8_t *source, size_t source_bytes, uint8_t *out, size_t out_bytes);
+
+/* The same by a search that drops a mode as soon as it cannot win: number, mode and sum are those of salvrunde_choose. */
+uint32_t salvrunde_choose_early(uint32_t bits, uint32_t n, uint16_t corner, const uint8_t *above, size_t above_bytes, const uint8_t *left,
                           size_t left_bytes, const uint8_t *source, size_t source_bytes, uint8_t *out, size_t out_bytes);
 
 /* Decodes the next blocks of a still from their residuals, as many as are granted, in the plane's own bytes; other samples stay as they

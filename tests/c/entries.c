@@ -205,7 +205,7 @@ static void predictions(void) {
     give_back(&a), give_back(&l), give_back(&o);
 }
 
-/* Numbers 1, 2, 5, 7 of a choice; the source is near one value, noise, or past the depth in one sample. */
+/* Numbers 1, 2, 5, 7 of a choice, by either search; the source is near one value, noise, or past the depth in one sample. */
 static void choose(void) {
     uint32_t n = some_side(), bits = some_bits(), no, wanted;
     size_t area = side_ok(n) ? (size_t)n * n : 256;
@@ -225,7 +225,8 @@ static void choose(void) {
     for (size_t i = 0; i < s.length / 2; i++) source[i] = sample(&s, i);
     struct choice door = salvrunde_probe_choose_mode(corner, above, a.length / 2, left, l.length / 2, source, s.length / 2, n, bits, pred, 1024,
         refs, REFS, indices, TABLE, fractions, TABLE);
-    no = salvrunde_choose(bits, n, corner, a.bytes, a.length, l.bytes, l.length, s.bytes, s.length, o.bytes, o.length);
+    no = (chance(2) ? salvrunde_choose : salvrunde_choose_early)(bits, n, corner, a.bytes, a.length, l.bytes, l.length, s.bytes, s.length, o.bytes,
+        o.length);
     calls++;
     wanted = door.no == 1 || door.no == 2 || o.length >= 8 ? door.no : 5;
     if (no != wanted) fail("choose", "number", no, wanted);

@@ -48,6 +48,9 @@ static uint32_t chroma_block(void) { return salvrunde_chroma_block(8, side, mode
 static uint32_t luma_block(void) { return salvrunde_luma_block(8, side, mode, 7, above, 130, left, 130, block, sizeof block); }
 /* it tries every mode, whatever `mode` is */
 static uint32_t choose(void) { return salvrunde_choose(8, side, 7, above, 130, left, 130, source, sizeof source, result, sizeof result); }
+static uint32_t choose_early(void) {
+    return salvrunde_choose_early(8, side, 7, above, 130, left, 130, source, sizeof source, result, sizeof result);
+}
 static uint32_t replay(void) {
     uint32_t count = WIDTH / side * (HEIGHT / side);
     return salvrunde_replay(0, 8, WIDTH, HEIGHT, 64, count, plan, 6 * count, residuals, sizeof residuals, plane, sizeof plane, result,
@@ -121,7 +124,8 @@ int main(void) {
     tell("angular", angular, 2, 34, 6144);
     tell("chroma_block", chroma_block, 0, 34, 6144);
     tell("luma_block", luma_block, 0, 34, 6144);
-    tell("choose", choose, 0, 0, 8704);
+    tell("choose", choose, 0, 0, 9216);
+    tell("choose_early", choose_early, 0, 0, 9216);
     tell("replay", replay, 0, 34, 8192);
     tell("substitution", substitution, 0, 3, 768);
     tell("checksum", checksum, 0, 0, 1024); /* of the plane that the replays left: samples of 8 bits */

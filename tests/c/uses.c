@@ -71,9 +71,20 @@ int main(void) {
         for (i = 0; i < 16; i++) source[2 * i] = (uint8_t)(1 + i / 4 + i % 4);
         HOLDS(salvrunde_choose(8, 4, 0, up, sizeof up, side, sizeof side, source, SALVRUNDE_BLOCK_BYTES(4), choice, 8) == SALVRUNDE_DONE);
         HOLDS(choice[0] == 34 && choice[4] == 0);
+        HOLDS(salvrunde_choose_early(8, 4, 0, up, sizeof up, side, sizeof side, source, SALVRUNDE_BLOCK_BYTES(4), choice, 8) == SALVRUNDE_DONE);
+        HOLDS(choice[0] == 34 && choice[4] == 0);
         fill(up, 65, 65535), fill(side, 65, 65535), fill(source, 1025, 0);
         HOLDS(salvrunde_choose(8, 32, 65535, up, sizeof up, side, sizeof side, source, SALVRUNDE_BLOCK_BYTES(32), choice, 8) == SALVRUNDE_DONE);
         HOLDS(choice[0] == 0 && choice[4] == 0x00 && choice[5] == 0xFC && choice[6] == 0xFF && choice[7] == 0x03);
+        /* mode 13 wins by exactly one */
+        {
+            static const uint8_t flecks[16] = {5, 5, 5, 4, 4, 4, 4, 4, 5, 4, 5, 4, 4, 4, 4, 4};
+            fill(up, 65, 9), fill(up, 4, 5), fill(side, 65, 7), fill(side, 4, 4);
+            for (i = 0; i < 16; i++) source[2 * i] = flecks[i], source[2 * i + 1] = 0;
+            HOLDS(salvrunde_choose_early(8, 4, 5, up, sizeof up, side, sizeof side, source, SALVRUNDE_BLOCK_BYTES(4), choice, 8) == SALVRUNDE_DONE);
+            HOLDS(choice[0] == 13 && choice[4] == 4);
+            fill(up, 65, 65535), fill(side, 65, 65535), fill(source, 1025, 0);
+        }
         /* each refusal; the sample past the block is not read */
         source[2 * 16 + 1] = 1;
         HOLDS(salvrunde_choose(8, 4, 65535, up, sizeof up, side, sizeof side, source, sizeof source, choice, 8) == SALVRUNDE_DONE && choice[0] == 10);

@@ -5,7 +5,8 @@ ghost use Prim.Native.Nat.{ℕ, _≤_};
 ghost use lib.ListN.{length, getD};
 ghost use Rattle.laws.specs.Fill.{fill};
 ghost use Rattle.bytes.specs.Bytes.{samplesOf};
-ghost use Rattle.choose.specs.Choose.{Chooses};
+ghost use Rattle.predict.specs.Lent.{lentNeighbours};
+ghost use Rattle.choose.specs.Choose.{modeSum, chooseNo, Chooses, lends};
 ghost use Rattle.camera.specs.Written.{wrote};
 ghost use Rattle.camera.specs.choice.Entry.{samplesNo, choiceLentNo, choiceNo, choiceSums, ChoosesInto};
 ghost use Rattle.camera.specs.choice.Laws.{Choosable};
@@ -43,8 +44,54 @@ fn read_samples(source: &[u8], count: usize, out: &mut [u16])
     }
 }
 
+// The chooser in full or early: the two have one contract.
+fn search(
+    early: bool,
+    corner: u16,
+    above: &[u16],
+    left: &[u16],
+    source: &[u16],
+    n: usize,
+    bits: u32,
+    pred: &mut [u16],
+    refs: &mut [u16],
+    indices: &mut [u32],
+    fractions: &mut [u32],
+) -> Chosen
+    ensures { λ r. ⌜ Chooses (chooseNo bits n (now (source .entry)) (lends above left pred refs indices fractions))
+        (modeSum bits n (lentNeighbours corner above left) (now (source .entry))) r ⌝ }
+{
+    if early {
+        return choose::choose_early(
+            corner,
+            above,
+            left,
+            source,
+            n,
+            bits,
+            &mut *pred,
+            &mut *refs,
+            &mut *indices,
+            &mut *fractions,
+        );
+    }
+    choose::choose_mode(
+        corner,
+        above,
+        left,
+        source,
+        n,
+        bits,
+        &mut *pred,
+        &mut *refs,
+        &mut *indices,
+        &mut *fractions,
+    )
+}
+
 // The choice from rows and a block of bytes, with scratch of its own.
 fn choose_block(
+    early: bool,
     bits: u32,
     n: usize,
     corner: u16,
@@ -66,7 +113,8 @@ fn choose_block(
     let mut refs = [0u16; 193];
     let mut indices = [0u32; 32];
     let mut fractions = [0u32; 32];
-    choose::choose_mode(
+    search(
+        early,
         corner,
         &up,
         &side,
@@ -80,8 +128,9 @@ fn choose_block(
     )
 }
 
-// The mode and its sum into the first 8 bytes of `out`. Numbers 1, 2, 5, 7.
+// The mode and its sum into the first 8 bytes of `out`, by either search. Numbers 1, 2, 5, 7.
 pub(crate) fn choose(
+    early: bool,
     bits: u32,
     n: u32,
     corner: u16,
@@ -106,7 +155,7 @@ pub(crate) fn choose(
     if no != 0 {
         return no;
     }
-    let best = choose_block(bits, n as usize, corner, above, left, source);
+    let best = choose_block(early, bits, n as usize, corner, above, left, source);
     if best.no != 0 {
         return best.no;
     }

@@ -1,6 +1,6 @@
-// What the camera's C firmware calls: gathering, prediction, choice, replay and checksum on numbers and byte slices, samples of two bytes, the
-// lower first. Each entry gives back its number, and writes nothing where it refuses. Rests on the doors' contracts and on how rows are
-// stored.
+// What the camera's C firmware calls: gathering, prediction, choice, replay and checksum on numbers and byte slices, samples of two bytes,
+// the lower first. Each entry gives back its number, and writes nothing where it refuses. Rests on the doors' contracts and on how rows
+// are stored.
 mod choice;
 mod gather;
 mod luma;
@@ -191,7 +191,26 @@ pub extern "C" fn salvrunde_choose(
         (choiceSums bits n corner (now (above .entry)) (now (left .entry)) (now (source .entry))) (now (out .entry))
         (wrote r (now (out .exit))) ⌝ }
 {
-    choice::choose(bits, n, corner, above, left, source, out)
+    choice::choose(false, bits, n, corner, above, left, source, out)
+}
+
+// The same by a search that drops a mode as soon as it cannot win: the mode and the sum are those of the full search.
+#[no_mangle]
+pub extern "C" fn salvrunde_choose_early(
+    bits: u32,
+    n: u32,
+    corner: u16,
+    above: &[u8],
+    left: &[u8],
+    source: &[u8],
+    out: &mut [u8],
+) -> u32
+    ensures { λ r. ⌜ ChoosesInto
+        (choiceNo bits n (now (above .entry)) (now (left .entry)) (now (source .entry)) (now (out .entry)))
+        (choiceSums bits n corner (now (above .entry)) (now (left .entry)) (now (source .entry))) (now (out .entry))
+        (wrote r (now (out .exit))) ⌝ }
+{
+    choice::choose(true, bits, n, corner, above, left, source, out)
 }
 
 // Decodes the next blocks of a still, as many as are granted, in the plane's own bytes: exactly 2 · width · height of the plane, 4

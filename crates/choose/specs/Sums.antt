@@ -1,16 +1,15 @@
 -- The sum of a mode, from the block that is predicted for it: the same samples, the block mirrored, the rows smoothed. Rests on the modes'
 -- laws and the standard's rule.
-use mathlib.Core.Path.{_≡_, refl, sym, ap, ap₂, _∙_}
+use mathlib.Core.Path.{_≡_, refl, sym, ap₂, _∙_}
 use mathlib.Core.Bool.{Bool, true, false, not, _&&_, _||_, false≢true}
 use mathlib.Core.List.{List}
-use Prim.Native.Nat.{ℕ, zero, suc, _+_, _*_, _-_, _≤_, _<_}
-use native.Mathlib.Nat.{zero-add, zero-mul, suc-mul}
+use Prim.Native.Nat.{ℕ, _+_, _*_, _-_, _≤_, _<_}
 use native.Mathlib.Omega.{arith}
 use lib.Dec.{ltb, eqb}
 use lib.ListN.{length, getD}
 use Rattle.laws.specs.Fill.{block}
 use Rattle.laws.specs.FillLaws.{length-rows, rows-at}
-use Rattle.laws.specs.Sum.{total, total-join, total-same, total-turned}
+use Rattle.laws.specs.Sum.{total, total-same, total-turned}
 use Rattle.domain.specs.Facts.{Size, size-small}
 use Rattle.h265.specs.Notation.{Neighbours, fromRows}
 use Rattle.h265.specs.Setting.{lumaAt, firstEditionStrong}
@@ -28,20 +27,6 @@ pub same-sum : (n k : ℕ) (s t p q : ℕ → ℕ → ℕ) → ((x y : ℕ) → 
 unfolding differences
 same-sum n k s t p q e f =
     total-same _ _ k (λ y hy. total-same _ _ n (λ x hx. ap₂ apart (e x y hx hy) (f x y hx hy)))
-
--- k rows of n samples that follow each other in both lists are one run
-run-of-rows : (n k : ℕ) (s p : List ℕ) → total (λ i. apart (getD s (0 + i) 0) (getD p i 0)) (k * n)
-    ≡ differences (sourceAt n s) (sourceAt n p) n k
-unfolding differences total
-run-of-rows n zero s p = ap (total _) (zero-mul n)
-run-of-rows n (suc k) s p =
-    ap (total _) (suc-mul k n)
-    ∙ sym (total-join (λ i. apart (getD s (0 + i) 0) (getD p i 0)) (k * n) n (sym (run-of-rows n k s p))
-    (total-same _ _ n (λ x h. ap (λ (j : ℕ). apart (getD s j 0) (getD p (k * n + x) 0)) (sym (zero-add (k * n + x))))))
-
-pub block-run : (n : ℕ) (s p : List ℕ) {count sum : ℕ} → count ≡ n * n
-    → sum ≡ total (λ (i : ℕ). apart (getD s (0 + i) 0) (getD p i 0)) count → sum ≡ differences (sourceAt n s) (sourceAt n p) n n
-block-run n s p e q = q ∙ ap (total _) e ∙ run-of-rows n n s p
 
 -- the sum of a mirrored block
 turned-sum : (n : ℕ) (s p : ℕ → ℕ → ℕ) → differences (λ x y. s y x) (λ x y. p y x) n n ≡ differences s p n n

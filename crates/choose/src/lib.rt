@@ -16,6 +16,7 @@ ghost use Rattle.predict.specs.modes.Modes.{byMode};
 ghost use Rattle.predict.specs.refusals.Refusals.{lengths};
 ghost use Rattle.choose.specs.Choose.{apart, differences, sourceAt, modeSum, lendsEnough, chooseNo, Chooses, lends, ScratchKept};
 ghost use Rattle.choose.specs.Ready.{heldBy, Ready};
+ghost use Rattle.choose.specs.Early.{sourceFrom, UpTo, Upward};
 ghost use Rattle.choose.specs.Sums.{turnedAt, TurnedSource, SmoothRows};
 use fmt::depth;
 use predict::angular;
@@ -64,6 +65,18 @@ fn block_sum(source: &[u16], pred: &[u16], n: usize) -> u32
         8 => run_sum(source, 0, pred, 64),
         16 => run_sum(source, 0, pred, 256),
         _ => run_sum(source, 0, pred, 1024),
+    }
+}
+
+// The sum of eight rows of a block of side 16 or 32, from row first on.
+fn eight_sum(source: &[u16], first: usize, pred: &[u16], n: usize) -> u32
+    requires { ⌜ Size n × ((8 < n) × ((first + 8 ≤ n) × ((n * n ≤ length (now source)) × (n * n ≤ length (now pred))))) ⌝ }
+    ensures { λ r. ⌜ (r ≡ differences (sourceFrom n (now (source .entry)) first) (sourceAt n (now (pred .entry))) n 8)
+        × (r ≤ 16776960) ⌝ }
+{
+    match n {
+        16 => run_sum(source, first * 16, pred, 128),
+        _ => run_sum(source, first * 32, pred, 256),
     }
 }
 
@@ -165,39 +178,70 @@ fn tried(
     block_sum(source, &*pred, n)
 }
 
-// The same, a horizontal mode mirrored.
-fn mirrored(
+// The same of a vertical mode that is not 26 and a side above 8, eight rows at a time and the last ones first: there, far from what they
+// are predicted from, samples are the furthest off. It ends once the sum is no longer below a limit.
+fn upward(
     mode: u8,
     corner: u16,
     above: &[u16],
     left: &[u16],
     source: &[u16],
-    turned: &[u16],
+    n: usize,
+    limit: u32,
+    pred: &mut [u16],
+    refs: &mut [u16],
+) -> u32
+    requires { ⌜ Upward n mode (length (now above)) (length (now left)) (length (now source)) (length (now pred))
+        (length (now refs)) ⌝ }
+    ensures { λ r. ⌜ ((bits : ℕ) → UpTo true limit (differences (sourceAt n (now (source .entry)))
+        (byMode bits true true n mode (lentNeighbours corner above left)) n n) r) ⌝ }
+{
+    angular::vertical_refs(corner, above, left, n, mode, &mut *refs);
+    let mut sum: u32 = 0;
+    let mut first = n;
+    while (first > 0) & (sum < limit) {
+        first -= 8;
+        angular::vertical_rows(above, &*refs, n, mode, first, first + 8, &mut *pred);
+        sum += eight_sum(source, first, &*pred, n);
+    }
+    sum
+}
+
+// The same of any mode, which may be dropped early: once its sum is no longer below the limit it has lost. Nothing is below 0.
+fn until(
+    mode: u8,
+    corner: u16,
+    above: &[u16],
+    left: &[u16],
+    source: &[u16],
     n: usize,
     bits: u32,
+    early: bool,
+    limit: u32,
     pred: &mut [u16],
     refs: &mut [u16],
     indices: &mut [u32],
     fractions: &mut [u32],
 ) -> u32
-    requires { ⌜ Ready bits n (heldBy above left pred refs indices fractions) × ((mode ≤ 34)
-        × TurnedSource n (now source) (now turned)) ⌝ }
-    ensures { λ r. ⌜ r ≡ differences (sourceAt n (now (source .entry)))
-        (byMode bits true true n mode (lentNeighbours corner above left)) n n ⌝ }
+    requires { ⌜ Ready bits n (heldBy above left pred refs indices fractions)
+        × ((mode ≤ 34) × (n * n ≤ length (now source))) ⌝ }
+    ensures { λ r. ⌜ UpTo early limit (differences (sourceAt n (now (source .entry)))
+        (byMode bits true true n mode (lentNeighbours corner above left)) n n) r ⌝ }
 {
-    if (mode >= 2) & (mode < 18) {
-        return tried(
-            36 - mode,
+    if early & (limit == 0) {
+        return 0;
+    }
+    if early & (mode >= 18) & (mode != 26) & (n > 8) {
+        return upward(
+            mode,
             corner,
-            left,
             above,
-            turned,
+            left,
+            source,
             n,
-            bits,
+            limit,
             &mut *pred,
             &mut *refs,
-            &mut *indices,
-            &mut *fractions,
         );
     }
     tried(
@@ -208,6 +252,62 @@ fn mirrored(
         source,
         n,
         bits,
+        &mut *pred,
+        &mut *refs,
+        &mut *indices,
+        &mut *fractions,
+    )
+}
+
+// The same, a horizontal mode mirrored.
+fn mirrored(
+    mode: u8,
+    corner: u16,
+    above: &[u16],
+    left: &[u16],
+    source: &[u16],
+    turned: &[u16],
+    n: usize,
+    bits: u32,
+    early: bool,
+    limit: u32,
+    pred: &mut [u16],
+    refs: &mut [u16],
+    indices: &mut [u32],
+    fractions: &mut [u32],
+) -> u32
+    requires { ⌜ Ready bits n (heldBy above left pred refs indices fractions) × ((mode ≤ 34)
+        × TurnedSource n (now source) (now turned)) ⌝ }
+    ensures { λ r. ⌜ UpTo early limit (differences (sourceAt n (now (source .entry)))
+        (byMode bits true true n mode (lentNeighbours corner above left)) n n) r ⌝ }
+{
+    if (mode >= 2) & (mode < 18) {
+        return until(
+            36 - mode,
+            corner,
+            left,
+            above,
+            turned,
+            n,
+            bits,
+            early,
+            limit,
+            &mut *pred,
+            &mut *refs,
+            &mut *indices,
+            &mut *fractions,
+        );
+    }
+    until(
+        mode,
+        corner,
+        above,
+        left,
+        source,
+        n,
+        bits,
+        early,
+        limit,
         &mut *pred,
         &mut *refs,
         &mut *indices,
@@ -228,6 +328,8 @@ fn mode_sum(
     turned: &[u16],
     n: usize,
     bits: u32,
+    early: bool,
+    limit: u32,
     pred: &mut [u16],
     refs: &mut [u16],
     indices: &mut [u32],
@@ -236,7 +338,8 @@ fn mode_sum(
     requires { ⌜ Ready bits n (heldBy above left pred refs indices fractions) × ((mode ≤ 34)
         × (TurnedSource n (now source) (now turned) × SmoothRows bits n (fromRows corner (now above) (now left))
         «smooth_corner» (now «smooth_above») (now «smooth_left»))) ⌝ }
-    ensures { λ r. ⌜ r ≡ modeSum bits n (lentNeighbours corner above left) (now (source .entry)) mode ⌝ }
+    ensures { λ r. ⌜ UpTo early limit
+        (modeSum bits n (lentNeighbours corner above left) (now (source .entry)) mode) r ⌝ }
 {
     if filters::smooths(mode, n) {
         return mirrored(
@@ -248,6 +351,8 @@ fn mode_sum(
             turned,
             n,
             bits,
+            early,
+            limit,
             &mut *pred,
             &mut *refs,
             &mut *indices,
@@ -263,6 +368,8 @@ fn mode_sum(
         turned,
         n,
         bits,
+        early,
+        limit,
         &mut *pred,
         &mut *refs,
         &mut *indices,
@@ -270,18 +377,20 @@ fn mode_sum(
     )
 }
 
-// The first of the modes whose sum is the least: a later one takes over where it does better.
-fn least(
+// The first of the modes whose sum is the least: a later one takes over where it does better, so that one which may be dropped early has
+// lost once it is not below the best.
+fn least<'a>(
     corner: u16,
     above: &[u16],
     left: &[u16],
     smooth_corner: u16,
-    smooth_above: &[u16],
-    smooth_left: &[u16],
+    smooth_above: &'a [u16],
+    smooth_left: &'a [u16],
     source: &[u16],
     turned: &[u16],
     n: usize,
     bits: u32,
+    early: bool,
     pred: &mut [u16],
     refs: &mut [u16],
     indices: &mut [u32],
@@ -305,6 +414,8 @@ fn least(
         turned,
         n,
         bits,
+        false,
+        0,
         &mut *pred,
         &mut *refs,
         &mut *indices,
@@ -325,6 +436,8 @@ fn least(
             turned,
             n,
             bits,
+            early,
+            best,
             &mut *pred,
             &mut *refs,
             &mut *indices,
@@ -352,6 +465,7 @@ fn search(
     turned: &[u16],
     n: usize,
     bits: u32,
+    early: bool,
     pred: &mut [u16],
     refs: &mut [u16],
     indices: &mut [u32],
@@ -369,11 +483,12 @@ fn search(
             left,
             corner,
             above,
-            left,
+            above,
             source,
             turned,
             n,
             bits,
+            early,
             &mut *pred,
             &mut *refs,
             &mut *indices,
@@ -381,19 +496,18 @@ fn search(
         );
     }
     let rows = smooth::filter_luma_refs(corner, above, left, n, bits).rows;
-    let up = rows.above;
-    let down = rows.left;
     least(
         corner,
         above,
         left,
         rows.corner,
-        &up,
-        &down,
+        &rows.above,
+        &rows.left,
         source,
         turned,
         n,
         bits,
+        early,
         &mut *pred,
         &mut *refs,
         &mut *indices,
@@ -454,15 +568,15 @@ fn choose_no(
     0
 }
 
-// The luma mode whose prediction from a corner and two rows is nearest to a block of side n, the lowest on a tie. The last four slices
-// are scratch: a block's buffer and the tables of the angular predictor.
-pub fn choose_mode(
+// The number, then the search, in full or early.
+fn answer(
     corner: u16,
     above: &[u16],
     left: &[u16],
     source: &[u16],
     n: usize,
     bits: u32,
+    early: bool,
     pred: &mut [u16],
     refs: &mut [u16],
     indices: &mut [u32],
@@ -500,6 +614,72 @@ pub fn choose_mode(
         &turned,
         n,
         bits,
+        early,
+        &mut *pred,
+        &mut *refs,
+        &mut *indices,
+        &mut *fractions,
+    )
+}
+
+// The luma mode whose prediction from a corner and two rows is nearest to a block of side n, the lowest on a tie. The last four slices
+// are scratch: a block's buffer and the tables of the angular predictor.
+pub fn choose_mode(
+    corner: u16,
+    above: &[u16],
+    left: &[u16],
+    source: &[u16],
+    n: usize,
+    bits: u32,
+    pred: &mut [u16],
+    refs: &mut [u16],
+    indices: &mut [u32],
+    fractions: &mut [u32],
+) -> Chosen
+    ensures { λ r. ⌜ Chooses (chooseNo bits n (now (source .entry)) (lends above left pred refs indices fractions))
+        (modeSum bits n (lentNeighbours corner above left) (now (source .entry))) r
+        × ((r .no ≡ 0 → ⊥) → ScratchKept pred refs indices fractions) ⌝ }
+{
+    answer(
+        corner,
+        above,
+        left,
+        source,
+        n,
+        bits,
+        false,
+        &mut *pred,
+        &mut *refs,
+        &mut *indices,
+        &mut *fractions,
+    )
+}
+
+// The same, where a mode is dropped as soon as what is added up of its sum shows that it cannot win.
+pub fn choose_early(
+    corner: u16,
+    above: &[u16],
+    left: &[u16],
+    source: &[u16],
+    n: usize,
+    bits: u32,
+    pred: &mut [u16],
+    refs: &mut [u16],
+    indices: &mut [u32],
+    fractions: &mut [u32],
+) -> Chosen
+    ensures { λ r. ⌜ Chooses (chooseNo bits n (now (source .entry)) (lends above left pred refs indices fractions))
+        (modeSum bits n (lentNeighbours corner above left) (now (source .entry))) r
+        × ((r .no ≡ 0 → ⊥) → ScratchKept pred refs indices fractions) ⌝ }
+{
+    answer(
+        corner,
+        above,
+        left,
+        source,
+        n,
+        bits,
+        true,
         &mut *pred,
         &mut *refs,
         &mut *indices,

@@ -41,6 +41,10 @@ abbrev pub Predicts : ℕ → ℕ → (ℕ → ℕ → ℕ) → Slice → Type 0
 Predicts r n samples pred =
     now (pred .exit) ≡ served r (block (λ (y x : ℕ). samples x y) n (now (pred .entry))) (now (pred .entry))
 
+-- a lent slice after a call that answers r: these contents where it is served, and as it was where it is refused
+abbrev pub Becomes : ℕ → List ℕ → Slice → Type 0
+Becomes r contents s = now (s .exit) ≡ served r contents (now (s .entry))
+
 -- the tables are as they were
 abbrev pub Untouched : Slice → Slice → Slice → Type 0
 Untouched refs indices fractions =

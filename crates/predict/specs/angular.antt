@@ -10,3 +10,5 @@ pub mod Door
 pub mod Grid
 pub mod Reach
 pub mod Blocks
+-- Parts: a vertical mode's references and rows, one after the other.
+pub mod Parts

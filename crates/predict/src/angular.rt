@@ -5,17 +5,18 @@ ghost use mathlib.Core.Path.{_≡_};
 ghost use Prim.Native.Nat.{ℕ, _+_, _-_, _*_, _/_, _%_, _≤_, _<_};
 ghost use mathlib.Core.List.{List};
 ghost use lib.ListN.{length, getD};
-ghost use Rattle.laws.specs.Fill.{fill, run, block};
+ghost use Rattle.laws.specs.Fill.{fill, run, rows, block};
 ghost use Rattle.h265.specs.Notation.{fromRows};
 ghost use Rattle.h265.specs.Angular.{angular};
 ghost use Rattle.domain.specs.Facts.{Depth, Size};
 ghost use Rattle.samples.specs.taps.Taps.{interpOf, edgeOf};
-ghost use Rattle.predict.specs.refusals.Refusals.{angularNo};
-ghost use Rattle.predict.specs.Lent.{len, entryAt, withTables, lentNeighbours, Predicts, Untouched};
+ghost use Rattle.predict.specs.refusals.Refusals.{angularNo, refsNo, rowsNo};
+ghost use Rattle.predict.specs.Lent.{len, entryAt, withTables, lentNeighbours, Predicts, Becomes, Untouched};
 ghost use Rattle.predict.specs.angular.Unsigned.{sideOf, refAt, verticalAt, angularAt};
 ghost use Rattle.predict.specs.angles.Starts.{lineStart, fractionOf, firstOf};
 ghost use Rattle.predict.specs.angles.Angles.{turns, bends};
-ghost use Rattle.predict.specs.angular.Lines.{lineAt, LineReads};
+ghost use Rattle.predict.specs.angular.Lines.{lineAt, lineFrom, LineReads};
+ghost use Rattle.predict.specs.angular.Parts.{laidRefs, laidAt};
 ghost use Rattle.predict.specs.angular.Grid.{column};
 use crate::angles;
 use crate::boundary;
@@ -79,13 +80,20 @@ fn row(refs: &[u16], s: usize, f: u32, n: usize, at: usize, pred: &mut [u16])
     copy_row(&t, 0, n, at, &mut *pred);
 }
 
-// The rows of a vertical mode.
-fn down_n(refs: &[u16], b: usize, e: usize, n: usize, pred: &mut [u16])
-    requires { ⌜ (e < 64) × LineReads b e n (length (now refs)) (length (now pred)) ⌝ }
-    ensures { λ _. ⌜ now (pred .exit) ≡ block (lineAt (now (refs .entry)) b e) n (now (pred .entry)) ⌝ }
+// Rows of a vertical mode from row first on, as many as count, from entry 0 of a block's buffer on: the whole block is rows 0 to n.
+fn down_n(refs: &[u16], b: usize, e: usize, n: usize, first: usize, count: usize, pred: &mut [u16])
+    requires { ⌜ (e < 64) × (LineReads b e n (length (now refs)) (length (now pred)) × (first + count ≤ n)) ⌝ }
+    ensures { λ _. ⌜ now (pred .exit) ≡ rows (lineFrom (now (refs .entry)) b e first) n count (now (pred .entry)) ⌝ }
 {
-    for r in 0..n {
-        row(refs, start(b, e, r), fraction(e, r), n, r * n, &mut *pred);
+    for r in 0..count {
+        row(
+            refs,
+            start(b, e, first + r),
+            fraction(e, first + r),
+            n,
+            r * n,
+            &mut *pred,
+        );
     }
 }
 
@@ -108,38 +116,58 @@ fn down_4(refs: &[u16], b: usize, e: usize, pred: &mut [u16])
     copy_row(&t, 0, 16, 0, &mut *pred);
 }
 
+fn down_few(refs: &[u16], b: usize, e: usize, first: usize, count: usize, pred: &mut [u16])
+    requires { ⌜ (e < 64) × (LineReads b e 4 (length (now refs)) (length (now pred)) × (first + count ≤ 4)) ⌝ }
+    ensures { λ _. ⌜ now (pred .exit) ≡ rows (lineFrom (now (refs .entry)) b e first) 4 count (now (pred .entry)) ⌝ }
+{
+    if count == 4 {
+        down_4(refs, b, e, &mut *pred);
+    } else {
+        down_n(refs, b, e, 4, first, count, &mut *pred);
+    }
+}
+
 // A loop for each size, so that the compiler knows how long a row is.
-fn down(refs: &[u16], b: usize, e: usize, n: usize, pred: &mut [u16])
-    requires { ⌜ Size n × ((e < 64) × LineReads b e n (length (now refs)) (length (now pred))) ⌝ }
-    ensures { λ _. ⌜ now (pred .exit) ≡ block (lineAt (now (refs .entry)) b e) n (now (pred .entry)) ⌝ }
+fn down(refs: &[u16], b: usize, e: usize, n: usize, first: usize, count: usize, pred: &mut [u16])
+    requires { ⌜ Size n × ((e < 64) × (LineReads b e n (length (now refs)) (length (now pred)) × (first + count ≤ n))) ⌝ }
+    ensures { λ _. ⌜ now (pred .exit) ≡ rows (lineFrom (now (refs .entry)) b e first) n count (now (pred .entry)) ⌝ }
 {
     match n {
-        4 => down_4(refs, b, e, &mut *pred),
-        8 => down_n(refs, b, e, 8, &mut *pred),
-        16 => down_n(refs, b, e, 16, &mut *pred),
-        _ => down_n(refs, b, e, 32, &mut *pred),
+        4 => down_few(refs, b, e, first, count, &mut *pred),
+        8 => down_n(refs, b, e, 8, first, count, &mut *pred),
+        16 => down_n(refs, b, e, 16, first, count, &mut *pred),
+        _ => down_n(refs, b, e, 32, first, count, &mut *pred),
     }
 }
 
 // Angles of whole references: each row is copied.
-fn copies_n(refs: &[u16], b: usize, e: usize, n: usize, pred: &mut [u16])
-    requires { ⌜ (e % 32 ≡ 0) × LineReads b e n (length (now refs)) (length (now pred)) ⌝ }
-    ensures { λ _. ⌜ now (pred .exit) ≡ block (lineAt (now (refs .entry)) b e) n (now (pred .entry)) ⌝ }
+fn copies_n(
+    refs: &[u16],
+    b: usize,
+    e: usize,
+    n: usize,
+    first: usize,
+    count: usize,
+    pred: &mut [u16],
+)
+    requires { ⌜ (e % 32 ≡ 0) × (LineReads b e n (length (now refs)) (length (now pred)) × (first + count ≤ n)) ⌝ }
+    ensures { λ _. ⌜ now (pred .exit) ≡ rows (lineFrom (now (refs .entry)) b e first) n count (now (pred .entry)) ⌝ }
 {
-    for r in 0..n {
-        through(refs, start(b, e, r), n, r * n, &mut *pred);
+    for r in 0..count {
+        through(refs, start(b, e, first + r), n, r * n, &mut *pred);
     }
 }
 
-fn copies(refs: &[u16], b: usize, e: usize, n: usize, pred: &mut [u16])
-    requires { ⌜ Size n × ((e % 32 ≡ 0) × LineReads b e n (length (now refs)) (length (now pred))) ⌝ }
-    ensures { λ _. ⌜ now (pred .exit) ≡ block (lineAt (now (refs .entry)) b e) n (now (pred .entry)) ⌝ }
+fn copies(refs: &[u16], b: usize, e: usize, n: usize, first: usize, count: usize, pred: &mut [u16])
+    requires { ⌜ Size n × ((e % 32 ≡ 0) × (LineReads b e n (length (now refs)) (length (now pred))
+        × (first + count ≤ n))) ⌝ }
+    ensures { λ _. ⌜ now (pred .exit) ≡ rows (lineFrom (now (refs .entry)) b e first) n count (now (pred .entry)) ⌝ }
 {
     match n {
-        4 => copies_n(refs, b, e, 4, &mut *pred),
-        8 => copies_n(refs, b, e, 8, &mut *pred),
-        16 => copies_n(refs, b, e, 16, &mut *pred),
-        _ => copies_n(refs, b, e, 32, &mut *pred),
+        4 => copies_n(refs, b, e, 4, first, count, &mut *pred),
+        8 => copies_n(refs, b, e, 8, first, count, &mut *pred),
+        16 => copies_n(refs, b, e, 16, first, count, &mut *pred),
+        _ => copies_n(refs, b, e, 32, first, count, &mut *pred),
     }
 }
 
@@ -323,6 +351,57 @@ fn build(corner: u16, main: &[u16], side: &[u16], e: usize, inv: usize, n: usize
 }
 
 // Angles are below 0 where d is below 8; a test of e itself would turn the table into branches.
+// What rows of a vertical mode are read from: references that are laid where the angle is below 0, the main row itself where it is not.
+fn references(corner: u16, main: &[u16], side: &[u16], n: usize, d: usize, refs: &mut [u16])
+    requires { ⌜ Size n × ((d < 17) × ((2 * n ≤ length (now main)) × ((2 * n ≤ length (now side))
+        × (65 + n ≤ length (now refs))))) ⌝ }
+    ensures { λ _. ⌜ now (refs .exit)
+        ≡ laidRefs corner (now (main .entry)) (now (side .entry)) n d (now (refs .entry)) ⌝ }
+{
+    if d < 8 {
+        build(
+            corner,
+            main,
+            side,
+            angles::turn(d),
+            angles::bend(d),
+            n,
+            &mut *refs,
+        );
+    }
+}
+
+fn lines(
+    main: &[u16],
+    refs: &[u16],
+    n: usize,
+    d: usize,
+    first: usize,
+    count: usize,
+    pred: &mut [u16],
+)
+    requires { ⌜ Size n × ((d < 17) × ((2 * n ≤ length (now main)) × ((65 + n ≤ length (now refs))
+        × ((n * n ≤ length (now pred)) × (first + count ≤ n))))) ⌝ }
+    ensures { λ _. ⌜ now (pred .exit)
+        ≡ rows (λ (y x : ℕ). laidAt (now (main .entry)) (now (refs .entry)) d (first + y) x) n count
+        (now (pred .entry)) ⌝ }
+{
+    let e = angles::turn(d);
+    if d < 8 {
+        if e == 0 {
+            copies(refs, 65, e, n, first, count, &mut *pred);
+        } else {
+            down(refs, 65, e, n, first, count, &mut *pred);
+        }
+    } else {
+        if e == 64 {
+            copies(main, 0, e, n, first, count, &mut *pred);
+        } else {
+            down(main, 0, e, n, first, count, &mut *pred);
+        }
+    }
+}
+
 // A vertical mode that is not 26: main is the row above, side the one to the left.
 fn vertical(
     corner: u16,
@@ -339,21 +418,8 @@ fn vertical(
         ≡ block (verticalAt (lentNeighbours corner main side) (getD turns d 0) (getD bends d 0)) n (now (pred .entry))
         ⌝ }
 {
-    let e = angles::turn(d);
-    if d < 8 {
-        build(corner, main, side, e, angles::bend(d), n, &mut *refs);
-        if e == 0 {
-            copies(&*refs, 65, e, n, &mut *pred);
-        } else {
-            down(&*refs, 65, e, n, &mut *pred);
-        }
-    } else {
-        if e == 64 {
-            copies(main, 0, e, n, &mut *pred);
-        } else {
-            down(main, 0, e, n, &mut *pred);
-        }
-    }
+    references(corner, main, side, n, d, &mut *refs);
+    lines(main, &*refs, n, d, 0, n, &mut *pred);
 }
 
 // A horizontal mode that is not 10: main is the row to the left, side the one above, and rows are columns.
@@ -378,7 +444,7 @@ fn horizontal(
         across(&*refs, 65, e, n, &mut *pred);
     } else {
         if e == 64 {
-            copies(main, 0, e, n, &mut *pred);
+            copies(main, 0, e, n, 0, n, &mut *pred);
         } else {
             across(main, 0, e, n, &mut *pred);
         }
@@ -400,7 +466,7 @@ fn pure_vertical(
     ensures { λ _. ⌜ now (pred .exit)
         ≡ block (λ (y x : ℕ). angularAt bits edge n 26 (lentNeighbours corner above left) x y) n (now (pred .entry)) ⌝ }
 {
-    copies(above, 0, 32, n, &mut *pred);
+    copies(above, 0, 32, n, 0, n, &mut *pred);
     if boundary::filtered(edge, n) {
         edge_down(
             above[0],
@@ -510,6 +576,53 @@ pub fn predict_angular_slices(
             bits,
             &mut *pred,
             &mut *refs,
+        );
+    }
+    no
+}
+
+// A vertical mode row by row, for who may not need them all: its references first, then rows of it, edges as they are.
+pub fn vertical_refs(
+    corner: u16,
+    above: &[u16],
+    left: &[u16],
+    n: usize,
+    mode: u8,
+    refs: &mut [u16],
+) -> u32
+    ensures { λ r. ⌜ (r ≡ refsNo n mode (len above) (len left) (len refs))
+        × Becomes r (laidRefs corner (now (above .entry)) (now (left .entry)) n (mode - 18) (now (refs .entry))) refs ⌝ }
+{
+    let no = refusals::refs_no(n, mode, above.len(), left.len(), refs.len());
+    if no == 0 {
+        references(corner, above, left, n, (mode as usize) - 18, &mut *refs);
+    }
+    no
+}
+
+pub fn vertical_rows(
+    above: &[u16],
+    refs: &[u16],
+    n: usize,
+    mode: u8,
+    first: usize,
+    end: usize,
+    pred: &mut [u16],
+) -> u32
+    ensures { λ r. ⌜ (r ≡ rowsNo n mode first end (len above) (len refs) (len pred))
+        × Becomes r (rows (λ (y x : ℕ). laidAt (now (above .entry)) (now (refs .entry)) (mode - 18) (first + y) x) n
+        (end - first) (now (pred .entry))) pred ⌝ }
+{
+    let no = refusals::rows_no(n, mode, first, end, above.len(), refs.len(), pred.len());
+    if no == 0 {
+        lines(
+            above,
+            refs,
+            n,
+            (mode as usize) - 18,
+            first,
+            end - first,
+            &mut *pred,
         );
     }
     no

@@ -3,7 +3,7 @@
 ghost use mathlib.Core.Path.{_≡_};
 ghost use Rattle.domain.specs.Domain.{predictorRow};
 ghost use Rattle.domain.specs.Facts.{Size};
-ghost use Rattle.predict.specs.refusals.Refusals.{lengths, isEnough, flatNo, angularNo, predictNo};
+ghost use Rattle.predict.specs.refusals.Refusals.{lengths, isEnough, flatNo, angularNo, predictNo, refsNo, rowsNo};
 
 // The least entries of a reference row.
 fn predictor_row(n: usize) -> usize
@@ -105,4 +105,48 @@ pub(crate) fn predict_no(
         return 5;
     }
     0
+}
+
+// A vertical mode's references, and rows of it.
+pub(crate) fn refs_no(n: usize, mode: u8, above: usize, left: usize, refs: usize) -> u32
+    ensures { λ r. ⌜ r ≡ refsNo n mode above left refs ⌝ }
+{
+    if !domain::size_ok(n) {
+        return 2;
+    }
+    if !((mode >= 18) & domain::mode_ok(mode as u32)) {
+        return 3;
+    }
+    let row = predictor_row(n);
+    if (above >= row) & (left >= row) & (refs >= 193) {
+        return 0;
+    }
+    5
+}
+
+pub(crate) fn rows_no(
+    n: usize,
+    mode: u8,
+    first: usize,
+    end: usize,
+    above: usize,
+    refs: usize,
+    pred: usize,
+) -> u32
+    ensures { λ r. ⌜ r ≡ rowsNo n mode first end above refs pred ⌝ }
+{
+    if !domain::size_ok(n) {
+        return 2;
+    }
+    if !((mode >= 18) & domain::mode_ok(mode as u32)) {
+        return 3;
+    }
+    let row = predictor_row(n);
+    if (above >= row) & (refs >= 193) & (pred >= n * n) {
+        if (first <= end) & (end <= n) {
+            return 0;
+        }
+        return 11;
+    }
+    5
 }

@@ -279,3 +279,39 @@ pub extern "C" fn salvrunde_probe_choose_mode(
         sum: a.sum,
     }
 }
+
+#[no_mangle]
+pub extern "C" fn salvrunde_probe_choose_early(
+    corner: u16,
+    above: &[u16],
+    left: &[u16],
+    source: &[u16],
+    n: usize,
+    bits: u32,
+    pred: &mut [u16],
+    refs: &mut [u16],
+    indices: &mut [u32],
+    fractions: &mut [u32],
+) -> Choice
+    ensures { λ r. ⌜ Chooses (chooseNo bits n (now (source .entry)) (lends above left pred refs indices fractions))
+        (modeSum bits n (lentNeighbours corner above left) (now (source .entry))) (chosenOf r)
+        × ((r .no ≡ 0 → ⊥) → ScratchKept pred refs indices fractions) ⌝ }
+{
+    let a = choose::choose_early(
+        corner,
+        above,
+        left,
+        source,
+        n,
+        bits,
+        &mut *pred,
+        &mut *refs,
+        &mut *indices,
+        &mut *fractions,
+    );
+    Choice {
+        no: a.no,
+        mode: a.mode as u32,
+        sum: a.sum,
+    }
+}

@@ -40,6 +40,7 @@ use Rattle.promises.specs.tables.Exact.{Row, Exact, ExactFirst}
 use Rattle.promises.specs.tables.Table.{depth-from, decode-order, is-available, luma-reach, chroma-reach, substitute-refs}
 use Rattle.promises.specs.tables.Table.{gather-number, luma-gather, chroma-gather, should-filter-refs, filter-references}
 use Rattle.promises.specs.tables.Table.{filter-luma-refs, predict-flat, predict-angular, predict-chroma, predict-luma}
+use Rattle.promises.specs.tables.Table.{vertical-refs, vertical-rows}
 use Rattle.promises.specs.tables.Table.{predict-angular-scratch, predict-chroma-scratch, predict-luma-scratch, compute-residual}
 use Rattle.promises.specs.tables.Table.{reconstruct}
 use Rattle.promises.specs.run_tables.TableWalk.{about, verdictIn, check-plan, check-plan-numbers, check-plan-bytes, opening, settled}
@@ -54,6 +55,7 @@ use Rattle.camera.proofs.salvrunde_checksum.Reads as camera-salvrunde-checksum
 use Rattle.camera.proofs.salvrunde_chroma_block.Reads as camera-salvrunde-chroma-block
 use Rattle.camera.proofs.salvrunde_luma_block.Reads as camera-salvrunde-luma-block
 use Rattle.camera.proofs.salvrunde_choose.Reads as camera-salvrunde-choose
+use Rattle.camera.proofs.salvrunde_choose_early.Reads as camera-salvrunde-choose-early
 use Rattle.camera.proofs.salvrunde_chroma_refs_ctu.Reads as camera-salvrunde-chroma-refs-ctu
 use Rattle.camera.proofs.salvrunde_dc.Reads as camera-salvrunde-dc
 use Rattle.camera.proofs.salvrunde_luma_refs.Reads as camera-salvrunde-luma-refs
@@ -61,6 +63,7 @@ use Rattle.camera.proofs.salvrunde_planar.Reads as camera-salvrunde-planar
 use Rattle.camera.proofs.salvrunde_replay.Reads as camera-salvrunde-replay
 use Rattle.checksum.proofs.on_bytes.picture_checksum_bytes.Reads as on-bytes-picture-checksum-bytes
 use Rattle.checksum.proofs.picture_checksum.Reads as checksum-picture-checksum
+use Rattle.choose.proofs.choose_early.Reads as choose-choose-early
 use Rattle.choose.proofs.choose_mode.Reads as choose-choose-mode
 use Rattle.fmt.proofs.depth.BitDepth.from_bits.Reads as depth-from-bits
 use Rattle.order.proofs.chroma_reach.Reads as order-chroma-reach
@@ -71,6 +74,8 @@ use Rattle.plan.proofs.check_plan as plan-check-plan
 use Rattle.plan.proofs.check_plan_bytes.Reads as plan-check-plan-bytes
 use Rattle.plan.proofs.check_plan_numbers.Reads as plan-check-plan-numbers
 use Rattle.predict.proofs.angular.predict_angular_slices.Reads as angular-predict-angular-slices
+use Rattle.predict.proofs.angular.vertical_refs.Reads as angular-vertical-refs
+use Rattle.predict.proofs.angular.vertical_rows.Reads as angular-vertical-rows
 use Rattle.predict.proofs.planar_dc.predict_dc_into.Reads as planar-dc-predict-dc-into
 use Rattle.predict.proofs.planar_dc.predict_planar_into.Reads as planar-dc-predict-planar-into
 use Rattle.predict.proofs.predict_chroma_tb_slices.Reads as predict-predict-chroma-tb-slices
@@ -89,6 +94,7 @@ use Rattle.probes.proofs.predict_probes.salvrunde_probe_predict_chroma_tb_slice
 use Rattle.probes.proofs.predict_probes.salvrunde_probe_predict_dc_into.Reads as predict-probes-salvrunde-probe-predict-dc-into
 use Rattle.probes.proofs.predict_probes.salvrunde_probe_predict_luma_tb_scratch.Reads as predict-probes-salvrunde-probe-predict-luma-tb-scratch
 use Rattle.probes.proofs.predict_probes.salvrunde_probe_predict_luma_tb_slices.Reads as predict-probes-salvrunde-probe-predict-luma-tb-slices
+use Rattle.probes.proofs.predict_probes.salvrunde_probe_choose_early.Reads as predict-probes-salvrunde-probe-choose-early
 use Rattle.probes.proofs.predict_probes.salvrunde_probe_choose_mode.Reads as predict-probes-salvrunde-probe-choose-mode
 use Rattle.probes.proofs.predict_probes.salvrunde_probe_predict_planar_into.Reads as predict-probes-salvrunde-probe-predict-planar-into
 use Rattle.probes.proofs.predict_probes.salvrunde_probe_reconstruct_into.Reads as predict-probes-salvrunde-probe-reconstruct-into
@@ -237,6 +243,17 @@ angular-predict-angular-slices-row : (κs : Lfts 6)
     (b .1 .1 .1 .0))) (length (now (c .0))) (length (now (c .1 .0))) (length (now (c .1 .1 .0)))))
 angular-predict-angular-slices-row κs = tabled (λ a x s p. p .0)
 
+angular-vertical-refs-row : (κs : Lfts 3)
+    → Tabled (angular-vertical-refs.Post κs) (λ r. r)
+    (λ a. let b = a .1 .1 .1 .1 in vertical-refs (a .1 .1 .1 .0) (b .0) (now (a .1 .0)) (now (a .1 .1 .0)) (now (b .1 .0)))
+angular-vertical-refs-row κs = tabled (λ a x s p. p .0)
+
+angular-vertical-rows-row : (κs : Lfts 3)
+    → Tabled (angular-vertical-rows.Post κs) (λ r. r)
+    (λ a. let b = a .1 .1 .1 .1 in
+    vertical-rows (a .1 .1 .0) (a .1 .1 .1 .0) (b .0) (b .1 .0) (now (a .0)) (now (a .1 .0)) (now (b .1 .1 .0)))
+angular-vertical-rows-row κs = tabled (λ a x s p. p .0)
+
 predict-predict-chroma-tb-slices-row : (κs : Lfts 6)
     → Tabled (predict-predict-chroma-tb-slices.Post κs) (λ r. r)
     (λ a. let b = a .1 .1 .1 .1 in let c = b .1 .1 .1 .1 in
@@ -258,6 +275,13 @@ choose-choose-mode-row : (κs : Lfts 7)
     choose-mode (b .1 .0) (b .0) (now (a .1 .1 .1 .0)) (lengths (length (now (a .1 .0))) (length (now (a .1 .1 .0))) (length (now
     (b .1 .1 .0))) (length (now (b .1 .1 .1 .0))) (length (now (c .0))) (length (now (c .1 .0)))))
 choose-choose-mode-row κs = tabled (λ a x s p. p .0 .number)
+
+choose-choose-early-row : (κs : Lfts 7)
+    → Tabled (choose-choose-early.Post κs) (λ r. r .no)
+    (λ a. let b = a .1 .1 .1 .1 in let c = b .1 .1 .1 .1 in
+    choose-mode (b .1 .0) (b .0) (now (a .1 .1 .1 .0)) (lengths (length (now (a .1 .0))) (length (now (a .1 .1 .0))) (length (now
+    (b .1 .1 .0))) (length (now (b .1 .1 .1 .0))) (length (now (c .0))) (length (now (c .1 .0)))))
+choose-choose-early-row κs = tabled (λ a x s p. p .0 .number)
 
 scratch-angular-predict-angular-fresh-row : (κs : Lfts 3)
     → Tabled (scratch-angular-predict-angular-fresh.Post κs) (λ r. r)
@@ -365,6 +389,11 @@ camera-salvrunde-choose-row : (κs : Lfts 4)
     → Tabled (camera-salvrunde-choose.Post κs) (λ r. r)
     (λ a. let b = a .1 .1 .1 in choose (a .0) (a .1 .0) (now (b .0)) (now (b .1 .0)) (now (b .1 .1 .0)) (now (b .1 .1 .1 .0)))
 camera-salvrunde-choose-row κs = tabled (λ a x s p. p .number)
+
+camera-salvrunde-choose-early-row : (κs : Lfts 4)
+    → Tabled (camera-salvrunde-choose-early.Post κs) (λ r. r)
+    (λ a. let b = a .1 .1 .1 in choose (a .0) (a .1 .0) (now (b .0)) (now (b .1 .0)) (now (b .1 .1 .0)) (now (b .1 .1 .1 .0)))
+camera-salvrunde-choose-early-row κs = tabled (λ a x s p. p .number)
 
 camera-salvrunde-checksum-row : (κs : Lfts 2)
     → Tabled (camera-salvrunde-checksum.Post κs) (λ r. r)
@@ -482,6 +511,13 @@ predict-probes-salvrunde-probe-choose-mode-row : (κs : Lfts 7)
     choose-mode (b .1 .0) (b .0) (now (a .1 .1 .1 .0)) (lengths (length (now (a .1 .0))) (length (now (a .1 .1 .0))) (length (now
     (b .1 .1 .0))) (length (now (b .1 .1 .1 .0))) (length (now (c .0))) (length (now (c .1 .0)))))
 predict-probes-salvrunde-probe-choose-mode-row κs = tabled (λ a x s p. p .0 .number)
+
+predict-probes-salvrunde-probe-choose-early-row : (κs : Lfts 7)
+    → Tabled (predict-probes-salvrunde-probe-choose-early.Post κs) (λ r. r .no)
+    (λ a. let b = a .1 .1 .1 .1 in let c = b .1 .1 .1 .1 in
+    choose-mode (b .1 .0) (b .0) (now (a .1 .1 .1 .0)) (lengths (length (now (a .1 .0))) (length (now (a .1 .1 .0))) (length (now
+    (b .1 .1 .0))) (length (now (b .1 .1 .1 .0))) (length (now (c .0))) (length (now (c .1 .0)))))
+predict-probes-salvrunde-probe-choose-early-row κs = tabled (λ a x s p. p .0 .number)
 
 predict-probes-salvrunde-probe-predict-luma-tb-slices-row : (κs : Lfts 6)
     → Tabled (predict-probes-salvrunde-probe-predict-luma-tb-slices.Post κs) (λ r. r)

@@ -1,7 +1,7 @@
-//! The choice of a luma mode beside the same search put together from the Rust's functions, which smooths for each mode that asks for it. The
-//! sources are a mode's own prediction with some noise, so that modes differ.
+//! The choice of a luma mode, in full and early, beside the same search put together from the Rust's functions, which smooths for each
+//! mode that asks for it. The sources are a mode's own prediction with some noise, so that modes differ.
 use crate::assembled;
-use crate::entries::{Choice, salvrunde_probe_choose_mode};
+use crate::entries::{Choice, salvrunde_probe_choose_early, salvrunde_probe_choose_mode};
 use crate::inputs::{Rows, SIDES, rows};
 use crate::oracle::intra::AngularScratch;
 use crate::race::race;
@@ -25,10 +25,17 @@ struct Scratch {
 /// The Rust's search.
 type Rust = fn(u32, assembled::References, &[u16], usize, &mut [u16], &mut AngularScratch) -> (u8, u32);
 
-fn proved(s: &Search, n: usize, scratch: &mut Scratch) -> Choice {
+/// The full search, or the one that drops modes early.
+#[rustfmt::skip]
+type Proved = unsafe extern "C" fn(
+    u16, *const u16, usize, *const u16, usize, *const u16, usize, usize, u32,
+    *mut u16, usize, *mut u16, usize, *mut u32, usize, *mut u32, usize,
+) -> Choice;
+
+fn proved(entry: Proved, s: &Search, n: usize, scratch: &mut Scratch) -> Choice {
     // the lengths are those of the seven slices
     unsafe {
-        salvrunde_probe_choose_mode(
+        entry(
             s.rows.corner,
             s.rows.above.as_ptr(),
             s.rows.above.len(),
@@ -73,19 +80,23 @@ pub fn time(table: &mut Table) {
         let mut rust = |s: &Search| {
             call(s.rows.bits, (s.rows.corner, &s.rows.above, &s.rows.left), &s.source, n, &mut pred, &mut rust_scratch)
         };
-        for s in &searches {
-            let (mode, sum) = rust(s);
-            assert_eq!(proved(s, n, &mut scratch), Choice { no: 0, mode: mode as u32, sum });
+        let doors: [(&str, Proved); 2] =
+            [("choice of a mode", salvrunde_probe_choose_mode), ("early choice of a mode", salvrunde_probe_choose_early)];
+        for (name, entry) in doors {
+            for s in &searches {
+                let (mode, sum) = rust(s);
+                assert_eq!(proved(entry, s, n, &mut scratch), Choice { no: 0, mode: mode as u32, sum });
+            }
+            let times = race(
+                &searches,
+                |s| {
+                    black_box(rust(s));
+                },
+                |s| {
+                    black_box(proved(entry, s, n, &mut scratch));
+                },
+            );
+            table.line(name, n, times, 0.6);
         }
-        let times = race(
-            &searches,
-            |s| {
-                black_box(rust(s));
-            },
-            |s| {
-                black_box(proved(s, n, &mut scratch));
-            },
-        );
-        table.line("choice of a mode", n, times, 0.6);
     }
 }

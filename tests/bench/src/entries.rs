@@ -232,6 +232,25 @@ unsafe extern "C" {
         fractions: *mut u32,
         fractions_len: usize,
     ) -> Choice;
+    pub fn salvrunde_probe_choose_early(
+        corner: u16,
+        above: *const u16,
+        above_len: usize,
+        left: *const u16,
+        left_len: usize,
+        source: *const u16,
+        source_len: usize,
+        n: usize,
+        bits: u32,
+        pred: *mut u16,
+        pred_len: usize,
+        refs: *mut u16,
+        refs_len: usize,
+        indices: *mut u32,
+        indices_len: usize,
+        fractions: *mut u32,
+        fractions_len: usize,
+    ) -> Choice;
     pub fn salvrunde_probe_reconstruct_into(
         pred: *const u16,
         pred_len: usize,

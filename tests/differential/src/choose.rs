@@ -1,5 +1,6 @@
-//! The choice of a luma mode (document 02, Wish 1) against the same search put together from the Rust's functions (assembled.rs), on
-//! sources of every kind, and document 02's figures. Every call is made to the door and to the entry on bytes.
+//! The choice of a luma mode (document 02, Wishes 1 and 8) against the same search put together from the Rust's functions (assembled.rs),
+//! on sources of every kind, and document 02's figures. Every call is made to both doors, the full search and the early one, and to both
+//! entries on bytes.
 use crate::assembled;
 use crate::entries;
 use crate::host::Arg::{Lent, Number, Read};
@@ -83,7 +84,9 @@ impl Search {
         if no != 0 {
             want = scratch.into_iter().fold(want, |want, (buffer, _)| want.then(buffer.clone()));
         }
-        t.call("salvrunde_probe_choose_mode", &args, want);
+        for door in ["salvrunde_probe_choose_mode", "salvrunde_probe_choose_early"] {
+            t.call(door, &args, want.clone());
+        }
         entries::choose(t, self, self.answer(true));
         (mode, sum)
     }
@@ -135,6 +138,7 @@ pub fn choose(t: &mut Tally) {
             }
             exact(t, bits, n, &mut random);
             ties(t, bits, n, &mut random);
+            close(t, bits, n, &mut random);
         }
     }
     figures(t, &mut random);
@@ -187,6 +191,41 @@ fn ties(t: &mut Tally, bits: u32, n: usize, random: &mut Random) {
         assert!((2..=34).all(|mode| call.sum_of(mode) == call.sum_of(36 - mode)), "a mirrored block ties");
         assert!(call.ask(t, random).0 <= 18, "the lower of two");
     }
+}
+
+/// Sources between the blocks of two modes, where the higher one wins by exactly one, ties with the lower, or loses by one: one step is
+/// from the higher mode's block toward the lower one's, and takes one from the one sum and gives it to the other.
+fn close(t: &mut Tally, bits: u32, n: usize, random: &mut Random) {
+    let block = |mode, refs: assembled::References| {
+        let mut samples = vec![0; n * n];
+        assembled::predict(mode, bits, refs, n, &mut samples, &mut AngularScratch::new());
+        samples
+    };
+    let (mut by_one, mut tied) = (0, 0);
+    for higher in 1..=34 {
+        // rows of one slope: modes near each other have blocks near each other
+        let step = random.below(6) as u16 + 1;
+        let row = |i: usize| 20 + (step * i as u16) % (largest(bits) - 40);
+        let (above, left): (Vec<u16>, Vec<u16>) = (0..65).map(|i| (row(i), row(i + 7))).unzip();
+        let refs = (row(3), &above[..], &left[..]);
+        let (low, high) = (block(higher - 1, refs), block(higher, refs));
+        let apart: u32 = low.iter().zip(&high).map(|(a, b)| a.abs_diff(*b) as u32).sum();
+        for lead in [1, 0, -1] {
+            let mut source = high.clone();
+            let mut steps = (apart as i64 - lead) / 2;
+            for (sample, goal) in source.iter_mut().zip(&low) {
+                let moved = (sample.abs_diff(*goal) as i64).min(steps.max(0));
+                steps -= moved;
+                *sample = if *goal > *sample { *sample + moved as u16 } else { *sample - moved as u16 };
+            }
+            let call = Search::new(bits, n, refs, &source);
+            let gap = call.sum_of(higher - 1) as i64 - call.sum_of(higher) as i64;
+            let (mode, sum) = call.ask(t, random);
+            by_one += (gap == 1 && mode == higher && sum == call.sum_of(higher)) as u32;
+            tied += (gap == 0 && mode == higher - 1) as u32;
+        }
+    }
+    assert!(by_one > 0 && tied > 0, "blocks that are won by one, and ties: {by_one}, {tied}");
 }
 
 /// A row of 65 entries that goes on with its last.

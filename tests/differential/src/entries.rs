@@ -157,6 +157,8 @@ pub fn choose(t: &mut Tally, call: &Search, (no, mode, sum): (u32, u8, u32)) {
             after[4..8].copy_from_slice(&sum.to_le_bytes());
         }
         let args = [&first[..], &read(&up), &read(&side), &read(&source), &lent(&before)].concat();
-        t.call("salvrunde_choose", &args, Want::fields(&[no]).then(after));
+        for entry in ["salvrunde_choose", "salvrunde_choose_early"] {
+            t.call(entry, &args, Want::fields(&[no]).then(after.clone()));
+        }
     }
 }

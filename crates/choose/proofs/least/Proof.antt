@@ -1,5 +1,6 @@
 -- `choose::least` meets its contract. The loop keeps the first of the least sums so far. Rests on `mode_sum`.
 use mathlib.Core.Path.{_≡_, refl}
+use mathlib.Core.Bool.{false≢true}
 use mathlib.Core.Logic.{⊎-elim}
 use Prim.Native.Nat.{ℕ, _-_, _≤_}
 use native.Mathlib.Omega.{arith}
@@ -13,14 +14,14 @@ use Rattle.choose.proofs.least.Statement.{statement}
 use Rattle.choose.proofs.least.Tie as tie
 
 abbrev Inv-loop : tie.InvT-loop
-Inv-loop corner above left smooth-corner smooth-above smooth-left source turned n bits pred₀ refs₀ indices₀ fractions₀ best₀ chosen₀ mode₀ pred refs indices fractions best chosen mode =
+Inv-loop corner above left smooth-corner smooth-above smooth-left source turned n bits early pred₀ refs₀ indices₀ fractions₀ best₀ chosen₀ mode₀ pred refs indices fractions best chosen mode =
     (mode ≤ 35)
     × (((length pred ≡ length pred₀) × ((length refs ≡ length refs₀)
     × ((length indices ≡ length indices₀) × (length fractions ≡ length fractions₀))))
     × FirstLeast (modeSum bits n (fromRows corner above left) source) mode chosen best)
 
 abbrev μ-loop : tie.MeasureT-loop
-μ-loop corner above left smooth-corner smooth-above smooth-left source turned n bits pred₀ refs₀ indices₀ fractions₀ best₀ chosen₀ mode₀ pred refs indices fractions best chosen mode =
+μ-loop corner above left smooth-corner smooth-above smooth-left source turned n bits early pred₀ refs₀ indices₀ fractions₀ best₀ chosen₀ mode₀ pred refs indices fractions best chosen mode =
     35 - mode
 
 mode-sum-requires : tie.Need-mode-sum-requires Inv-loop μ-loop
@@ -29,7 +30,7 @@ mode-sum-requires c κs =
 
 loop-holds : tie.Need-loop-holds Inv-loop μ-loop
 loop-holds c =
-    (omega arith, ((refl, (refl, (refl, refl))), least-one _ (c .before .before .before .before .before .before .before .before .mode-sum .ensures)))
+    (omega arith, ((refl, (refl, (refl, refl))), least-one _ (c .before .before .before .before .before .before .before .before .mode-sum .ensures .all (λ q. absurd (false≢true q)))))
 
 mode-sum-requires-2 : tie.Need-mode-sum-requires-2 Inv-loop μ-loop
 mode-sum-requires-2 c κs =
@@ -51,8 +52,8 @@ loop-again c =
       (
         search needs,
         ⊎-elim
-            (λ t. rw (t .1, t .2) (least-taken _ (l .mode) held e (t .0 .taken)))
-            (λ t. rw (t .1, t .2) (least-kept _ (l .mode) held (let h = t .0 .left in omega (arith, h, e))))
+            (λ t. rw (t .1, t .2) (least-taken _ (l .mode) held (e .all (λ q. t .0 .taken)) (t .0 .taken)))
+            (λ t. rw (t .1, t .2) (least-kept _ (l .mode) held (let h = t .0 .left in omega (arith, h, e .within))))
             (c .if1 .came),
       ),
     )

@@ -1,5 +1,4 @@
--- `choose::mirrored` meets its contract. A horizontal mode's sum is that of the vertical one that it mirrors. Rests on `tried`.
-use mathlib.Core.Path.{_∙_}
+-- `choose::mirrored` meets its contract. A horizontal mode's sum is that of the vertical one that it mirrors. Rests on `until`.
 use Prim.Native.Nat.{ℕ, _≤_, _<_}
 use native.Mathlib.Omega.{arith}
 use lib.Dec.{leb, ltb}
@@ -9,6 +8,7 @@ use Rattle.laws.specs.Choose.{both-true}
 use Rattle.h265.specs.Notation.{fromRows}
 use Rattle.choose.specs.Ready.{side-of, with-rows}
 use Rattle.choose.specs.Sums.{mirrored-sum}
+use Rattle.choose.specs.Early.{up-to-same}
 use borrow.Author.Needs.{needs}
 use Rattle.choose.proofs.mirrored.Statement.{statement}
 use Rattle.choose.proofs.mirrored.Tie as tie
@@ -20,11 +20,11 @@ horizontal c =
     let t = both-true (leb 2 m) (ltb m 18) (c .if1 .taken) in
     (leb-true 2 m (t .0), ltb-true m 18 (t .1))
 
-sub-tried : tie.Need-sub-tried
-sub-tried c = omega (arith, horizontal c)
+sub-until : tie.Need-sub-until
+sub-until c = omega (arith, horizontal c)
 
-tried-requires : tie.Need-tried-requires
-tried-requires c κs =
+until-requires : tie.Need-until-requires
+until-requires c κs =
     let p = c .before .before .before .before .before .before .before .before .before .before .before .before .before .pre in
     (with-rows (p .0) _ _ (p .0 .long .left) (p .0 .long .above), (omega (arith, horizontal (c .before .before .before .before)), p .1 .1 .turned-room))
 
@@ -45,12 +45,12 @@ returns c =
     let a = c .before .before .before .before .before .before .before .before .before .before .before .before .before .before .before .before .before .before .before .before .before .before .args in
     let p = c .before .before .before .before .before .before .before .before .before .before .before .before .before .before .before .before .before .before .before .before .before .before .pre in
     let h = horizontal (c .before .before .before .before .before .before .before .before .before .before .before .before .before) in
-    c .before .before .before .before .before .before .before .before .tried .ensures
-    ∙ mirrored-sum (a .bits) (a .n) (a .mode) (fromRows (a .corner) (a .above .now) (a .left .now)) (a .source .now) (a .turned .now)
-    (side-of (p .0)) (h .0) (h .1) (p .1 .1)
+    up-to-same _ _ (mirrored-sum (a .bits) (a .n) (a .mode) (fromRows (a .corner) (a .above .now) (a .left .now)) (a .source .now) (a .turned .now)
+    (side-of (p .0)) (h .0) (h .1) (p .1 .1))
+    (c .before .before .before .before .before .before .before .before .until .ensures)
 
-tried-requires-2 : tie.Need-tried-requires-2
-tried-requires-2 c κs =
+until-requires-2 : tie.Need-until-requires-2
+until-requires-2 c κs =
     let p = c .before .before .before .before .before .before .before .before .before .before .before .before .before .pre in (p .0, (p .1 .0, p .1 .1 .room))
 
 same-length-5 : tie.Need-same-length-5
@@ -66,20 +66,20 @@ same-length-8 : tie.Need-same-length-8
 same-length-8 c = search needs
 
 returns-2 : tie.Need-returns-2
-returns-2 c = c .before .before .before .before .before .before .before .before .tried2 .ensures
+returns-2 c = c .before .before .before .before .before .before .before .before .until2 .ensures
 
 pub mirrored-spec : {M : Type 1} → statement M
 mirrored-spec =
     tie.close
     (tie.spec
-    sub-tried
-    tried-requires
+    sub-until
+    until-requires
     same-length
     same-length-2
     same-length-3
     same-length-4
     returns
-    tried-requires-2
+    until-requires-2
     same-length-5
     same-length-6
     same-length-7

@@ -3,6 +3,7 @@ use mathlib.Core.Path.{sym, _∙_}
 use Rattle.h265.specs.Notation.{fromRows}
 use Rattle.choose.specs.Ready.{side-of, with-rows}
 use Rattle.choose.specs.Sums.{sum-smoothed, sum-as-is}
+use Rattle.choose.specs.Early.{up-to-same}
 use borrow.Author.Needs.{needs}
 use Rattle.choose.proofs.mode_sum.Statement.{statement}
 use Rattle.choose.proofs.mode_sum.Tie as tie
@@ -33,9 +34,9 @@ returns c =
     let a = c .before .before .before .before .before .before .before .before .before .before .before .before .before .before .before .before .before .before .before .before .before .before .before .before .before .args in
     let p = c .before .before .before .before .before .before .before .before .before .before .before .before .before .before .before .before .before .before .before .before .before .before .before .before .before .pre in
     let flag = sym (c .before .before .before .before .before .before .before .before .before .before .before .before .before .before .smooths .ensures) ∙ c .before .before .before .before .before .before .before .before .before .before .before .before .before .if1 .taken in
-    c .before .before .before .before .before .before .before .before .mirrored .ensures
-    ∙ sum-smoothed (a .bits) (a .n) (a .mode) (side-of (p .0)) (p .1 .0) (fromRows (a .corner) (a .above .now) (a .left .now))
-    (a .source .now) (fromRows (a .smooth-corner) (a .smooth-above .now) (a .smooth-left .now)) flag (p .1 .1 .1 .smooth (a .mode) flag)
+    up-to-same _ _ (sum-smoothed (a .bits) (a .n) (a .mode) (side-of (p .0)) (p .1 .0) (fromRows (a .corner) (a .above .now) (a .left .now))
+    (a .source .now) (fromRows (a .smooth-corner) (a .smooth-above .now) (a .smooth-left .now)) flag (p .1 .1 .1 .smooth (a .mode) flag))
+    (c .before .before .before .before .before .before .before .before .mirrored .ensures)
 
 mirrored-requires-2 : tie.Need-mirrored-requires-2
 mirrored-requires-2 c κs =
@@ -57,9 +58,9 @@ returns-2 : tie.Need-returns-2
 returns-2 c =
     let a = c .before .before .before .before .before .before .before .before .before .before .before .before .before .before .before .before .before .before .before .before .before .before .before .before .before .args in
     let p = c .before .before .before .before .before .before .before .before .before .before .before .before .before .before .before .before .before .before .before .before .before .before .before .before .before .pre in
-    c .before .before .before .before .before .before .before .before .mirrored2 .ensures
-    ∙ sum-as-is (a .bits) (a .n) (a .mode) (side-of (p .0)) (p .1 .0) (fromRows (a .corner) (a .above .now) (a .left .now)) (a .source .now)
-    (sym (c .before .before .before .before .before .before .before .before .before .before .before .before .before .before .smooths .ensures) ∙ c .before .before .before .before .before .before .before .before .before .before .before .before .before .if1 .left)
+    up-to-same _ _ (sum-as-is (a .bits) (a .n) (a .mode) (side-of (p .0)) (p .1 .0) (fromRows (a .corner) (a .above .now) (a .left .now)) (a .source .now)
+    (sym (c .before .before .before .before .before .before .before .before .before .before .before .before .before .before .smooths .ensures) ∙ c .before .before .before .before .before .before .before .before .before .before .before .before .before .if1 .left))
+    (c .before .before .before .before .before .before .before .before .mirrored2 .ensures)
 
 pub mode-sum-spec : {M : Type 1} → statement M
 mode-sum-spec =

@@ -23,7 +23,7 @@ least-requires c κs =
         p .1,
         record {
           above-long = p .0 .long .above;
-          left-long = p .0 .long .left;
+          left-long = p .0 .long .above;
           smooth = λ m e. absurd (never-smoothed (c .before .before .before .before .before .before .before .before .before .before .before .before .before .args .n) m (c .before .before .before .before .if1 .taken) e);
         },
       ),
@@ -47,28 +47,20 @@ returns c = c .before .before .before .before .before .before .before .before .l
 filter-luma-refs-requires : tie.Need-filter-luma-refs-requires
 filter-luma-refs-requires c κs = search needs
 
-slice-aggregate-least : tie.Need-slice-aggregate-least
-slice-aggregate-least c = search needs
-
-slice-aggregate-least-2 : tie.Need-slice-aggregate-least-2
-slice-aggregate-least-2 c = search needs
-
 least-requires-2 : tie.Need-least-requires-2
 least-requires-2 c κs =
-    let p = c .before .before .before .before .before .before .before .before .before .before .before .before .before .before .before .before .before .before .before .pre in
-    let a = c .before .before .before .before .before .before .before .before .before .before .before .before .before .before .before .before .before .before .before .args in
-    let up = slice-aggregate-least (c .before .before .before .before .before) in
-    let down = slice-aggregate-least-2 (c .before .before .before .before) in (
+    let p = c .before .before .before .before .before .before .before .before .before .before .before .before .before .before .before .before .before .before .before .before .pre in
+    let a = c .before .before .before .before .before .before .before .before .before .before .before .before .before .before .before .before .before .before .before .before .args in (
       p .0,
       (
         p .1,
         record {
-          above-long = omega (arith, up);
-          left-long = omega (arith, down);
+          above-long = omega (arith, c .before .before .before .before .before .before .before .before .before .before .filter-luma-refs .ok);
+          left-long = omega (arith, c .before .before .before .before .before .before .before .before .before .before .filter-luma-refs .ok);
           smooth = λ m e.
               subst (λ (s : Smoothed). Agree (a .n) (neighboursOf (s .rows))
               (filtered true (a .bits) (a .n) (fromRows (a .corner) (a .above .now) (a .left .now))))
-              (sym (c .before .before .before .before .before .before .before .before .before .filter-luma-refs .ensures))
+              (sym (c .before .before .before .before .before .before .before .before .before .before .filter-luma-refs .ensures))
               (door-is-standard true (a .corner) (a .above .now) (a .left .now) (a .n) (a .bits) (smoothing-serves (p .0)));
         },
       ),
@@ -100,8 +92,6 @@ search-spec =
     same-length-4
     returns
     filter-luma-refs-requires
-    slice-aggregate-least
-    slice-aggregate-least-2
     least-requires-2
     same-length-5
     same-length-6

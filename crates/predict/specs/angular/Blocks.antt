@@ -55,7 +55,7 @@ module _ (corner : ℕ) (main side : List ℕ) where
       ∙ ap (λ (i : ℕ). run G lo i d) t
 
   -- a sample from the main row itself, where the angle is not negative
-  main-line : (e inv r c : ℕ) → 32 ≤ e → r < 32 → lineAt main 0 e r c ≡ verticalAt nb e inv r c
+  pub main-line : (e inv r c : ℕ) → 32 ≤ e → r < 32 → lineAt main 0 e r c ≡ verticalAt nb e inv r c
   unfolding verticalAt
   main-line e inv r c h l =
       let y : (r + 1) * 32 ≤ (r + 1) * e = mul-le-mul-left (r + 1) h in
@@ -64,7 +64,7 @@ module _ (corner : ℕ) (main side : List ℕ) where
       rw (b, a, ← ref-main nb inv (refStart e r + c) (omega arith), ← ref-main nb inv (refStart e r + c + 1) (omega arith))
 
   -- a sample from the references
-  refs-line : (e inv n : ℕ) (refs d : List ℕ) (r c : ℕ) → e < 32 → n ≤ 32 → r < n → c < n → 65 + n ≤ length d → refs
+  pub refs-line : (e inv n : ℕ) (refs d : List ℕ) (r c : ℕ) → e < 32 → n ≤ 32 → r < n → c < n → 65 + n ≤ length d → refs
       ≡ run (λ (i : ℕ). refAt (fromRows corner main side) inv (firstOf e n + i)) (firstOf e n) (65 + n - firstOf e n) d
       → lineAt refs 65 e r c ≡ verticalAt nb e inv r c
   unfolding verticalAt

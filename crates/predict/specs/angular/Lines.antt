@@ -15,6 +15,10 @@ use Rattle.predict.specs.angular.Unsigned.{refStart}
 abbrev pub lineAt : List ℕ → ℕ → ℕ → ℕ → ℕ → ℕ
 lineAt refs b e r c = interpOf (fractionOf e r) (getD refs (lineStart b e r + c) 0) (getD refs (lineStart b e r + c + 1) 0)
 
+-- a sample of a line counted from line first on
+abbrev pub lineFrom : List ℕ → ℕ → ℕ → ℕ → ℕ → ℕ → ℕ
+lineFrom refs b e first r c = lineAt refs b e (first + r) c
+
 -- a negative angle's rows start at it or later, and at the corner or before
 pub first-le : (e n r : ℕ) → e < 32 → r < n → (firstOf e n ≤ refStart e r) × (refStart e r ≤ 64)
 first-le e n r h l =

@@ -42,6 +42,23 @@ abbrev pub predictNo : ℕ → ℕ → ℕ → Lengths → ℕ
 predictNo bits n mode l =
     firstFail ((1 unless depthOk bits) ∷ (2 unless sizeOk n) ∷ (3 unless modeOk mode) ∷ (5 unless isEnough n l) ∷ [])
 
+-- a vertical mode: its references, and its rows from first to end, which is not among them
+abbrev verticalOk : ℕ → Bool
+verticalOk mode = leb 18 mode && modeOk mode
+
+unfoldable pub refsNo : ℕ → ℕ → ℕ → ℕ → ℕ → ℕ
+refsNo n mode above left refs =
+    firstFail
+    ((2 unless sizeOk n) ∷ (3 unless verticalOk mode)
+    ∷ (5 unless (leb (predictorRow n) above && leb (predictorRow n) left && leb 193 refs)) ∷ [])
+
+unfoldable pub rowsNo : ℕ → ℕ → ℕ → ℕ → ℕ → ℕ → ℕ → ℕ
+rowsNo n mode first end above refs pred =
+    firstFail
+    ((2 unless sizeOk n) ∷ (3 unless verticalOk mode)
+    ∷ (5 unless (leb (predictorRow n) above && leb 193 refs && leb (n * n) pred))
+    ∷ (11 unless (leb first end && leb end n)) ∷ [])
+
 -- the square of a side is small
 pub square : (n : ℕ) → Size n → n * n ≤ 1024
 square n s = at-size (λ (m : ℕ). m * m ≤ 1024) (omega arith) (omega arith) (omega arith) (omega arith) n s

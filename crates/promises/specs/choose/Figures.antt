@@ -1,5 +1,6 @@
 -- Document 02's figures of the chooser on blocks of 4 by 4, at the sums that the door's contract names. Assumes nothing.
 use mathlib.Core.Path.{_≡_, refl}
+use mathlib.Core.Bool.{cond}
 use mathlib.Core.List.{List, [], _∷_}
 use Prim.Native.Nat.{ℕ, _+_, _*_, _<_}
 use native.Mathlib.Omega.{arith}
@@ -66,3 +67,15 @@ lower-of-two = tested _ 2 0 (omega arith) refl tt tt
 pub past-the-depth : FirstLeast (modeSum 8 4 (levelled 65535) (replicate 16 0)) 35 10 787440
 unfolding differences total predSamples prepared filters filterFlag planar halvings dc dcVal sumTo angular project ref intraPredAngle invAngle
 past-the-depth = tested _ 10 787440 (omega arith) refl tt tt
+
+-- Wish 8: mode 13 wins by exactly one, where modes 10 and 11 have 5
+abbrev stepped : Neighbours
+stepped = record { corner = 5; above = λ i. cond (ltb i 4) 5 9; left = λ i. cond (ltb i 4) 4 7 }
+
+abbrev flecked : List ℕ
+flecked = 5 ∷ 5 ∷ 5 ∷ 4 ∷ 4 ∷ 4 ∷ 4 ∷ 4 ∷ 5 ∷ 4 ∷ 5 ∷ 4 ∷ 4 ∷ 4 ∷ 4 ∷ 4 ∷ []
+
+pub wins-by-one : FirstLeast (modeSum 8 4 stepped flecked) 35 13 4
+    × ((modeSum 8 4 stepped flecked 10 ≡ 5) × (modeSum 8 4 stepped flecked 11 ≡ 5))
+unfolding differences total predSamples prepared filters filterFlag planar halvings dc dcVal sumTo angular project ref intraPredAngle invAngle
+wins-by-one = (tested _ 13 4 (omega arith) refl tt tt, (refl, refl))

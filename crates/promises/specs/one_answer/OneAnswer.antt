@@ -69,6 +69,7 @@ use Rattle.fmt.proofs.ChromaFormat.chroma_row.Reads as fmt-chroma-row
 use Rattle.fmt.proofs.ChromaFormat.chroma_col.Reads as fmt-chroma-col
 use Rattle.checksum.proofs.picture_checksum.Reads as checksum-picture-checksum
 use Rattle.choose.proofs.choose_mode.Reads as choose-choose-mode
+use Rattle.choose.proofs.choose_early.Reads as choose-choose-early
 use Rattle.checksum.proofs.on_bytes.picture_checksum_bytes.Reads as on-bytes-picture-checksum-bytes
 use Rattle.order.proofs.decode_order.Reads as order-decode-order
 use Rattle.order.proofs.is_available.Reads as order-is-available
@@ -127,6 +128,8 @@ use Rattle.probes.proofs.walk_probes.salvrunde_probe_check_plan.Reads as walk-p
 use Rattle.predict.proofs.planar_dc.predict_planar_into.Reads as planar-dc-predict-planar-into
 use Rattle.predict.proofs.planar_dc.predict_dc_into.Reads as planar-dc-predict-dc-into
 use Rattle.predict.proofs.angular.predict_angular_slices.Reads as angular-predict-angular-slices
+use Rattle.predict.proofs.angular.vertical_refs.Reads as angular-vertical-refs
+use Rattle.predict.proofs.angular.vertical_rows.Reads as angular-vertical-rows
 use Rattle.predict.proofs.predict_chroma_tb_slices.Reads as predict-predict-chroma-tb-slices
 use Rattle.predict.proofs.predict_luma_tb_slices.Reads as predict-predict-luma-tb-slices
 use Rattle.predict.proofs.scratch.AngularScratch.new.Reads as scratch-new
@@ -144,6 +147,7 @@ use Rattle.probes.proofs.predict_probes.salvrunde_probe_predict_angular_slices.
 use Rattle.probes.proofs.predict_probes.salvrunde_probe_predict_chroma_tb_slices.Reads as predict-probes-salvrunde-probe-predict-chroma-tb-slices
 use Rattle.probes.proofs.predict_probes.salvrunde_probe_predict_luma_tb_slices.Reads as predict-probes-salvrunde-probe-predict-luma-tb-slices
 use Rattle.probes.proofs.predict_probes.salvrunde_probe_choose_mode.Reads as predict-probes-salvrunde-probe-choose-mode
+use Rattle.probes.proofs.predict_probes.salvrunde_probe_choose_early.Reads as predict-probes-salvrunde-probe-choose-early
 use Rattle.probes.proofs.predict_probes.salvrunde_probe_predict_angular_scratch.Reads as predict-probes-salvrunde-probe-predict-angular-scratch
 use Rattle.probes.proofs.predict_probes.salvrunde_probe_predict_chroma_tb_scratch.Reads as predict-probes-salvrunde-probe-predict-chroma-tb-scratch
 use Rattle.probes.proofs.predict_probes.salvrunde_probe_predict_luma_tb_scratch.Reads as predict-probes-salvrunde-probe-predict-luma-tb-scratch
@@ -163,6 +167,7 @@ use Rattle.camera.proofs.salvrunde_angular.Reads as camera-salvrunde-angular
 use Rattle.camera.proofs.salvrunde_chroma_block.Reads as camera-salvrunde-chroma-block
 use Rattle.camera.proofs.salvrunde_luma_block.Reads as camera-salvrunde-luma-block
 use Rattle.camera.proofs.salvrunde_choose.Reads as camera-salvrunde-choose
+use Rattle.camera.proofs.salvrunde_choose_early.Reads as camera-salvrunde-choose-early
 use Rattle.camera.proofs.salvrunde_checksum.Reads as camera-salvrunde-checksum
 use Rattle.camera.proofs.salvrunde_replay.Reads as camera-salvrunde-replay
 use Rattle.report.proofs.report.Reads as report-report
@@ -206,7 +211,7 @@ by-number : {L : Type 0} (work kept : L) {n x y : ℕ} {l m : L} → x ≡ n →
 by-number work kept p q u v = (p ∙ sym q, u ∙ ap (λ (k : ℕ). served k work kept) (p ∙ sym q) ∙ sym v)
 
 -- the mode and the sum that the chooser's contract names
-chosen-once : (k : ℕ) (sums : ℕ → ℕ) {x y : Chosen} → Chooses k sums x → Chooses k sums y → x ≡ y
+pub chosen-once : (k : ℕ) (sums : ℕ → ℕ) {x y : Chosen} → Chooses k sums x → Chooses k sums y → x ≡ y
 chosen-once k sums {x} {y} p q = λ i. record { no = (p .number ∙ sym (q .number)) i; mode = pair .0 i; sum = pair .1 i }
   where
     go : (b : Bool) → eqb k 0 ≡ b → (x .mode ≡ y .mode) × (x .sum ≡ y .sum)
@@ -549,6 +554,12 @@ angular-predict-angular-slices-once : (κs : Lfts 6)
 angular-predict-angular-slices-once κs a x y s t p q =
     and-scratch (λ r. r) (by-number _ _ (p .0) (q .0) (p .1 .0) (q .1 .0)) (λ h. together (p .1 .1 h)) (λ h. together (q .1 .1 h))
 
+angular-vertical-refs-once : (κs : Lfts 3) → OnceLeft (λ s. now (s .1 .1 .1 .1 .1 .0)) (angular-vertical-refs.Post κs)
+angular-vertical-refs-once κs a x y s t p q = by-number _ _ (p .0) (q .0) (p .1) (q .1)
+
+angular-vertical-rows-once : (κs : Lfts 3) → OnceLeft (λ s. now (s .1 .1 .1 .1 .1 .1 .0)) (angular-vertical-rows.Post κs)
+angular-vertical-rows-once κs a x y s t p q = by-number _ _ (p .0) (q .0) (p .1) (q .1)
+
 -- predict
 predict-predict-chroma-tb-slices-once : (κs : Lfts 6)
     → OnceRefused {K = Three} (λ r. r) (λ s. now (s .1 .1 .1 .1 .1 .1 .0))
@@ -574,6 +585,13 @@ choose-choose-mode-once : (κs : Lfts 7)
     (λ s. let l = s .1 .1 .1 .1 .1 .1 in (now (l .0), (now (l .1 .0), (now (l .1 .1 .0), now (l .1 .1 .1 .0)))))
     (choose-choose-mode.Post κs)
 choose-choose-mode-once κs a x y s t p q =
+    and-scratch (λ r. r .no) (chosen-once _ _ (p .0) (q .0), refl) (λ h. all-four (p .1 h)) (λ h. all-four (q .1 h))
+
+choose-choose-early-once : (κs : Lfts 7)
+    → OnceRefused {L = Unit {0}} {K = List ℕ × Three} (λ r. r .no) (λ s. tt)
+    (λ s. let l = s .1 .1 .1 .1 .1 .1 in (now (l .0), (now (l .1 .0), (now (l .1 .1 .0), now (l .1 .1 .1 .0)))))
+    (choose-choose-early.Post κs)
+choose-choose-early-once κs a x y s t p q =
     and-scratch (λ r. r .no) (chosen-once _ _ (p .0) (q .0), refl) (λ h. all-four (p .1 h)) (λ h. all-four (q .1 h))
 
 -- scratch
@@ -634,6 +652,13 @@ predict-probes-salvrunde-probe-choose-mode-once : (κs : Lfts 7)
     (λ s. let l = s .1 .1 .1 .1 .1 .1 in (now (l .0), (now (l .1 .0), (now (l .1 .1 .0), now (l .1 .1 .1 .0)))))
     (predict-probes-salvrunde-probe-choose-mode.Post κs)
 predict-probes-salvrunde-probe-choose-mode-once κs a x y s t p q =
+    and-scratch (λ r. r .no) (ap handedOver (chosen-once _ _ (p .0) (q .0)), refl) (λ h. all-four (p .1 h)) (λ h. all-four (q .1 h))
+
+predict-probes-salvrunde-probe-choose-early-once : (κs : Lfts 7)
+    → OnceRefused {L = Unit {0}} {K = List ℕ × Three} (λ r. r .no) (λ s. tt)
+    (λ s. let l = s .1 .1 .1 .1 .1 .1 in (now (l .0), (now (l .1 .0), (now (l .1 .1 .0), now (l .1 .1 .1 .0)))))
+    (predict-probes-salvrunde-probe-choose-early.Post κs)
+predict-probes-salvrunde-probe-choose-early-once κs a x y s t p q =
     and-scratch (λ r. r .no) (ap handedOver (chosen-once _ _ (p .0) (q .0)), refl) (λ h. all-four (p .1 h)) (λ h. all-four (q .1 h))
 
 predict-probes-salvrunde-probe-predict-angular-scratch-once : (κs : Lfts 3)
@@ -721,6 +746,9 @@ chosen-into-once k sums d {l = l} {m = m} p q = (p .number ∙ sym (q .number), 
 
 camera-salvrunde-choose-once : (κs : Lfts 4) → OnceLeft (λ s. now (s .1 .1 .1 .1 .1 .1 .0)) (camera-salvrunde-choose.Post κs)
 camera-salvrunde-choose-once κs a x y s t p q = chosen-into-once _ _ _ p q
+
+camera-salvrunde-choose-early-once : (κs : Lfts 4) → OnceLeft (λ s. now (s .1 .1 .1 .1 .1 .1 .0)) (camera-salvrunde-choose-early.Post κs)
+camera-salvrunde-choose-early-once κs a x y s t p q = chosen-into-once _ _ _ p q
 
 camera-salvrunde-replay-once : (κs : Lfts 4)
     → OnceLeft {L = List ℕ × List ℕ} (λ s. (now (s .1 .1 .1 .1 .1 .1 .1 .1 .0), now (s .1 .1 .1 .1 .1 .1 .1 .1 .1 .0)))

@@ -56,7 +56,7 @@ use Rattle.refs.specs.Served.{gatherNo}
 use Rattle.camera.specs.gather.Door.{lumaBytesNo, lumaBytesDoor}
 use Rattle.smooth.specs.Smoothing as smoothing
 use Rattle.smooth.specs.Smoothing.{shouldFilterRefs, filterNo, filterReferences}
-use Rattle.predict.specs.refusals.Refusals.{flatNo, Lengths, lengths, isEnough, angularNo, predictNo}
+use Rattle.predict.specs.refusals.Refusals.{flatNo, Lengths, lengths, isEnough, angularNo, predictNo, refsNo, rowsNo}
 use Rattle.predict.specs.Lent.{withScratch}
 use Rattle.samples.specs.deltas.Deltas.{residualOk}
 use Rattle.residual.specs.Residual.{allInRange, residualNo, reconstructNo}
@@ -306,6 +306,25 @@ unfolding flatNo
 predict-flat n above left pred =
     exact-row (size n) refl (λ e. exact-row (all-of (all-of (at-most (2 * n) (length above)) (at-most (2 * n) (length left)))
     (at-most (n * n) (length pred))) refl (λ e. exact-none))
+
+-- a vertical mode in parts: number 11 is of rows that run backward or leave the block
+pub vertical-refs : (n mode : ℕ) (above left refs : List ℕ)
+    → Exact (refsNo n mode (length above) (length left) (length refs))
+    ((2 when ¬ Size n) ∷ (3 when mode < 18 or 34 < mode) ∷ (5 when length above < 2 * n or length left < 2 * n or length refs < 193) ∷ [])
+unfolding refsNo
+vertical-refs n mode above left refs =
+    exact-row (size n) refl (λ e. exact-row (all-of (at-most 18 mode) (at-most mode 34)) refl (λ e. exact-row (all-of (all-of
+    (at-most (2 * n) (length above)) (at-most (2 * n) (length left))) (at-most 193 (length refs))) refl (λ e. exact-none)))
+
+pub vertical-rows : (n mode first end : ℕ) (above refs pred : List ℕ)
+    → Exact (rowsNo n mode first end (length above) (length refs) (length pred))
+    ((2 when ¬ Size n) ∷ (3 when mode < 18 or 34 < mode) ∷ (5 when length above < 2 * n or length refs < 193 or length pred < n * n)
+    ∷ (11 when end < first or n < end) ∷ [])
+unfolding rowsNo
+vertical-rows n mode first end above refs pred =
+    exact-row (size n) refl (λ e. exact-row (all-of (at-most 18 mode) (at-most mode 34)) refl (λ e. exact-row (all-of (all-of
+    (at-most (2 * n) (length above)) (at-most 193 (length refs))) (at-most (n * n) (length pred))) refl
+    (λ e. exact-row (all-of (at-most first end) (at-most end n)) refl (λ e. exact-none))))
 
 module _ (bits n mode : ℕ) where
   -- the rows of an angular call, and of one that takes every mode, where P says that something lent is short

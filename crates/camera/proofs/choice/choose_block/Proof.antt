@@ -32,36 +32,36 @@ slice-aggregate-read-row-2 c = search needs
 read-row-requires-2 : tie.Need-read-row-requires-2
 read-row-requires-2 c κs = size-of _ (c .before .before .before .before .before .before .before .before .before .before .pre .size)
 
-slice-aggregate-choose-mode : tie.Need-slice-aggregate-choose-mode
-slice-aggregate-choose-mode c = search needs
+slice-aggregate-search : tie.Need-slice-aggregate-search
+slice-aggregate-search c = search needs
 
-slice-aggregate-choose-mode-2 : tie.Need-slice-aggregate-choose-mode-2
-slice-aggregate-choose-mode-2 c = search needs
+slice-aggregate-search-2 : tie.Need-slice-aggregate-search-2
+slice-aggregate-search-2 c = search needs
 
-slice-aggregate-choose-mode-3 : tie.Need-slice-aggregate-choose-mode-3
-slice-aggregate-choose-mode-3 c = search needs
+slice-aggregate-search-3 : tie.Need-slice-aggregate-search-3
+slice-aggregate-search-3 c = search needs
 
-slice-aggregate-choose-mode-4 : tie.Need-slice-aggregate-choose-mode-4
-slice-aggregate-choose-mode-4 c = search needs
+slice-aggregate-search-4 : tie.Need-slice-aggregate-search-4
+slice-aggregate-search-4 c = search needs
 
-slice-aggregate-choose-mode-5 : tie.Need-slice-aggregate-choose-mode-5
-slice-aggregate-choose-mode-5 c = search needs
+slice-aggregate-search-5 : tie.Need-slice-aggregate-search-5
+slice-aggregate-search-5 c = search needs
 
-slice-aggregate-choose-mode-6 : tie.Need-slice-aggregate-choose-mode-6
-slice-aggregate-choose-mode-6 c = search needs
+slice-aggregate-search-6 : tie.Need-slice-aggregate-search-6
+slice-aggregate-search-6 c = search needs
 
-slice-aggregate-choose-mode-7 : tie.Need-slice-aggregate-choose-mode-7
-slice-aggregate-choose-mode-7 c = search needs
+slice-aggregate-search-7 : tie.Need-slice-aggregate-search-7
+slice-aggregate-search-7 c = search needs
 
-choose-mode-requires : tie.Need-choose-mode-requires
-choose-mode-requires c κs = search needs
+search-requires : tie.Need-search-requires
+search-requires c κs = search needs
 
 returns : tie.Need-returns
 returns c =
     let a = c .before .before .before .before .before .before .before .before .before .before .before .before .before .before .before .before .before .before .before .before .before .before .before .before .args in
     let b = c .before .before .before .before .before .before .before .before .before .before .before .before .before .before .before .before .before .before .before .before .before .before .before .before .pre in
     choice-read (a .bits) (a .n) (a .corner) (a .above .now) (a .left .now) (a .source .now) b (c .before .before .before .before .before .before .before .before .before .before .before .before .before .before .before .before .before .before .before .read-samples .ensures)
-    (c .before .before .before .before .before .before .before .before .before .before .before .before .before .before .before .before .read-row .ensures) (c .before .before .before .before .before .before .before .before .before .before .before .before .before .read-row2 .ensures) (c .before .before .before .before .choose-mode .ensures .0)
+    (c .before .before .before .before .before .before .before .before .before .before .before .before .before .before .before .before .read-row .ensures) (c .before .before .before .before .before .before .before .before .before .before .before .before .before .read-row2 .ensures) (c .before .before .before .before .search .ensures)
 
 pub choose-block-spec : {M : Type 1} → statement M
 choose-block-spec =
@@ -74,12 +74,12 @@ choose-block-spec =
     read-row-requires
     slice-aggregate-read-row-2
     read-row-requires-2
-    slice-aggregate-choose-mode
-    slice-aggregate-choose-mode-2
-    slice-aggregate-choose-mode-3
-    slice-aggregate-choose-mode-4
-    slice-aggregate-choose-mode-5
-    slice-aggregate-choose-mode-6
-    slice-aggregate-choose-mode-7
-    choose-mode-requires
+    slice-aggregate-search
+    slice-aggregate-search-2
+    slice-aggregate-search-3
+    slice-aggregate-search-4
+    slice-aggregate-search-5
+    slice-aggregate-search-6
+    slice-aggregate-search-7
+    search-requires
     returns)

@@ -4,8 +4,8 @@ use borrow.Author.Needs.{needs}
 use Rattle.predict.proofs.angular.down.Statement.{statement}
 use Rattle.predict.proofs.angular.down.Tie as tie
 
-down-4-requires : tie.Need-down-4-requires
-down-4-requires c κs =
+down-few-requires : tie.Need-down-few-requires
+down-few-requires c κs =
     (c .before .before .before .before .pre .1 .0, rw (c .before .match .keys1) at (c .before .before .before .before .pre .1 .1))
 
 down-n-requires : tie.Need-down-n-requires
@@ -24,7 +24,7 @@ same-length : tie.Need-same-length
 same-length c = search needs
 
 returns : tie.Need-returns
-returns c = rw (c .before .before .before .before .match .keys1) (c .before .before .down-4 .ensures)
+returns c = rw (c .before .before .before .before .match .keys1) (c .before .before .down-few .ensures)
 
 same-length-2 : tie.Need-same-length-2
 same-length-2 c = search needs
@@ -49,7 +49,7 @@ pub down-spec : {M : Type 1} → statement M
 down-spec =
     tie.close
     (tie.spec
-    down-4-requires
+    down-few-requires
     down-n-requires
     down-n-requires-2
     down-n-requires-3

@@ -6,6 +6,7 @@ use lib.ListN.{getD}
 use Rattle.predict.specs.angles.Angles.{turns, bends}
 use Rattle.domain.specs.Facts.{size-small}
 use Rattle.predict.specs.angular.Blocks.{across-refs, across-main, across-whole}
+use Rattle.predict.specs.angular.Parts.{from-first, some}
 use Rattle.predict.specs.angular.Reach.{within, within-low}
 use Rattle.predict.specs.angular.Tables.{turn-low, turn-high, bend-reach}
 use borrow.Author.Needs.{needs}
@@ -36,7 +37,7 @@ copies-requires c κs =
     let p = c .before .before .before .before .before .before .before .before .pre in
     let l : (32 ≤ c .before .before .before .turn .result) × (c .before .before .before .turn .result ≤ 64) = rw (c .before .before .before .turn .ensures) (turn-high _ (c .before .before .if1 .left) (p .1 .0)) in
     let z : c .before .before .before .turn .result ≡ 64 = c .before .if2 .taken in
-    (p .0, (omega arith, let h = size-small _ (p .0) .1 in record { angle = omega arith; base = omega arith; near = omega arith; size = h; refs = within _ _ _ _ (search needs); room = search needs }))
+    (p .0, (omega arith, (let h = size-small _ (p .0) .1 in record { angle = omega arith; base = omega arith; near = omega arith; size = h; refs = within _ _ _ _ (search needs); room = search needs }, omega arith)))
 
 across-requires-2 : tie.Need-across-requires-2
 across-requires-2 c κs =
@@ -66,7 +67,7 @@ returns-2 c =
     let a = c .before .before .before .before .before .before .before .before .before .before .before .args in
     let p = c .before .before .before .before .before .before .before .before .before .before .before .pre in
     let q = c .before .before .before .before .before .before .turn .ensures in
-    rw q at (c .before .before .copies .ensures) ∙ across-whole (a .corner) (a .main .now) (a .side .now) (getD turns (a .d) 0) (getD bends (a .d) 0) (a .n) (p .0) (a .pred .now) (sym q ∙ c .before .before .before .before .if2 .taken)
+    rw q at (c .before .before .copies .ensures) ∙ from-first (a .main .now) 0 (getD turns (a .d) 0) (a .n) (a .pred .now) (some (p .0)) ∙ across-whole (a .corner) (a .main .now) (a .side .now) (getD turns (a .d) 0) (getD bends (a .d) 0) (a .n) (p .0) (a .pred .now) (sym q ∙ c .before .before .before .before .if2 .taken)
 
 same-length-4 : tie.Need-same-length-4
 same-length-4 c = search needs

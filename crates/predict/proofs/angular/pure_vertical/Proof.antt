@@ -8,6 +8,7 @@ use borrow.Author.Tests.{ltb-true}
 use Rattle.predict.specs.angular.Reach.{within}
 use Rattle.predict.specs.angular.Grid.{column}
 use Rattle.predict.specs.angular.Blocks.{upright, upright-edge}
+use Rattle.predict.specs.angular.Parts.{from-first, some}
 use borrow.Author.Needs.{needs}
 use Rattle.predict.proofs.angular.pure_vertical.Statement.{statement}
 use Rattle.predict.proofs.angular.pure_vertical.Tie as tie
@@ -16,7 +17,7 @@ copies-requires : tie.Need-copies-requires
 copies-requires c κs =
     let p = c .before .before .before .before .pre in
     let h = size-small _ (p .1 .0) .1 in
-    (p .1 .0, (refl, record { angle = omega arith; base = omega arith; near = omega arith; size = h; refs = within _ _ _ _ (search needs); room = search needs }))
+    (p .1 .0, (refl, (record { angle = omega arith; base = omega arith; near = omega arith; size = h; refs = within _ _ _ _ (search needs); room = search needs }, omega arith)))
 
 filtered-requires : tie.Need-filtered-requires
 filtered-requires c κs = search needs
@@ -41,7 +42,7 @@ returns : tie.Need-returns
 returns c =
     let a = c .before .before .before .before .before .before .before .before .before .before .before .before .before .before .before .args in
     let p = c .before .before .before .before .before .before .before .before .before .before .before .before .before .before .before .pre in
-    c .before .before .edge-down .ensures ∙ ap (column _ 0 (a .n) (a .n)) (c .before .before .before .before .before .before .before .before .before .before .copies .ensures) ∙ upright-edge (a .corner) (a .above .now) (a .left .now) (a .bits) (a .n) (a .edge) (p .1 .0) (a .pred .now) _ (c .before .before .before .before .largest-of .ensures ∙ largest-of-is (a .bits) (p .0)) (sym (c .before .before .before .before .before .before .before .filtered .ensures) ∙ c .before .before .before .before .before .before .if1 .taken) (p .1 .1 .1 .1)
+    c .before .before .edge-down .ensures ∙ ap (column _ 0 (a .n) (a .n)) (c .before .before .before .before .before .before .before .before .before .before .copies .ensures ∙ from-first (a .above .now) 0 32 (a .n) (a .pred .now) (some (p .1 .0))) ∙ upright-edge (a .corner) (a .above .now) (a .left .now) (a .bits) (a .n) (a .edge) (p .1 .0) (a .pred .now) _ (c .before .before .before .before .largest-of .ensures ∙ largest-of-is (a .bits) (p .0)) (sym (c .before .before .before .before .before .before .before .filtered .ensures) ∙ c .before .before .before .before .before .before .if1 .taken) (p .1 .1 .1 .1)
 
 same-length-2 : tie.Need-same-length-2
 same-length-2 c = search needs
@@ -49,7 +50,7 @@ same-length-2 c = search needs
 returns-2 : tie.Need-returns-2
 returns-2 c =
     let a = c .before .before .before .before .before .before .before .before .before .args in
-    c .before .before .before .before .copies .ensures ∙ upright (a .corner) (a .above .now) (a .left .now) (a .bits) (a .n) (a .edge) (c .before .before .before .before .before .before .before .before .before .pre .1 .0) (a .pred .now) (sym (c .before .filtered .ensures) ∙ c .if1 .left)
+    c .before .before .before .before .copies .ensures ∙ from-first (a .above .now) 0 32 (a .n) (a .pred .now) (some (c .before .before .before .before .before .before .before .before .before .pre .1 .0)) ∙ upright (a .corner) (a .above .now) (a .left .now) (a .bits) (a .n) (a .edge) (c .before .before .before .before .before .before .before .before .before .pre .1 .0) (a .pred .now) (sym (c .before .filtered .ensures) ∙ c .if1 .left)
 
 pub pure-vertical-spec : {M : Type 1} → statement M
 pure-vertical-spec =
