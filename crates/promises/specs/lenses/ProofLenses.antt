@@ -1,5 +1,5 @@
--- The page Lenses, proved but for the doors (ProofDoors). The contracts' equations give a turn's answer and what it leaves, and name nothing that the scratch holds: so
--- the law of turns holds. A lens's own turns are then a chain of calls, of which demand 3 speaks. Rests on both.
+-- The page Lenses, proved but for the doors (ProofDoors). The contracts' equations give a turn's answer and what it leaves, and name
+-- nothing that the scratch holds: so the law of turns holds. A lens's own turns are then a chain of calls, of which demand 3 speaks. Rests on both.
 use mathlib.Core.Path.{_≡_, refl, sym, ap, _∙_, subst}
 use mathlib.Core.Bool.{true}
 use mathlib.Core.List.{List, [], _∷_, map}
