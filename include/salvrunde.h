@@ -1,6 +1,7 @@
 /* Salvrunde: intra prediction of H.265 for still pictures, for firmware in C. C99; also C++.
  *
- * Every entry takes numbers and byte buffers, keeps nothing between calls, allocates nothing and makes its own scratch.
+ * Every entry takes numbers and byte buffers, keeps nothing between calls, allocates nothing and makes its own scratch. So the stills of
+ * two lenses under one plan can be replayed in turns, in any order: each has its own record, residuals and plane, and needs nothing more.
  *
  * Samples are two bytes each, residuals four (two's complement), the lowest byte first, whatever the processor. A buffer is a pointer and
  * its length in bytes. No pointer may be null, the bytes must be there, and a buffer that is written must share no byte with another

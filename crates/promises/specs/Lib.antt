@@ -13,6 +13,8 @@ pub mod zero
 pub mod checksum
 -- Choose: no mode does better than the chosen one, and every lower one does worse.
 pub mod choose
+-- Lenses: several lenses under one plan take turns with one scratch, and each has what it would have alone.
+pub mod lenses
 pub mod tables
 pub mod run_tables
 pub mod one_answer

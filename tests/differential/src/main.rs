@@ -16,6 +16,7 @@ mod entries;
 mod fmt;
 mod frame;
 mod host;
+mod lenses;
 mod list;
 mod list_predict;
 mod list_refs;
@@ -75,6 +76,7 @@ const SUBJECTS: &[(&str, Subject)] = &[
     ("replay", walk::replay),
     ("walk and replay refused", walk::refused),
     ("residual limit", walk::limit),
+    ("lenses", lenses::lenses),
     ("differences in references", standard::differences),
     ("checksum", checksum::checksum),
     ("messages", checksum::messages),

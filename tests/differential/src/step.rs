@@ -106,9 +106,14 @@ impl Call {
         }
     }
 
+    /// Makes the call on both sides, with rubbish in the scratch.
+    pub fn ask(&mut self, t: &mut Tally, random: &mut Random) -> Step {
+        self.ask_with(t, &Scratch::rubbish(self.tables, random))
+    }
+
     /// Makes the call on both sides. What is lent has guards behind it; a call leaves plan, source and guards alone, and a
     /// refused one the scratch too.
-    pub fn ask(&mut self, t: &mut Tally, random: &mut Random) -> Step {
+    pub fn ask_with(&mut self, t: &mut Tally, scratch: &Scratch) -> Step {
         let numbers = [self.done, self.bits, self.frame.width, self.frame.height, self.frame.ctu].map(|v| Number(v as u64));
         let lists = self.lists().map(|list| Slice::new(bytes_32(&list), list.len()));
         let records = [Slice::new(bytes_32(self.plan.as_flattened()), self.plan.len())];
@@ -116,11 +121,7 @@ impl Call {
         let plane = Slice::new(bytes(&self.plane), self.plane.len());
         let residuals = Slice::new(bytes_signed(&self.residuals), self.residuals.len());
         let [refs, indices, fractions] = self.tables;
-        let tables = [
-            Slice::new(bytes(&dirt(refs, random)), refs),
-            Slice::new(bytes_32(&dirt_32(indices, random)), indices),
-            Slice::new(bytes_32(&dirt_32(fractions, random)), fractions),
-        ];
+        let tables = [0, 1, 2].map(|k| Slice::new(scratch.tables[k].clone(), self.tables[k]));
         let before = self.clone();
         let step = self.make();
         let after =
@@ -146,7 +147,7 @@ impl Call {
         t.call(names[0], &[&numbers[..], &plan, &slices, &lent, &grant].concat(), want);
         // over block records the plan is whole, and the scratch a struct whose tables are long enough
         if self.is_whole() && table::scratch(refs, indices, fractions) {
-            let scratch = Slice::new(bytes(&dirt(SCRATCH / 2, random)), 1);
+            let scratch = Slice::new(scratch.record.clone(), 1);
             let want = begun(&records).then_past(if step.no == 0 { SCRATCH } else { 0 }, scratch.bytes.clone());
             t.call(names[1], &[&numbers[..], &records[0].args(), &slices, &[Lent(&scratch.bytes)], &grant].concat(), want);
             if !self.walk {
@@ -162,14 +163,27 @@ impl Call {
     }
 }
 
+/// What the scratch holds, as bytes: its three tables, and the struct for the calls over block records.
+pub struct Scratch {
+    pub tables: [Vec<u8>; 3],
+    pub record: Vec<u8>,
+}
+
+impl Scratch {
+    pub fn rubbish([refs, indices, fractions]: [usize; 3], random: &mut Random) -> Scratch {
+        let tables = [bytes(&dirt(refs, random)), bytes_32(&dirt_32(indices, random)), bytes_32(&dirt_32(fractions, random))];
+        Scratch { tables, record: bytes(&dirt(SCRATCH / 2, random)) }
+    }
+}
+
 /// The entries over lent numbers and over block records.
-const WALK: [&str; 2] = ["salvrunde_probe_walk", "salvrunde_probe_walk_records"];
-const REPLAY: [&str; 2] = ["salvrunde_probe_replay", "salvrunde_probe_replay_records"];
+pub const WALK: [&str; 2] = ["salvrunde_probe_walk", "salvrunde_probe_walk_records"];
+pub const REPLAY: [&str; 2] = ["salvrunde_probe_replay", "salvrunde_probe_replay_records"];
 
 /// Bytes of the scratch struct: 193 samples, two bytes of room, and twice 32 numbers.
 const SCRATCH: usize = 193 * 2 + 2 + 2 * 32 * 4;
 
-const GUARD: [u8; 16] = *b"guards of a call";
+pub const GUARD: [u8; 16] = *b"guards of a call";
 
 /// A slice's bytes with a guard behind them, and its length in elements.
 struct Slice {

@@ -60,6 +60,13 @@ struct Waiting {
     want: Want,
 }
 
+/// What a call answered: its words, and what the buffers that it lent held after it.
+#[derive(Clone, PartialEq)]
+pub struct Left {
+    pub words: [u64; 2],
+    pub lent: Vec<Vec<u8>>,
+}
+
 pub struct Tally<'h> {
     subject: &'static str,
     host: &'h mut Host,
@@ -69,11 +76,14 @@ pub struct Tally<'h> {
     calls: u64,
     differ: u64,
     entries: Vec<(&'static str, u64)>,
+    /// Calls whose answers a subject wants to see, by name, and the last answer of each.
+    watched: Vec<(&'static str, Option<Left>)>,
 }
 
 impl<'h> Tally<'h> {
     pub fn new(subject: &'static str, host: &'h mut Host) -> Tally<'h> {
-        Tally { subject, host, batch: Vec::new(), room: 0, waiting: Vec::new(), calls: 0, differ: 0, entries: Vec::new() }
+        let (batch, waiting, entries, watched) = (Vec::new(), Vec::new(), Vec::new(), Vec::new());
+        Tally { subject, host, batch, room: 0, waiting, calls: 0, differ: 0, entries, watched }
     }
 
     fn entry(&mut self, name: &'static str) -> u64 {
@@ -102,19 +112,37 @@ impl<'h> Tally<'h> {
         self.call(name, &args, want);
     }
 
+    /// From now on the last answer of this entry can be seen.
+    pub fn watch(&mut self, name: &'static str) {
+        self.watched.push((name, None));
+    }
+
+    /// What the last call of a watched entry answered, as it came back; none if there was no call since it was last seen.
+    pub fn left(&mut self, name: &'static str) -> Option<Left> {
+        self.flush();
+        self.watched.iter_mut().find(|w| w.0 == name)?.1.take()
+    }
+
     fn flush(&mut self) {
         let answers = self.host.call(&self.batch, self.room);
         let mut at = 0;
         for call in self.waiting.drain(..) {
             let word = |i: usize| u64::from_le_bytes(answers[at + 8 * i..at + 8 * i + 8].try_into().unwrap());
             let words = [word(0) & call.want.masks[0], word(1) & call.want.masks[1]];
-            let mut lent = Vec::new();
+            let (mut lent, mut whole) = (Vec::new(), Vec::new());
             let mut next = at + 16;
+            let watched = self.watched.iter_mut().find(|w| w.0 == call.name);
             for (b, &open) in call.want.lent.iter().zip(&call.want.open) {
+                if watched.is_some() {
+                    whole.push(answers[next..next + b.len()].to_vec());
+                }
                 lent.push([&b[..open], &answers[next + open..next + b.len()]].concat());
                 next += b.len().next_multiple_of(8);
             }
             at = next;
+            if let Some(watched) = watched {
+                watched.1 = Some(Left { words, lent: whole });
+            }
             self.calls += 1;
             if words != call.want.words || lent != call.want.lent {
                 self.differ += 1;

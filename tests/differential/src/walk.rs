@@ -68,15 +68,15 @@ fn in_range(kind: u64, bits: u32, count: usize, random: &mut Random) -> Vec<i32>
 }
 
 /// A picture with a plan and a source, from which calls are made.
-struct Still {
-    bits: u32,
-    frame: Frame,
-    plan: Vec<Block>,
-    source: Vec<u16>,
+pub struct Still {
+    pub bits: u32,
+    pub frame: Frame,
+    pub plan: Vec<Block>,
+    pub source: Vec<u16>,
 }
 
 impl Still {
-    fn any(frame: Frame, bits: u32, kind: u64, random: &mut Random) -> Still {
+    pub fn any(frame: Frame, bits: u32, kind: u64, random: &mut Random) -> Still {
         Still { bits, frame, plan: frame.good_plan(random), source: source(kind, bits, frame, random) }
     }
 
@@ -99,7 +99,7 @@ impl Still {
     }
 
     /// A fresh walk into a plane and residuals that hold anything.
-    fn walk(&self, random: &mut Random) -> Call {
+    pub fn walk(&self, random: &mut Random) -> Call {
         Call {
             walk: true,
             done: 0,
@@ -116,7 +116,7 @@ impl Still {
     }
 
     /// A fresh replay of residuals into a plane that holds anything.
-    fn replay(&self, residuals: Vec<i32>, random: &mut Random) -> Call {
+    pub fn replay(&self, residuals: Vec<i32>, random: &mut Random) -> Call {
         Call { walk: false, source: Vec::new(), residuals, ..self.walk(random) }
     }
 

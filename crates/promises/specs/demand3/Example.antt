@@ -36,9 +36,9 @@ source = replicate 128 130
 abbrev pub blankWorld : World
 blankWorld = record { work = replicate 128 0; residuals = replicate 128 (pos 0) }
 
-served : Served (walkVerdictAt two source (fresh blankWorld) scratchTables)
+pub blank-served : Served (walkVerdictAt two source (fresh blankWorld) scratchTables)
 unfolding walkVerdict verdictOf settle every verdictFrom blockNo ahead aheadBy halvings
-served = refl
+blank-served = refl
 
 -- block by block, both ways, with scratch of several lengths
 abbrev one : ℕ → Ask
@@ -61,7 +61,7 @@ enough : (a b : ℕ) → count two ≤ granted (one a ∷ one b ∷ [])
 enough a b = omega (arith, sum-more 1 (1 ∷ []), sum-more 1 [], sum-none)
 
 pub walked : WalksAll two source blankWorld there
-walked = record { tables = scratchTables; served = served; room = room 0 1; enough = enough 0 1 }
+walked = record { tables = scratchTables; served = blank-served; room = room 0 1; enough = enough 0 1 }
 
 -- over zeros
 pub same : calls (replayCall two (calls (walkCall two source) (fresh blankWorld) there .world .residuals)) (fresh (replicate 128 0))
