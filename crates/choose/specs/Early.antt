@@ -27,11 +27,7 @@ pub record UpTo (early : Bool) (limit whole part : ℕ) : Type 0 where
   pub within : part ≤ whole
   pub all : (early ≡ true → part < limit) → part ≡ whole
 
--- a sum that was not dropped
-pub up-to-whole : (early : Bool) (limit whole : ℕ) {s : ℕ} → s ≡ whole → UpTo early limit whole s
-up-to-whole early limit whole e = record { within = omega (arith, e); all = λ h. e }
-
--- one that was, before anything was added up
+-- a sum that was dropped before anything was added up
 pub up-to-none : (early : Bool) (limit whole : ℕ) → early ≡ true → limit ≡ 0 → UpTo early limit whole 0
 up-to-none early limit whole t e = record { within = omega arith; all = λ h. absurd (let l : 0 < limit = h t in omega arith) }
 
