@@ -35,7 +35,8 @@ enum {
     SALVRUNDE_ORDER = 9,   /* a block does not start at the next uncovered cell, or none is left */
     SALVRUNDE_GAP = 10,    /* the plan ends with cells uncovered */
     SALVRUNDE_START = 11,  /* the progress record is above the count of blocks, or a range of rows runs backward or leaves the plane */
-    SALVRUNDE_EXCESS = 14  /* a residual is larger than the depth's largest sample, 255, 1023 or 4095: no encoder makes one */
+    SALVRUNDE_EXCESS = 14, /* a residual is larger than the depth's largest sample, 255, 1023 or 4095: no encoder makes one */
+    SALVRUNDE_FULL = 15    /* an error report counts 65,536 pairs, or has more of a mode than its pairs can give */
 };
 
 /* chroma_format_idc, for `format`. */
@@ -64,6 +65,10 @@ enum {
 #define SALVRUNDE_CHOICE_BYTES 8
 /* Bytes of a checksum, the lowest first. */
 #define SALVRUNDE_SUM_BYTES 4
+/* Bytes of an error report: depth, width, height, CTU, pairs and a block number, of 4 bytes each; then for modes 0 to 34 their blocks,
+ * from byte 24 on, their samples, from byte 304 on, and the sums of their squared differences, from byte 584 on, of 8 bytes each. The
+ * lowest byte comes first. A fresh report has its settings and zeros. */
+#define SALVRUNDE_REPORT_BYTES 864
 /* Bytes of a block of side n. */
 #define SALVRUNDE_BLOCK_BYTES(n) (2 * (n) * (n))
 
@@ -148,6 +153,19 @@ uint32_t salvrunde_replay(uint32_t done, uint32_t bits, uint32_t width, uint32_t
  * every call. out: at least SALVRUNDE_SUM_BYTES, which are written. Numbers 1, 4, 5, 7, 11. */
 uint32_t salvrunde_checksum(uint32_t bits, uint32_t width, uint32_t height, uint32_t first, uint32_t end, uint32_t sum,
                             const uint8_t *plane, size_t plane_bytes, uint8_t *out, size_t out_bytes);
+
+/* Counts a pair of planes into an error report: how far b is from a, each block of the plan under its mode, exactly. Luma alone.
+ * a, b: exactly 2 * width * height bytes each, of the report's depth. plan: block records as for replay, which cover the picture.
+ * report: at least SALVRUNDE_REPORT_BYTES, else 5 before all else. A counted pair changes its pairs and its sums; a refused one leaves
+ * them as they were. The four bytes from 20 on get the block that the number is about, else 0.
+ * Numbers 1 and 4 (of the report's settings), 5, 7, each block 2, 3, 6, 9, then 10, 15. */
+uint32_t salvrunde_count_errors(const uint8_t *a, size_t a_bytes, const uint8_t *b, size_t b_bytes, const uint8_t *plan, size_t plan_bytes,
+                                uint8_t *report, size_t report_bytes);
+
+/* Adds another error report of the same depth, picture and CTU to a report: what was counted apart is counted together.
+ * Both have at least SALVRUNDE_REPORT_BYTES, else 5 before all else.
+ * Numbers 1, 4 (also where the settings are not the same), 5, 15 (also where the pairs together are more than 65,536). */
+uint32_t salvrunde_join_errors(const uint8_t *other, size_t other_bytes, uint8_t *report, size_t report_bytes);
 
 #ifdef __cplusplus
 }

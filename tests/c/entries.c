@@ -15,6 +15,9 @@ struct references { uint32_t no; uint16_t corner, above[65], left[65]; };
 struct pair_references { uint32_t no; struct { uint16_t corner, above[65], left[65]; } planes[2]; };
 struct step { uint32_t no, block, did, done; };
 struct answer { uint32_t no, value; };
+struct verdict { uint32_t no, block; };
+struct verdict salvrunde_probe_check_plan(uint32_t width, uint32_t height, uint32_t ctu, const uint32_t *rows, size_t rows_length,
+    const uint32_t *cols, size_t cols_length, const uint32_t *sides, size_t sides_length, const uint32_t *modes, size_t modes_length);
 struct answer salvrunde_probe_picture_checksum(uint32_t bits, uint32_t width, uint32_t height, uint32_t first, uint32_t end, uint32_t sum,
     const uint16_t *plane, size_t plane_length);
 struct references *salvrunde_probe_get_reference_samples(struct references *out, const uint16_t *plane, size_t plane_length, uint32_t bits,
@@ -334,6 +337,27 @@ static void quarters(struct plan *p, uint32_t width, uint32_t height, uint32_t r
     b[0] = row, b[1] = col, b[2] = side, b[3] = chance(35);
 }
 
+/* Its records, as many as there is room for. */
+static void lay(struct lent *l, const struct plan *p) {
+    for (size_t i = 0; 6 * i + 5 < l->length && i < p->count; i++) {
+        const uint32_t *b = p->blocks[i];
+        uint8_t record[6] = {(uint8_t)b[0], (uint8_t)(b[0] >> 8), (uint8_t)b[1], (uint8_t)(b[1] >> 8), (uint8_t)b[2], (uint8_t)b[3]};
+        memcpy(l->bytes + 6 * i, record, 6);
+    }
+    memcpy(l->before, l->bytes, l->length);
+}
+
+/* The numbers of its whole records: rows, then columns, sides and modes, each list count + 1 after the one before. */
+static uint32_t *numbers(const struct lent *l, size_t count) {
+    uint32_t *rows = calloc(4 * count + 4, sizeof *rows), *cols = rows + count + 1, *sides = cols + count + 1, *modes = sides + count + 1;
+    if (!rows) exit(2);
+    for (size_t i = 0; i < count; i++) {
+        const uint8_t *at = l->bytes + 6 * i;
+        rows[i] = at[0] | at[1] << 8, cols[i] = at[2] | at[3] << 8, sides[i] = at[4], modes[i] = at[5];
+    }
+    return rows;
+}
+
 static void replay(void) {
     uint32_t bits = some_bits(), width = 8 * (1 + chance(6)), height = 8 * (1 + chance(6)), ctu = 16u << chance(3), grant, done, no, wanted;
     static struct plan p;
@@ -348,13 +372,7 @@ static void replay(void) {
     size_t samples = (size_t)width * height, plan_bytes = 6 * p.count;
     struct lent l = lend(chance(10) ? plan_bytes : about(plan_bytes)), r = lend(chance(10) ? 4 * samples : about(4 * samples));
     struct lent d = lend(chance(10) ? 2 * samples : about(2 * samples)), o = lend(chance(10) ? 8 : about(8));
-    for (size_t i = 0; 6 * i + 5 < l.length && i < p.count; i++) {
-        uint8_t *at = l.bytes + 6 * i;
-        const uint32_t *b = p.blocks[i];
-        at[0] = (uint8_t)b[0], at[1] = (uint8_t)(b[0] >> 8), at[2] = (uint8_t)b[1], at[3] = (uint8_t)(b[1] >> 8);
-        at[4] = (uint8_t)b[2], at[5] = (uint8_t)b[3];
-    }
-    memcpy(l.before, l.bytes, l.length);
+    lay(&l, &p);
     /* residuals of the depth, some at its ends; in one call of twenty one is beyond them, in another one out of every range */
     int32_t most = bits == 12 ? 4095 : bits == 10 ? 1023 : 255, odd = chance(20) ? 0 : most + 1 + (int32_t)chance(3);
     if (!odd && !chance(20)) odd = 65536 + (int32_t)chance(3);
@@ -365,15 +383,11 @@ static void replay(void) {
     }
     memcpy(r.before, r.bytes, r.length);
     size_t count = l.length / 6;
-    uint32_t *rows = calloc(4 * count + 4, sizeof *rows), *cols = rows + count + 1, *sides = cols + count + 1, *modes = sides + count + 1;
+    uint32_t *rows = numbers(&l, count), *cols = rows + count + 1, *sides = cols + count + 1, *modes = sides + count + 1;
     int32_t *residuals = calloc(samples + 1, sizeof *residuals);
     uint16_t *plane = decoded(&d, samples);
     uint8_t *bytes = calloc(2 * samples + 1, 1), result[8];
-    if (!rows || !residuals || !bytes) exit(2);
-    for (size_t i = 0; i < count; i++) {
-        const uint8_t *at = l.bytes + 6 * i;
-        rows[i] = at[0] | at[1] << 8, cols[i] = at[2] | at[3] << 8, sides[i] = at[4], modes[i] = at[5];
-    }
+    if (!residuals || !bytes) exit(2);
     for (size_t i = 0; i < samples && 4 * i + 3 < r.length; i++) residuals[i] = residual(&r, i);
     int fits = l.length % 6 == 0 && r.length == 4 * samples && d.length == 2 * samples && o.length >= 8;
     struct step door = salvrunde_probe_replay(done, bits, width, height, ctu, rows, count, cols, count, sides, count, modes, count,
@@ -390,11 +404,77 @@ static void replay(void) {
     free(rows), free(residuals), free(plane), free(bytes), give_back(&l), give_back(&r), give_back(&d), give_back(&o);
 }
 
+/* What a pair of planes has by mode, block by block: a report of this pair alone, from byte 16 on. */
+static void count_pair(uint8_t *report, const struct lent *planes, uint32_t width, const uint32_t *rows, size_t count) {
+    const uint32_t *cols = rows + count + 1, *sides = cols + count + 1, *modes = sides + count + 1;
+    uint64_t figures[3][35] = {{0}};
+    for (size_t i = 0; i < count; i++) {
+        figures[0][modes[i]]++, figures[1][modes[i]] += (uint64_t)sides[i] * sides[i];
+        for (uint32_t k = 0; k < sides[i] * sides[i]; k++) {
+            size_t at = 2 * ((size_t)(rows[i] + k / sides[i]) * width + cols[i] + k % sides[i]);
+            int32_t d = (planes[0].bytes[at] | planes[0].bytes[at + 1] << 8) - (planes[1].bytes[at] | planes[1].bytes[at + 1] << 8);
+            figures[2][modes[i]] += (uint64_t)(d * d);
+        }
+    }
+    spell4(report + 16, 1);
+    for (int f = 0; f < 3; f++)
+        for (int m = 0; m < 35; m++) {
+            uint8_t *to = report + 24 + 280 * f + 8 * m;
+            spell4(to, (uint32_t)figures[f][m]), spell4(to + 4, (uint32_t)(figures[f][m] >> 32));
+        }
+}
+
+/* A plane of a depth, one sample of some thousands at its end or past it; whether one is past it. */
+static int fill_plane(struct lent *p, uint32_t most) {
+    int high = 0;
+    for (size_t i = 0; 2 * i + 1 < p->length; i++) {
+        uint32_t v = chance(2000) ? chance(most + 1) : most + chance(2);
+        high |= v > most;
+        p->bytes[2 * i] = (uint8_t)v, p->bytes[2 * i + 1] = (uint8_t)(v >> 8);
+    }
+    memcpy(p->before, p->bytes, p->length);
+    return high;
+}
+
+/* An error report of one pair: the plan check's door tells the plan's verdict. */
+static void errors(void) {
+    uint32_t bits = some_bits(), width = 8 * (1 + chance(6)), height = 8 * (1 + chance(6)), ctu = 16u << chance(3), no, wanted;
+    static struct plan p;
+    p.count = 0;
+    for (uint32_t row = 0; row < height; row += ctu)
+        for (uint32_t col = 0; col < width; col += ctu) quarters(&p, width, height, row, col, ctu);
+    if (!chance(6)) p.blocks[chance((uint32_t)p.count)][chance(4)] = chance(80);
+    if (!chance(15)) width = chance(60);
+    size_t samples = (size_t)width * height, room = SALVRUNDE_REPORT_BYTES;
+    struct lent l = lend(chance(10) ? 6 * p.count : about(6 * p.count)), o = lend(chance(10) ? room : about(room));
+    struct lent planes[2] = {lend(chance(10) ? 2 * samples : about(2 * samples)), lend(chance(10) ? 2 * samples : about(2 * samples))};
+    lay(&l, &p);
+    uint32_t most = bits == 12 ? 4095 : bits == 10 ? 1023 : 255;
+    int high = fill_plane(&planes[0], most) | fill_plane(&planes[1], most);
+    uint8_t bytes[SALVRUNDE_REPORT_BYTES] = {0};
+    spell4(bytes, bits), spell4(bytes + 4, width), spell4(bytes + 8, height), spell4(bytes + 12, ctu);
+    memcpy(o.bytes, bytes, o.length < room ? o.length : room), memcpy(o.before, o.bytes, o.length);
+    size_t count = l.length / 6;
+    uint32_t *rows = numbers(&l, count), *cols = rows + count + 1, *sides = cols + count + 1, *modes = sides + count + 1;
+    struct verdict door = salvrunde_probe_check_plan(width, height, ctu, rows, count, cols, count, sides, count, modes, count);
+    int fits = l.length % 6 == 0 && planes[0].length == 2 * samples && planes[1].length == 2 * samples;
+    wanted = o.length < room ? 5 : bits != 8 && bits != 10 && bits != 12 ? 1 : door.no == 4 ? 4 : !fits ? 5 : high ? 7 : door.no;
+    no = salvrunde_count_errors(planes[0].bytes, planes[0].length, planes[1].bytes, planes[1].length, l.bytes, l.length, o.bytes, o.length);
+    calls++;
+    if (no != wanted) fail("errors", "number", no, wanted);
+    spell4(bytes + 20, no == door.no ? door.block : 0);
+    if (no == 0) count_pair(bytes, planes, width, rows, count);
+    check("errors", &l, NULL, 0), check("errors", &planes[0], NULL, 0), check("errors", &planes[1], NULL, 0);
+    check("errors", &o, bytes, o.length >= room ? room : 0);
+    served += no == 0;
+    free(rows), give_back(&l), give_back(&o), give_back(&planes[0]), give_back(&planes[1]);
+}
+
 /* entries TURNS LAYOUT: `guarded` or `exact` */
 int main(int count, char **words) {
     long turns = count > 1 ? atol(words[1]) : 1000;
     exact_layout = count > 2 && !strcmp(words[2], "exact");
-    for (long i = 0; i < turns; i++) predictions(), choose(), luma(), chroma(), checksum(), replay();
+    for (long i = 0; i < turns; i++) predictions(), choose(), luma(), chroma(), checksum(), replay(), errors();
     printf("%lu calls, %lu served, 0 differ (%s)\n", calls, served, exact_layout ? "exact" : "guarded");
     return calls < 4 || served < calls / 8;
 }

@@ -11,7 +11,7 @@ typedef unsigned long word;
 enum { WIDTH = 64, HEIGHT = 64, SAMPLES = WIDTH * HEIGHT, DEEP = 64 * 1024, PAINT = 0xA5 };
 
 static uint8_t plane[2 * SAMPLES], other[2 * SAMPLES], residuals[4 * SAMPLES], rows[524], above[130], left[130], block[2048], source[2048], result[8];
-static uint8_t plan[6 * 256];
+static uint8_t plan[6 * 256], report[SALVRUNDE_REPORT_BYTES], more[SALVRUNDE_REPORT_BYTES];
 
 static long system_call(long number, long a, long b, long c) {
     long r;
@@ -78,6 +78,20 @@ static uint32_t substitution(void) {
 
 static uint32_t checksum(void) { return salvrunde_checksum(12, WIDTH, HEIGHT, 0, HEIGHT, 0, plane, sizeof plane, result, sizeof result); }
 
+/* Error reports of 8 bits, fresh; what is counted is the plane that the replays left, beside itself. */
+static void settle(uint8_t *r) {
+    for (word i = 0; i < SALVRUNDE_REPORT_BYTES; i++) r[i] = 0;
+    r[0] = 8, r[4] = WIDTH, r[8] = HEIGHT, r[12] = 64;
+}
+static uint32_t count_errors(void) {
+    settle(report);
+    return salvrunde_count_errors(plane, sizeof plane, plane, sizeof plane, plan, 6 * (WIDTH / side * (HEIGHT / side)), report, sizeof report);
+}
+static uint32_t join_errors(void) {
+    settle(more);
+    return salvrunde_join_errors(report, sizeof report, more, sizeof more);
+}
+
 /* The plan of one CTU in blocks of `side`, all of one mode: block i lies where the bits of i say, column bit below row bit. */
 static void lay_plan(void) {
     for (uint32_t i = 0; i < WIDTH / side * (HEIGHT / side); i++) {
@@ -129,5 +143,7 @@ int main(void) {
     tell("replay", replay, 0, 34, 8192);
     tell("substitution", substitution, 0, 3, 768);
     tell("checksum", checksum, 0, 0, 1024); /* of the plane that the replays left: samples of 8 bits */
+    tell("count_errors", count_errors, 0, 34, 6144);
+    tell("join_errors", join_errors, 0, 0, 8192);
     return over;
 }

@@ -126,6 +126,39 @@ int main(void) {
         HOLDS(salvrunde_replay(1, 8, 16, 8, 16, 9, plan, sizeof plan, residuals, sizeof residuals, still, sizeof still, result, sizeof result) == SALVRUNDE_RESIDUAL);
     }
 
+    /* error reports: document 02's figures, each refusal of a record and of a pair, and a sum of two */
+    {
+        static const uint8_t plan[2 * SALVRUNDE_RECORD_BYTES] = {0, 0, 0, 0, 8, 1, 0, 0, 8, 0, 8, 1};
+        static const uint8_t other[2 * SALVRUNDE_RECORD_BYTES] = {0, 0, 0, 0, 8, 5, 0, 0, 8, 0, 8, 1};
+        static uint8_t a[2 * 16 * 8], b[2 * 16 * 8], report[SALVRUNDE_REPORT_BYTES + 1], more[SALVRUNDE_REPORT_BYTES];
+        report[0] = more[0] = 8, report[4] = more[4] = 16, report[8] = more[8] = 8, report[12] = more[12] = 16;
+        fill(a, 128, 10), fill(b, 128, 13), report[SALVRUNDE_REPORT_BYTES] = 9;
+        HOLDS(salvrunde_count_errors(a, sizeof a, b, sizeof b, plan, sizeof plan, report, sizeof report) == SALVRUNDE_DONE);
+        HOLDS(report[16] == 1 && report[24 + 8] == 2 && report[304 + 8] == 128 && report[584 + 8] == 0x80 && report[584 + 9] == 4);
+        fill(a, 128, 0), fill(b, 64, 0), fill(b, 128, 255);
+        HOLDS(salvrunde_count_errors(a, sizeof a, b, sizeof b, other, sizeof other, more, sizeof more) == SALVRUNDE_DONE);
+        HOLDS(more[24 + 8] == 1 && more[24 + 40] == 1 && more[584 + 40] == 0x40 && more[584 + 41] == 0x80 && more[584 + 42] == 0x3f);
+        HOLDS(salvrunde_join_errors(more, sizeof more, report, sizeof report) == SALVRUNDE_DONE);
+        HOLDS(report[16] == 2 && report[24 + 8] == 3 && report[304 + 8] == 192 && report[584 + 8] == 0xc0 && report[584 + 9] == 0x84);
+        HOLDS(report[584 + 10] == 0x3f && report[SALVRUNDE_REPORT_BYTES] == 9);
+        HOLDS(salvrunde_count_errors(a, sizeof a, b, sizeof b, plan, 6, report, sizeof report) == SALVRUNDE_GAP && report[16] == 2);
+        HOLDS(salvrunde_count_errors(a, sizeof a, b, sizeof b, plan + 6, 6, report, sizeof report) == SALVRUNDE_ORDER);
+        HOLDS(salvrunde_count_errors(a, sizeof a, b, sizeof b - 2, plan, sizeof plan, report, sizeof report) == SALVRUNDE_BUFFER);
+        HOLDS(salvrunde_count_errors(a, sizeof a, b, sizeof b, plan, sizeof plan, report, 863) == SALVRUNDE_BUFFER);
+        more[24]++;
+        HOLDS(salvrunde_join_errors(more, sizeof more, report, sizeof report) == SALVRUNDE_DONE && report[24] == 1 && report[16] == 3);
+        more[304 + 8 * 34 + 1] = 1;
+        HOLDS(salvrunde_join_errors(more, sizeof more, report, sizeof report) == SALVRUNDE_FULL && report[16] == 3);
+        more[12] = 32;
+        HOLDS(salvrunde_join_errors(more, sizeof more, report, sizeof report) == SALVRUNDE_PICTURE);
+        report[18] = 1;
+        HOLDS(salvrunde_count_errors(a, sizeof a, b, sizeof b, plan, sizeof plan, report, sizeof report) == SALVRUNDE_FULL);
+        b[1] = 1;
+        HOLDS(salvrunde_count_errors(a, sizeof a, b, sizeof b, plan, 6, report, sizeof report) == SALVRUNDE_SAMPLE);
+        report[0] = 9;
+        HOLDS(salvrunde_count_errors(a, sizeof a, b, sizeof b, plan, 6, report, sizeof report) == SALVRUNDE_DEPTH);
+    }
+
     /* the checksum of document 02's steps, 4y + x on 4 by 4 samples: all rows, two halves, and each refusal */
     {
         static uint8_t steps[2 * 4 * 4], sum[SALVRUNDE_SUM_BYTES + 1] = {9, 9, 9, 9, 9};

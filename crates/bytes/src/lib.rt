@@ -3,11 +3,13 @@
 pub mod pairs;
 
 ghost use mathlib.Core.Path.{_≡_};
-ghost use Prim.Native.Nat.{_+_, _*_, _/_, _%_, _<_};
-ghost use lib.Dec.{eqb};
+ghost use Prim.Native.Nat.{ℕ, _+_, _*_, _/_, _%_, _<_};
+ghost use lib.Dec.{eqb, leb};
+ghost use lib.ListN.{length, getD};
 ghost use mir.Syntax.{w32};
 ghost use mir.Val.{toZ};
-ghost use Rattle.bytes.specs.Bytes.{le2, le4, residual4, byte1, byte2, byte3};
+ghost use Rattle.laws.specs.Every.{every};
+ghost use Rattle.bytes.specs.Bytes.{le2, le4, residual4, byte1, byte2, byte3, samplesOf};
 
 // A byte as a wider number, and that it is one.
 fn wide(x: u8) -> u32
@@ -28,6 +30,28 @@ pub fn whole_in(bytes: usize, samples: usize) -> bool
     ensures { λ r. ⌜ r ≡ eqb bytes (2 * samples) ⌝ }
 {
     (bytes % 2 == 0) & (bytes / 2 == samples)
+}
+
+// The sample of two bytes of a plane.
+fn sample_at(plane: &[u8], i: usize) -> u16
+    requires { ⌜ 2 * i + 1 < length (now plane) ⌝ }
+    ensures { λ v. ⌜ v ≡ getD (samplesOf (now (plane .entry))) i 0 ⌝ }
+{
+    sample(plane[2 * i], plane[2 * i + 1])
+}
+
+// Number 7: whether no sample of a plane is above the largest one.
+pub fn samples_ok(plane: &[u8], largest: u16) -> bool
+    ensures { λ b. ⌜ b ≡ every (λ (v : ℕ). leb v largest) (samplesOf (now (plane .entry))) ⌝ }
+{
+    let count = plane.len() / 2;
+    let mut ok = true;
+    let mut i = 0;
+    while i < count {
+        ok = ok & (sample_at(plane, i) <= largest);
+        i += 1;
+    }
+    ok
 }
 
 // The number of four bytes.

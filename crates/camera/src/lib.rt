@@ -18,7 +18,9 @@ ghost use Rattle.camera.specs.gather.Entry.{lumaEntry, chromaEntry};
 ghost use Rattle.checksum.specs.Checksum.{rowRange};
 ghost use Rattle.camera.specs.sums.Entry.{checksumEntry};
 ghost use Rattle.camera.specs.choice.Entry.{choiceNo, choiceSums, ChoosesInto};
+ghost use Rattle.errors.specs.RecordBytes.{entered, countEntry, joinEntry};
 use checksum::RowRange;
+use errors::record;
 use fmt::ChromaCol;
 use fmt::ChromaRow;
 use fmt::LumaCol;
@@ -263,4 +265,22 @@ pub extern "C" fn salvrunde_checksum(
         end,
     };
     sums::store_checksum(plane, range, sum, out)
+}
+
+// Counts a pair of planes of bytes under a plan of bytes into a record of 864 bytes (document 02, Wish 14): how far b is from a. The block
+// number stands at byte 20 of the record. Numbers 1, 4, 5, 7, each block 2, 3, 6, 9, then 10, 15.
+#[no_mangle]
+pub extern "C" fn salvrunde_count_errors(a: &[u8], b: &[u8], plan: &[u8], report: &mut [u8]) -> u32
+    ensures { λ r. ⌜ entered r (now (report .exit)) ≡ countEntry (now (a .entry)) (now (b .entry)) (now (plan .entry))
+        (now (report .entry)) ⌝ }
+{
+    record::count_into(a, b, plan, report)
+}
+
+// Adds another record to a record. Numbers 1, 4, 5, 15.
+#[no_mangle]
+pub extern "C" fn salvrunde_join_errors(other: &[u8], report: &mut [u8]) -> u32
+    ensures { λ r. ⌜ entered r (now (report .exit)) ≡ joinEntry (now (other .entry)) (now (report .entry)) ⌝ }
+{
+    record::join_into(other, report)
 }

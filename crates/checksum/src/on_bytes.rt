@@ -3,9 +3,8 @@
 ghost use mathlib.Core.Path.{_≡_};
 ghost use mathlib.Core.Bool.{_&&_};
 ghost use Prim.Native.Nat.{ℕ, _+_, _-_, _*_, _≤_, _<_};
-ghost use lib.Dec.{leb, eqb};
+ghost use lib.Dec.{eqb};
 ghost use lib.ListN.{length, getD};
-ghost use Rattle.laws.specs.Every.{every};
 ghost use Rattle.laws.specs.Sum.{total};
 ghost use Rattle.bytes.specs.Bytes.{samplesOf};
 ghost use Rattle.h265.specs.Checksum.{sumRows};
@@ -57,26 +56,12 @@ fn rows_sum(plane: &[u8], r: RowRange, roomy: bool, sum: u32) -> u32
     sum
 }
 
-// Number 7: whether every sample is one of the depth's.
-fn samples_ok(plane: &[u8], largest: u16) -> bool
-    ensures { λ b. ⌜ b ≡ every (λ (v : ℕ). leb v largest) (samplesOf (now (plane .entry))) ⌝ }
-{
-    let count = plane.len() / 2;
-    let mut ok = true;
-    let mut i = 0;
-    while i < count {
-        ok = ok & (sample_at(plane, i) <= largest);
-        i += 1;
-    }
-    ok
-}
-
 // The checksum of a range of rows of a plane's bytes, from the sum so far. `roomy` tells whether the caller has room for the sum: where it
 // has none the call is refused with 5.
 pub fn picture_checksum_bytes(plane: &[u8], r: RowRange, sum: u32, roomy: bool) -> Summed
     ensures { λ v. ⌜ v ≡ checksumOnBytes r roomy (now (plane .entry)) sum ⌝ }
 {
-    let ok = samples_ok(plane, depth::largest_of(r.bits));
+    let ok = bytes::samples_ok(plane, depth::largest_of(r.bits));
     let whole = bytes::whole_in(plane.len(), crate::area(r));
     let no = crate::number_by(r, roomy & whole, ok);
     if no != 0 {

@@ -4,6 +4,8 @@ pub mod Check
 -- Cover: the running count decides exactly; blocks of a good plan are apart, and fill the picture. It rests on the tests.
 pub mod Tests
 pub mod Cover
+-- Sums: what the blocks of a good plan add up to.
+pub mod Sums
 -- The cells counted: the cell that has a number, counts, the picture's cells, and the loop's turns.
 pub mod Cell
 pub mod Count

@@ -24,6 +24,9 @@ use Rattle.fmt.specs.declared.depth.DepthFrom.the-variants.{Depth, Refused}
 use Rattle.fmt.specs.depth.Depth.{depthFrom, depthNumber}
 use Rattle.refs.specs.Door.{lumaBlock, lumaGeometry, chromaBlock, chromaGeometry}
 use Rattle.checksum.specs.Checksum.{rowRange}
+use Rattle.errors.specs.declared.Counted.{Counted}
+use Rattle.errors.specs.Errors.{countedBy}
+use Rattle.errors.specs.RecordBytes.{Entered, countEntry}
 use Rattle.predict.specs.refusals.Refusals.{lengths}
 use Rattle.plan.specs.declared.tiling.Verdict.{Verdict}
 use Rattle.plan.specs.tiling.Plan.{planOf, listed}
@@ -34,6 +37,7 @@ use Rattle.camera.specs.replay.Verdict.{Lent}
 use Rattle.camera.specs.replay.Door.{After, blockWritten, replayed}
 use Rattle.report.specs.declared.Printout.{Printout}
 use Rattle.report.specs.Told.{reportOf}
+use Rattle.probes.specs.error_probes.Probes.{reportWith}
 use Rattle.probes.specs.Probes.{figuresOf}
 use Rattle.probes.specs.walk_probes.Probes.{stillOf}
 use Rattle.promises.specs.tables.Exact.{Row, Exact, ExactFirst}
@@ -50,8 +54,11 @@ use Rattle.promises.specs.run_tables.TableBytes as bytes
 use Rattle.promises.specs.run_tables.TableProgram.{ProgramTable, program}
 use Rattle.promises.specs.run_tables.TableChecksum as sums
 use Rattle.promises.specs.run_tables.TableChoose.{choose-mode, choose}
+use Rattle.promises.specs.run_tables.TableErrors as pairs
 use Rattle.camera.proofs.salvrunde_angular.Reads as camera-salvrunde-angular
 use Rattle.camera.proofs.salvrunde_checksum.Reads as camera-salvrunde-checksum
+use Rattle.camera.proofs.salvrunde_count_errors.Reads as camera-salvrunde-count-errors
+use Rattle.camera.proofs.salvrunde_join_errors.Reads as camera-salvrunde-join-errors
 use Rattle.camera.proofs.salvrunde_chroma_block.Reads as camera-salvrunde-chroma-block
 use Rattle.camera.proofs.salvrunde_luma_block.Reads as camera-salvrunde-luma-block
 use Rattle.camera.proofs.salvrunde_choose.Reads as camera-salvrunde-choose
@@ -65,6 +72,12 @@ use Rattle.checksum.proofs.on_bytes.picture_checksum_bytes.Reads as on-bytes-pi
 use Rattle.checksum.proofs.picture_checksum.Reads as checksum-picture-checksum
 use Rattle.choose.proofs.choose_early.Reads as choose-choose-early
 use Rattle.choose.proofs.choose_mode.Reads as choose-choose-mode
+use Rattle.errors.proofs.Report.count_numbers.Reads as errors-count-numbers
+use Rattle.errors.proofs.Report.count as errors-count
+use Rattle.errors.proofs.Report.join.Reads as errors-join
+use Rattle.errors.proofs.on_bytes.count_bytes.Reads as on-bytes-count-bytes
+use Rattle.errors.proofs.record.count_into.Reads as record-count-into
+use Rattle.errors.proofs.record.join_into.Reads as record-join-into
 use Rattle.fmt.proofs.depth.BitDepth.from_bits.Reads as depth-from-bits
 use Rattle.order.proofs.chroma_reach.Reads as order-chroma-reach
 use Rattle.order.proofs.decode_order.Reads as order-decode-order
@@ -108,6 +121,7 @@ use Rattle.probes.proofs.salvrunde_probe_is_available.Reads as probes-salvrunde
 use Rattle.probes.proofs.salvrunde_probe_picture_checksum.Reads as probes-salvrunde-probe-picture-checksum
 use Rattle.probes.proofs.salvrunde_probe_should_filter_refs.Reads as probes-salvrunde-probe-should-filter-refs
 use Rattle.probes.proofs.salvrunde_probe_substitute_refs.Reads as probes-salvrunde-probe-substitute-refs
+use Rattle.probes.proofs.error_probes.salvrunde_probe_count_errors.Reads as error-probes-salvrunde-probe-count-errors
 use Rattle.probes.proofs.walk_probes.salvrunde_probe_check_plan.Reads as walk-probes-salvrunde-probe-check-plan
 use Rattle.probes.proofs.walk_probes.salvrunde_probe_replay.Reads as walk-probes-salvrunde-probe-replay
 use Rattle.probes.proofs.walk_probes.salvrunde_probe_replay_records as walk-probes-salvrunde-probe-replay-records
@@ -210,6 +224,44 @@ on-bytes-picture-checksum-bytes-row : (κs : Lfts 1)
     → Tabled (on-bytes-picture-checksum-bytes.Post κs) (λ r. r .no)
     (λ a. sums.picture-checksum-bytes (a .1 .0) (a .1 .1 .1 .0) (now (a .0)) (a .1 .1 .0))
 on-bytes-picture-checksum-bytes-row κs = tabled (λ a x s p. ap (λ r. r .no) p)
+
+-- errors: number and block of an answer, and of an entry the number beside the block that stands in its record
+abbrev countedIn : Counted → Verdict
+countedIn v = about (v .no) (v .block)
+
+errors-count-numbers-row : (κs : Lfts 6)
+    → TabledFirst (errors-count-numbers.Post κs) (λ a r. countedIn r)
+    (λ a. let b = a .1 .1 .1 .1 in
+    pairs.count-pair (a .0) (now (a .1 .0)) (now (a .1 .1 .0))
+    (planOf (now (a .1 .1 .1 .0)) (now (b .0)) (now (b .1 .0)) (now (b .1 .1 .0))))
+unfolding countedBy
+errors-count-numbers-row κs = tabled-first (λ a x s p. ap countedIn p)
+
+on-bytes-count-bytes-row : (κs : Lfts 3)
+    → TabledFirst (on-bytes-count-bytes.Post κs) (λ a r. countedIn r)
+    (λ a. pairs.count-bytes (a .0) (now (a .1 .0)) (now (a .1 .1 .0)) (now (a .1 .1 .1 .0)))
+unfolding countedBy
+on-bytes-count-bytes-row κs = tabled-first (λ a x s p. ap countedIn p)
+
+errors-join-row : Tabled (errors-join.Post tt) (λ r. r .no) (λ a. pairs.join (a .0) (a .1 .0))
+errors-join-row = tabled (λ a x s p. ap (λ r. r .no) p)
+
+-- the number that an entry gives, with its block
+abbrev enteredIn : List ℕ → List ℕ → List ℕ → List ℕ → ℕ → Verdict
+enteredIn a b plan d number = about number (pairs.entryVerdict a b plan d .block)
+
+entered-number : (a b plan d : List ℕ) {number : ℕ} {after : List ℕ} → record { number = number; bytes = after } ≡ countEntry a b plan d
+    → enteredIn a b plan d number ≡ pairs.entryVerdict a b plan d
+entered-number a b plan d p = ap (enteredIn a b plan d) (ap (λ (w : Entered). w .number) p ∙ pairs.entry-number a b plan d)
+
+record-count-into-row : (κs : Lfts 4)
+    → TabledFirst (record-count-into.Post κs) (λ a r. enteredIn (now (a .0)) (now (a .1 .0)) (now (a .1 .1 .0)) (now (a .1 .1 .1 .0)) r)
+    (λ a. pairs.count-entry (now (a .0)) (now (a .1 .0)) (now (a .1 .1 .0)) (now (a .1 .1 .1 .0)))
+record-count-into-row κs = tabled-first (λ a x s p. entered-number _ _ _ _ p)
+
+record-join-into-row : (κs : Lfts 2)
+    → Tabled (record-join-into.Post κs) (λ r. r) (λ a. pairs.join-entry (now (a .0)) (now (a .1 .0)))
+record-join-into-row κs = tabled (λ a x s p. ap (λ (w : Entered). w .number) p)
 
 -- smooth
 smooth-should-filter-refs-row : Tabled (smooth-should-filter-refs.Post tt) (λ r. r .no) (λ a. should-filter-refs (a .0) (a .1 .0))
@@ -401,6 +453,16 @@ camera-salvrunde-checksum-row : (κs : Lfts 2)
     sums.checksum (rowRange (a .0) (a .1 .0) (a .1 .1 .0) (a .1 .1 .1 .0) (b .0)) (b .1 .0) (now (b .1 .1 .0)) (now (b .1 .1 .1 .0)))
 camera-salvrunde-checksum-row κs = tabled (λ a x s p. ap (λ (w : Written). w .number) p)
 
+camera-salvrunde-count-errors-row : (κs : Lfts 4)
+    → TabledFirst (camera-salvrunde-count-errors.Post κs)
+    (λ a r. enteredIn (now (a .0)) (now (a .1 .0)) (now (a .1 .1 .0)) (now (a .1 .1 .1 .0)) r)
+    (λ a. pairs.count-entry (now (a .0)) (now (a .1 .0)) (now (a .1 .1 .0)) (now (a .1 .1 .1 .0)))
+camera-salvrunde-count-errors-row κs = tabled-first (λ a x s p. entered-number _ _ _ _ p)
+
+camera-salvrunde-join-errors-row : (κs : Lfts 2)
+    → Tabled (camera-salvrunde-join-errors.Post κs) (λ r. r) (λ a. pairs.join-entry (now (a .0)) (now (a .1 .0)))
+camera-salvrunde-join-errors-row κs = tabled (λ a x s p. ap (λ (w : Entered). w .number) p)
+
 -- the replay's number, with the block number that it writes
 abbrev lent : List ℕ → List ℕ → List ℕ → List ℕ → Lent
 lent plan residuals plane result = record { plan = plan; residuals = residuals; plane = length plane; result = length result }
@@ -554,6 +616,14 @@ predict-probes-salvrunde-probe-reconstruct-into-row : (κs : Lfts 3)
     (λ a. let b = a .1 .1 .1 .1 in reconstruct (a .1 .1 .1 .0) (a .1 .1 .0) (now (a .0)) (now (a .1 .0)) (now (b .0)))
 predict-probes-salvrunde-probe-reconstruct-into-row κs = tabled (λ a x s p. p .0)
 
+error-probes-salvrunde-probe-count-errors-row : (κs : Lfts 9)
+    → TabledFirst (error-probes-salvrunde-probe-count-errors.Post κs) (λ a r. about (r .no) (r .block))
+    (λ a. let b = a .1 .1 .1 .1 in let c = b .1 .1 .1 .1 in let d = c .1 .1 .1 .1 in
+    pairs.count-pair (reportWith (a .0) (a .1 .0) (a .1 .1 .0) (a .1 .1 .1 .0) (b .0) (now (b .1 .0)) (now (b .1 .1 .0)) (now (b .1 .1 .1 .0)))
+    (now (c .0)) (now (c .1 .0)) (planOf (now (c .1 .1 .0)) (now (c .1 .1 .1 .0)) (now (d .0)) (now (d .1 .0))))
+unfolding countedBy
+error-probes-salvrunde-probe-count-errors-row κs = tabled-first (λ a x s p. ap (λ r. about (r .no) (r .block)) p)
+
 walk-probes-salvrunde-probe-check-plan-row : (κs : Lfts 4)
     → TabledFirst (walk-probes-salvrunde-probe-check-plan.Post κs) (λ a r. about (r .no) (r .block))
     (λ a. let b = a .1 .1 .1 .1 in
@@ -646,6 +716,13 @@ module _ {M : Type 1} (𝓤 : URA M) (H : Heap 𝓤) (A : Atoms 𝓤) (mem : Mem
       → TabledHeldFirst plan-check-plan.ended κs (plan-check-plan.clauses 𝓤 H A mem run) (λ a r. r)
       (λ a. check-plan (a .0) (listed (now (a .1 .0))))
   plan-check-plan-row κs = tabled-held-first (λ a g x s. fact-mono 𝓤 _ _ (λ p. p))
+
+  -- errors
+  errors-count-row : (κs : Lfts 3)
+      → TabledHeldFirst errors-count.ended κs (errors-count.clauses 𝓤 H A mem run) (λ a r. countedIn r)
+      (λ a. pairs.count-pair (a .0) (now (a .1 .0)) (now (a .1 .1 .0)) (listed (now (a .1 .1 .1 .0))))
+  unfolding countedBy
+  errors-count-row κs = tabled-held-first (λ a g x s. fact-mono 𝓤 _ _ (λ p. ap countedIn p))
 
   -- walk
   walk-replay-row : (κs : Lfts 4)

@@ -15,6 +15,8 @@ pub mod checksum
 pub mod choose
 -- Lenses: several lenses under one plan take turns with one scratch, and each has what it would have alone.
 pub mod lenses
+-- Errors: a report counts what its pairs have, each block under its mode, in any order and in any parts.
+pub mod errors
 pub mod tables
 pub mod run_tables
 pub mod one_answer

@@ -6,6 +6,7 @@ pub mod TableWalk
 pub mod TableBytes
 pub mod TableChecksum
 pub mod TableChoose
+pub mod TableErrors
 pub mod TableProgram
 -- Refused: what a refused walk, replay or entry gives back, and that it leaves what is lent untouched.
 pub mod Refused

@@ -404,6 +404,17 @@ unsafe extern "C" {
         out_bytes: usize,
     ) -> u32;
 
+    pub fn salvrunde_count_errors(
+        a: *const u8,
+        a_len: usize,
+        b: *const u8,
+        b_len: usize,
+        plan: *const u8,
+        plan_len: usize,
+        report: *mut u8,
+        report_len: usize,
+    ) -> u32;
+
     pub fn salvrunde_replay(
         done: u32,
         bits: u32,

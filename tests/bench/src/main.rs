@@ -5,7 +5,8 @@
 //! through, and the entry with the whole door behind it. Functions that take rows are also timed built into one that knows the
 //! rows' lengths, and the better of both counts for the Rust. Buffers are lent again and again and not cleared between calls. Both sides' answers are compared
 //! before they are timed. `bench against`, where the driver was built with another commit's
-//! archives too, times the entries of both; `bench bytes` times the entries on bytes alone, `bench choose` the choice of a mode; `bench modes` adds a line for every angular mode and side.
+//! archives too, times the entries of both; `bench bytes` times the entries on bytes alone, `bench choose` the choice of a mode,
+//! `bench errors` the error report; `bench modes` adds a line for every angular mode and side.
 //!
 //! A subject whose entries the probes do not have yet is left out; see build.rs.
 #![cfg_attr(against, allow(clashing_extern_declarations))] // the list of both sides' entries declares them without their arguments
@@ -23,6 +24,8 @@ mod checksum;
 mod choose;
 #[allow(dead_code)] // what subjects that are left out call
 mod entries;
+#[cfg(all(entry = "walk", entry = "replay"))]
+mod errors;
 #[cfg(all(entry = "predict_planar_into", entry = "predict_dc_into"))]
 mod flat;
 #[allow(dead_code)] // what subjects that are left out call
@@ -79,6 +82,8 @@ const SUBJECTS: &[Subject] = &[
     checksum::time,
     #[cfg(entry = "choose_mode")]
     choose::time,
+    #[cfg(all(entry = "walk", entry = "replay"))]
+    errors::time,
     // the last two, for each has a table of its own
     #[cfg(all(entry = "walk", entry = "replay"))]
     walk::time,
@@ -117,6 +122,11 @@ fn main() {
     #[cfg(entry = "choose_mode")]
     if asked("choose") {
         choose::time(&mut table);
+        return table.finish(MISSING);
+    }
+    #[cfg(all(entry = "walk", entry = "replay"))]
+    if asked("errors") {
+        errors::time(&mut table);
         return table.finish(MISSING);
     }
     let chosen = if asked("bytes") { &SUBJECTS[SUBJECTS.len() - 1..] } else { SUBJECTS };

@@ -13,6 +13,7 @@ mod choose;
 mod clauses;
 mod differences;
 mod entries;
+mod errors;
 mod fmt;
 mod frame;
 mod host;
@@ -82,6 +83,7 @@ const SUBJECTS: &[(&str, Subject)] = &[
     ("messages", checksum::messages),
     ("choose", choose::choose),
     ("chosen plans", walk::chosen),
+    ("errors", errors::errors),
 ];
 
 fn main() -> ExitCode {

@@ -7,6 +7,7 @@ use native.Mathlib.Omega.{arith}
 use native.Mathlib.Decide.{ℕ-discrete}
 use lib.IntN.{ℤ}
 use Rattle.laws.specs.Choose.{worked, unserved}
+use Rattle.laws.specs.Every.{most-at}
 use Rattle.plan.specs.declared.tiling.Verdict.{Verdict}
 use Rattle.plan.specs.tiling.Plan.{Plan}
 use Rattle.plan.specs.tiling.Tiling.{place}
@@ -25,7 +26,7 @@ use Rattle.promises.specs.demand3.Calls.{replayVerdictAt, replayCall}
 use Rattle.promises.specs.demand3.Chains.{next, does, refuses}
 use Rattle.promises.specs.demand3.Accept.{Walking, Replaying, walk-told, replay-told, walk-steps, replay-steps}
 use Rattle.promises.specs.demand3.Blocks.{replay-settled, walk-settled}
-use Rattle.promises.specs.demand3.Spots.{at, most-at, spot, spot-of, spot-residual, spot-less, spot-added}
+use Rattle.promises.specs.demand3.Spots.{at, spot, spot-of, spot-residual, spot-less, spot-added}
 use Rattle.promises.specs.demand3.Demand3.{WalkDoes, ReplayDoes, WalkGave, ReplayGave}
 
 -- what calls that are served do together

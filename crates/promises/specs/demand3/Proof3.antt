@@ -10,7 +10,7 @@ use borrow.Author.Tests.{le-leb, leb-true}
 use contract.Monad.{fact-mono}
 use Rattle.laws.specs.Chain.{units}
 use Rattle.laws.specs.Choose.{firstFail, passed}
-use Rattle.laws.specs.Every.{every}
+use Rattle.laws.specs.Every.{every, every-of, every-at, most-at}
 use Rattle.domain.specs.Facts.{Depth, at-depth, size-small}
 use Rattle.plan.specs.tiling.Tiling.{Covered, place}
 use Rattle.plan.specs.tiling.Cover.{area}
@@ -32,7 +32,7 @@ use Rattle.promises.specs.demand3.Accept.{Walking, Replaying, walk-told,
 use Rattle.promises.specs.demand3.Range.{predicted-most}
 use Rattle.promises.specs.demand3.Gives.{walk-done, replay-done, walk-gave, replay-gave}
 use Rattle.promises.specs.demand3.Forms.{numbers-listed}
-use Rattle.promises.specs.demand3.Spots.{at, by-samples, every-of, every-at, most-at, less-small, in-block, part-of, spot}
+use Rattle.promises.specs.demand3.Spots.{at, by-samples, less-small, in-block, part-of, spot}
 use Rattle.promises.specs.demand3.Spots.{covered-in, spot-of, spot-less, spot-predict}
 use Rattle.promises.specs.demand3.Demand3.{LosslessWalk, Replayed, WalkDoes, ReplayDoes, Demand3}
 

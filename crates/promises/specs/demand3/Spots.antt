@@ -1,21 +1,16 @@
--- Samples and residuals named by their block: where sample (r, c) of block i lies, and which block a residual belongs to; and tests
--- of every entry of a list. Rests on what a good plan is.
+-- Samples and residuals named by their block: where sample (r, c) of block i lies, and which block a residual belongs to. Rests on what a
+-- good plan is.
 use mathlib.Core.Path.{_≡_, refl, sym, ap, ap₂, _∙_}
-use mathlib.Core.Bool.{Bool, true}
 use mathlib.Core.List.{List, [], _∷_}
 use mathlib.Core.Logic.{⊎-elim}
 use Prim.Native.Nat.{ℕ, zero, suc, _+_, _-_, _*_, _/_, _%_, _≤_, _<_}
 use native.Mathlib.Nat.{mod-lt, div-add-mod', div-lt-iff-lt-mul}
 use native.Mathlib.Omega.{arith}
 use native.Mathlib.Decide.{decLt}
-use lib.Dec.{leb}
 use lib.IntN.{ℤ, pos, natAbs, _-ℤ_}
 use lib.ListN.{length, getD}
 use lib.Seq.{ext-getD}
-use borrow.Author.Tests.{leb-true, le-leb}
-use Rattle.laws.specs.Choose.{both-true, both-same}
 use Rattle.laws.specs.Diff.{order}
-use Rattle.laws.specs.Every.{every}
 use Rattle.domain.specs.helpers.Ways.{apart-below, apart-above}
 use Rattle.plan.specs.declared.tiling.Block.{Block}
 use Rattle.plan.specs.tiling.Tiling.{In, Covered, place}
@@ -23,22 +18,6 @@ use Rattle.plan.specs.tiling.Verdict.{Accepted}
 use Rattle.walk.specs.declared.checks.Still.{Still}
 use Rattle.walk.specs.block.Predicted.{sampleAt, predictedAt}
 use Rattle.walk.specs.lossless.Picture.{Sample, OfS, Whole, predict, residual, added, less}
-
--- a test of every entry, entry by entry
-pub every-of : {A : Type 0} (p : A → Bool) (l : List A) (z : A) → ((i : ℕ) → i < length l → p (getD l i z) ≡ true) → every p l ≡ true
-unfolding every
-every-of p [] z h = refl
-every-of p (x ∷ l) z h = both-same (h 0 (omega arith)) (every-of p l z (λ i m. h (suc i) (omega arith)))
-
--- and back; past its end a list reads an entry that passes too
-pub every-at : {A : Type 0} (p : A → Bool) (z : A) → p z ≡ true → (l : List A) → every p l ≡ true → (i : ℕ) → p (getD l i z) ≡ true
-unfolding every
-every-at p z h [] e i = h
-every-at p z h (x ∷ l) e zero = both-true (p x) (every p l) e .0
-every-at p z h (x ∷ l) e (suc i) = every-at p z h l (both-true (p x) (every p l) e .1) i
-
-pub most-at : (m : ℕ) (l : List ℕ) → every (λ v. leb v m) l ≡ true → (i : ℕ) → getD l i 0 ≤ m
-most-at m l e i = leb-true (getD l i 0) m (every-at (λ (v : ℕ). leb v m) 0 (le-leb 0 m (omega arith)) l e i)
 
 -- a difference of two samples is no greater than the greater
 pub less-small : (m o p : ℕ) → o ≤ m → p ≤ m → natAbs (pos o -ℤ pos p) ≤ m

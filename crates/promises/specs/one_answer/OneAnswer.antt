@@ -30,6 +30,7 @@ use Rattle.camera.specs.replay.Door.{After}
 use Rattle.camera.specs.Written.{Written, wrote}
 use Rattle.bytes.proofs.sample.Reads as bytes-sample
 use Rattle.bytes.proofs.whole_in.Reads as bytes-whole-in
+use Rattle.bytes.proofs.samples_ok.Reads as bytes-samples-ok
 use Rattle.bytes.proofs.residual.Reads as bytes-residual
 use Rattle.bytes.proofs.byte_0.Reads as bytes-byte-0
 use Rattle.bytes.proofs.byte_1.Reads as bytes-byte-1
@@ -71,6 +72,14 @@ use Rattle.checksum.proofs.picture_checksum.Reads as checksum-picture-checksum
 use Rattle.choose.proofs.choose_mode.Reads as choose-choose-mode
 use Rattle.choose.proofs.choose_early.Reads as choose-choose-early
 use Rattle.checksum.proofs.on_bytes.picture_checksum_bytes.Reads as on-bytes-picture-checksum-bytes
+use Rattle.errors.proofs.Report.fresh.Reads as errors-fresh
+use Rattle.errors.proofs.Report.count_numbers.Reads as errors-count-numbers
+use Rattle.errors.proofs.Report.count as errors-count
+use Rattle.errors.proofs.Report.join.Reads as errors-join
+use Rattle.errors.proofs.on_bytes.count_bytes.Reads as on-bytes-count-bytes
+use Rattle.errors.proofs.record.count_into.Reads as record-count-into
+use Rattle.errors.proofs.record.join_into.Reads as record-join-into
+use Rattle.errors.specs.RecordBytes.{Entered, entered}
 use Rattle.order.proofs.decode_order.Reads as order-decode-order
 use Rattle.order.proofs.is_available.Reads as order-is-available
 use Rattle.order.proofs.luma_reach.Reads as order-luma-reach
@@ -124,6 +133,7 @@ use Rattle.probes.proofs.salvrunde_probe_filter_luma_refs.Reads as probes-salvr
 use Rattle.probes.proofs.salvrunde_probe_substitute_refs.Reads as probes-salvrunde-probe-substitute-refs
 use Rattle.probes.proofs.salvrunde_probe_get_reference_samples.Reads as probes-salvrunde-probe-get-reference-samples
 use Rattle.probes.proofs.salvrunde_probe_get_reference_samples_chroma_pair.Reads as probes-salvrunde-probe-get-reference-samples-chroma-pair
+use Rattle.probes.proofs.error_probes.salvrunde_probe_count_errors.Reads as error-probes-salvrunde-probe-count-errors
 use Rattle.probes.proofs.walk_probes.salvrunde_probe_check_plan.Reads as walk-probes-salvrunde-probe-check-plan
 use Rattle.predict.proofs.planar_dc.predict_planar_into.Reads as planar-dc-predict-planar-into
 use Rattle.predict.proofs.planar_dc.predict_dc_into.Reads as planar-dc-predict-dc-into
@@ -169,6 +179,8 @@ use Rattle.camera.proofs.salvrunde_luma_block.Reads as camera-salvrunde-luma-bl
 use Rattle.camera.proofs.salvrunde_choose.Reads as camera-salvrunde-choose
 use Rattle.camera.proofs.salvrunde_choose_early.Reads as camera-salvrunde-choose-early
 use Rattle.camera.proofs.salvrunde_checksum.Reads as camera-salvrunde-checksum
+use Rattle.camera.proofs.salvrunde_count_errors.Reads as camera-salvrunde-count-errors
+use Rattle.camera.proofs.salvrunde_join_errors.Reads as camera-salvrunde-join-errors
 use Rattle.camera.proofs.salvrunde_replay.Reads as camera-salvrunde-replay
 use Rattle.report.proofs.report.Reads as report-report
 use Rattle.walk.proofs.Progress.replay_numbers.Reads as walk-replay-numbers
@@ -231,6 +243,9 @@ bytes-sample-once a x y s t p q = p ∙ sym q
 
 bytes-whole-in-once : Once (bytes-whole-in.Post tt)
 bytes-whole-in-once a x y s t p q = p ∙ sym q
+
+bytes-samples-ok-once : (κs : Lfts 1) → Once (bytes-samples-ok.Post κs)
+bytes-samples-ok-once κs a x y s t p q = p ∙ sym q
 
 bytes-residual-once : Once (bytes-residual.Post tt)
 bytes-residual-once a x y s t p q = p ∙ sym q
@@ -424,6 +439,28 @@ checksum-picture-checksum-once κs a x y s t p q = p ∙ sym q
 on-bytes-picture-checksum-bytes-once : (κs : Lfts 1) → Once (on-bytes-picture-checksum-bytes.Post κs)
 on-bytes-picture-checksum-bytes-once κs a x y s t p q = p ∙ sym q
 
+-- errors
+errors-fresh-once : Once (errors-fresh.Post tt)
+errors-fresh-once a x y s t p q = p ∙ sym q
+
+errors-count-numbers-once : (κs : Lfts 6) → Once (errors-count-numbers.Post κs)
+errors-count-numbers-once κs a x y s t p q = p ∙ sym q
+
+errors-join-once : Once (errors-join.Post tt)
+errors-join-once a x y s t p q = p ∙ sym q
+
+on-bytes-count-bytes-once : (κs : Lfts 3) → Once (on-bytes-count-bytes.Post κs)
+on-bytes-count-bytes-once κs a x y s t p q = p ∙ sym q
+
+by-entered : {x y : ℕ} {l m : List ℕ} {w : Entered} → entered x l ≡ w → entered y m ≡ w → (x ≡ y) × (l ≡ m)
+by-entered p q = (ap (λ (v : Entered). v .number) (p ∙ sym q), ap (λ (v : Entered). v .bytes) (p ∙ sym q))
+
+record-count-into-once : (κs : Lfts 4) → OnceLeft (λ s. now (s .1 .1 .1 .0)) (record-count-into.Post κs)
+record-count-into-once κs a x y s t p q = by-entered p q
+
+record-join-into-once : (κs : Lfts 2) → OnceLeft (λ s. now (s .1 .0)) (record-join-into.Post κs)
+record-join-into-once κs a x y s t p q = by-entered p q
+
 -- smooth
 smooth-should-filter-refs-once : Once (smooth-should-filter-refs.Post tt)
 smooth-should-filter-refs-once a x y s t p q = p ∙ sym q
@@ -535,6 +572,9 @@ probes-salvrunde-probe-get-reference-samples-once κs a x y s t p q = p ∙ sym 
 probes-salvrunde-probe-get-reference-samples-chroma-pair-once : (κs : Lfts 2)
     → Once (probes-salvrunde-probe-get-reference-samples-chroma-pair.Post κs)
 probes-salvrunde-probe-get-reference-samples-chroma-pair-once κs a x y s t p q = p ∙ sym q
+
+error-probes-salvrunde-probe-count-errors-once : (κs : Lfts 9) → Once (error-probes-salvrunde-probe-count-errors.Post κs)
+error-probes-salvrunde-probe-count-errors-once κs a x y s t p q = p ∙ sym q
 
 walk-probes-salvrunde-probe-check-plan-once : (κs : Lfts 4) → Once (walk-probes-salvrunde-probe-check-plan.Post κs)
 walk-probes-salvrunde-probe-check-plan-once κs a x y s t p q = p ∙ sym q
@@ -715,6 +755,12 @@ camera-salvrunde-chroma-refs-ctu-once κs a x y s t p q = by-written p q
 camera-salvrunde-checksum-once : (κs : Lfts 2) → OnceLeft (λ s. now (s .1 .1 .1 .1 .1 .1 .1 .0)) (camera-salvrunde-checksum.Post κs)
 camera-salvrunde-checksum-once κs a x y s t p q = by-written p q
 
+camera-salvrunde-count-errors-once : (κs : Lfts 4) → OnceLeft (λ s. now (s .1 .1 .1 .0)) (camera-salvrunde-count-errors.Post κs)
+camera-salvrunde-count-errors-once κs a x y s t p q = by-entered p q
+
+camera-salvrunde-join-errors-once : (κs : Lfts 2) → OnceLeft (λ s. now (s .1 .0)) (camera-salvrunde-join-errors.Post κs)
+camera-salvrunde-join-errors-once κs a x y s t p q = by-entered p q
+
 camera-salvrunde-planar-once : (κs : Lfts 3) → OnceLeft (λ s. now (s .1 .1 .1 .0)) (camera-salvrunde-planar.Post κs)
 camera-salvrunde-planar-once κs a x y s t p q = by-written p q
 
@@ -818,6 +864,10 @@ module _ {M : Type 1} (𝓤 : URA M) (H : Heap 𝓤) (A : Atoms 𝓤) (mem : Mem
   -- plan
   plan-check-plan-once : (κs : Lfts 1) → OnceHeld plan-check-plan.ended κs {L = Unit {0}} (λ _. tt) (plan-check-plan.clauses 𝓤 H A mem run)
   plan-check-plan-once κs a g x y s t = held-both _ _ _ (λ p q. (p ∙ sym q, refl))
+
+  -- errors
+  errors-count-once : (κs : Lfts 3) → OnceHeld errors-count.ended κs {L = Unit {0}} (λ _. tt) (errors-count.clauses 𝓤 H A mem run)
+  errors-count-once κs a g x y s t = held-both _ _ _ (λ p q. (p ∙ sym q, refl))
 
   -- walk
   walk-replay-once : (κs : Lfts 4)

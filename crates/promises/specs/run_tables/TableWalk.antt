@@ -170,7 +170,7 @@ module _ (f : Frame) (l : Plan) where
   made = record { whole = true; count = l .count; block = l .block }
 
   -- the blocks of a picture that is not refused, and where they are good what follows
-  blocks-first : pictureOk (pictureOf f) ≡ true → (last : Verdict) (more : List (Row Verdict)) → First done last more
+  pub blocks-first : pictureOk (pictureOf f) ≡ true → (last : Verdict) (more : List (Row Verdict)) → First done last more
       → First done (cond (eqb (v .no) 0) last v) (planRows f l more)
   unfolding planVerdict
   blocks-first ok last more rest = go (rw ok at (told f made))
@@ -213,7 +213,7 @@ module _ (f : Frame) (l : Plan) where
       go false e = refl
 
 -- whole records or not
-ragged : (l : Plan) → Tells (l .whole) (Ragged l)
+pub ragged : (l : Plan) → Tells (l .whole) (Ragged l)
 ragged l = record { passed = λ e h. h e; failed = λ e h. true≢false (sym h ∙ e) }
 
 -- the plan check; P says that what was lent is not whole records

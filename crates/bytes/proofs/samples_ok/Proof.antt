@@ -7,10 +7,10 @@ use lib.Dec.{leb}
 use lib.ListN.{length}
 use borrow.Author.Needs.{needs}
 use Rattle.laws.specs.Every.{passTo, pass-none, pass-more, pass-done}
 use Rattle.bytes.specs.Bytes.{samplesOf}
 use Rattle.bytes.specs.Laws.{length-samples}
-use Rattle.checksum.proofs.on_bytes.samples_ok.Statement.{statement}
-use Rattle.checksum.proofs.on_bytes.samples_ok.Tie as tie
+use Rattle.bytes.proofs.samples_ok.Statement.{statement}
+use Rattle.bytes.proofs.samples_ok.Tie as tie
 
 abbrev Inv-loop : tie.InvT-loop
 Inv-loop plane largest count ok₀ i₀ ok i =
