@@ -156,14 +156,15 @@ uint32_t salvrunde_checksum(uint32_t bits, uint32_t width, uint32_t height, uint
 
 /* Counts a pair of planes into an error report: how far b is from a, each block of the plan under its mode, exactly. Luma alone.
  * a, b: exactly 2 * width * height bytes each, of the report's depth. plan: block records as for replay, which cover the picture.
- * report: at least SALVRUNDE_REPORT_BYTES, else 5 before all else. A counted pair changes its pairs and its sums; a refused one leaves
- * them as they were. The four bytes from 20 on get the block that the number is about, else 0.
+ * report: at least SALVRUNDE_REPORT_BYTES, else 5 before all else, and nothing is written. A counted pair changes its pairs and its sums; a
+ * refused one leaves them as they were. The four bytes from 20 on get the block that the number is about, else 0.
  * Numbers 1 and 4 (of the report's settings), 5, 7, each block 2, 3, 6, 9, then 10, 15. */
 uint32_t salvrunde_count_errors(const uint8_t *a, size_t a_bytes, const uint8_t *b, size_t b_bytes, const uint8_t *plan, size_t plan_bytes,
                                 uint8_t *report, size_t report_bytes);
 
 /* Adds another error report of the same depth, picture and CTU to a report: what was counted apart is counted together.
- * Both have at least SALVRUNDE_REPORT_BYTES, else 5 before all else.
+ * Both have at least SALVRUNDE_REPORT_BYTES, else 5 before all else. A refused sum changes nothing; a served one changes the report's pairs
+ * and sums, and leaves the four bytes from 20 on.
  * Numbers 1, 4 (also where the settings are not the same), 5, 15 (also where the pairs together are more than 65,536). */
 uint32_t salvrunde_join_errors(const uint8_t *other, size_t other_bytes, uint8_t *report, size_t report_bytes);
 
