@@ -1,6 +1,7 @@
 // What the camera's C firmware calls: gathering, prediction, choice, replay and checksum on numbers and byte slices, samples of two bytes,
 // the lower first. Each entry gives back its number, and writes nothing where it refuses. Rests on the doors' contracts and on how rows
 // are stored.
+#![tactic(auto)]
 mod choice;
 mod gather;
 mod luma;

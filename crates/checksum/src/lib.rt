@@ -1,5 +1,6 @@
 // The checksum of a decoded picture, H.265 Annex D, plane by plane and row by row (document 02, Wish 7). Rests on the domain's tests,
 // the figures of a depth and the test of a plane's samples.
+#![tactic(auto)]
 pub mod on_bytes;
 
 ghost use Rattle.std.specs.Prelude.{◌≡◌, ℕ, ◌+◌, ◌-◌, ◌*◌, ◌<◌, ◌≤◌, ◌&&◌, length, ◌==◌, nat_le, slice_index};
@@ -14,7 +15,7 @@ use fmt::depth;
 use samples::ranges;
 
 // A plane of a depth, its sides, and the rows from first up to end.
-#[derive(Drop)]
+#[derive(Clone, Copy)]
 pub struct RowRange {
     pub bits: u32,
     pub width: u32,
@@ -24,7 +25,7 @@ pub struct RowRange {
 }
 
 // A call's number, and the sum, 0 where it is refused.
-#[derive(Drop)]
+#[derive(Clone, Copy)]
 pub struct Summed {
     pub no: u32,
     pub sum: u32,

@@ -2,6 +2,7 @@
 // the domain's tests, the test of a source's samples, the rule and the smoothing of rows, and the predictors.
 // A horizontal mode is predicted mirrored, as the vertical one that it mirrors, against the source with its rows as columns: rows are
 // written quicker than columns.
+#![tactic(auto)]
 ghost use Rattle.std.specs.Prelude.{◌≡◌, true, ℕ, ◌+◌, ◌*◌, ◌≤◌, ◌<◌, length};
 ghost use Rattle.laws.specs.Fill.{run, block};
 ghost use Rattle.laws.specs.Sum.{total};
@@ -21,7 +22,7 @@ use predict::{angular, planar_dc};
 use samples::{filters, ranges};
 
 // A call's number, and the mode with its sum of absolute differences, both 0 where it is refused.
-#[derive(Drop)]
+#[derive(Clone, Copy)]
 pub struct Chosen {
     pub no: u32,
     pub mode: u8,

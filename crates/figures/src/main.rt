@@ -1,5 +1,6 @@
 // Prints document 01's figures P1 to P10 as the doors give them; the file stdout has 01's numbers. Each function that makes a call
 // has for its contract what the table of specs/Figures has for it. Rests on the doors' contracts.
+#![tactic(auto)]
 ghost use Rattle.std.specs.Prelude.{◌≡◌};
 ghost use Rattle.figures.specs.figure_table.Figures.{counting, opening, planar_block, dc_block, angular_block, order_at, smooths_at};
 ghost use Rattle.figures.specs.figure_table.Figures.{bent, entry31, ordinary31, strong_of, restored_to, smoothed_two};

@@ -3,7 +3,7 @@
 ghost use Rattle.std.specs.Prelude.{◌≡◌};
 ghost use Rattle.fmt.specs.depth.Depth.{bits_of, max_val, neutral, depth_from, largest_of, neutral_of};
 
-#[derive(Drop)]
+#[derive(Clone, Copy)]
 pub enum BitDepth {
     Eight,
     Ten,
@@ -11,7 +11,7 @@ pub enum BitDepth {
 }
 
 // What a number of bits names.
-#[derive(Drop)]
+#[derive(Clone, Copy)]
 pub enum DepthFrom {
     Depth(BitDepth),
     Refused,

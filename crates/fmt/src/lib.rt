@@ -1,12 +1,13 @@
 // Chroma format: the rules of fmt.rs about it that the port takes, the door from a number, and the kinds of places. Depth is in
 // module depth. Assumes nothing.
+#![tactic(auto)]
 pub mod depth;
 
 ghost use Rattle.std.specs.Prelude.{◌≡◌, ◌*◌, ◌/◌, ◌≤◌};
 ghost use Rattle.fmt.specs.Fmt.{sub_width, sub_height, format_from, Subsampling};
 ghost use Rattle.fmt.specs.Places.{saturated, luma_row, luma_col, chroma_row, chroma_col};
 
-#[derive(Drop)]
+#[derive(Clone, Copy)]
 pub enum ChromaFormat {
     Monochrome,
     Yuv420,
@@ -15,7 +16,7 @@ pub enum ChromaFormat {
 }
 
 // What a chroma_format_idc names.
-#[derive(Drop)]
+#[derive(Clone, Copy)]
 pub enum FormatFrom {
     Format(ChromaFormat),
     Unknown,
@@ -63,16 +64,16 @@ impl ChromaFormat {
 // Rows and columns of luma samples and of chroma samples are kinds of their own: one passed for the other does not compile,
 // and the only way from one to the other is a format's subsampling, by the four functions below. The sides of a chroma plane
 // go by them too: they are the first row and the first column past it.
-#[derive(Drop)]
+#[derive(Clone, Copy)]
 pub struct LumaRow(pub u32);
 
-#[derive(Drop)]
+#[derive(Clone, Copy)]
 pub struct LumaCol(pub u32);
 
-#[derive(Drop)]
+#[derive(Clone, Copy)]
 pub struct ChromaRow(pub u32);
 
-#[derive(Drop)]
+#[derive(Clone, Copy)]
 pub struct ChromaCol(pub u32);
 
 // A number times the subsampling, or the largest u32, which is outside every picture.

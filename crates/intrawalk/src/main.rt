@@ -1,4 +1,5 @@
 // intrawalk: prints what `report` makes of standard input. Rests on report's contract for the text.
+#![tactic(auto)]
 ghost use Rattle.io.specs.Counts.{IsPrefixLen};
 
 // Reads all of standard input, as far as there is room, and tells how many bytes. Where a read fails before the input ends, it is

@@ -1,5 +1,6 @@
 // Reads the numbers of a fixed list: words of eight hex digits, with one byte after each. And what every program that replays such a
 // list does with them: draws samples from a seed, looks for a line's entries in what was written, counts. Rests on nothing else.
+#![tactic(auto)]
 ghost use Rattle.std.specs.Prelude.{◌≡◌, ◌+◌, ◌*◌, ◌≤◌, ◌<◌, get_or};
 ghost use Rattle.listing.specs.Hex.{hex_digit, digit_at, octet_at, half_at, word_at};
 ghost use Rattle.listing.specs.Drawn.{next_of, other_seed, drawn_sample, drawn, drawn_row, same_from, more, counted};
@@ -115,7 +116,7 @@ pub fn same_run(line: &[u8], first: u8, written: &[u16], place: u32) -> bool
 }
 
 // The calls of a list, and those of them that gave something else than the list has.
-#[derive(Drop)]
+#[derive(Clone, Copy)]
 pub struct Count {
     pub calls: u64,
     pub differ: u64,

@@ -1,5 +1,6 @@
 // Decode order of a picture's cells (H.265 6.5.2) and which luma neighbours are available (document 01, module 2).
 // Rests on the domain's tests, on what a cell's number is made of and on the kinds of places.
+#![tactic(auto)]
 pub mod cells;
 
 ghost use Rattle.std.specs.Prelude.{◌≡◌, ◌+◌, ◌-◌, ◌*◌, ◌/◌, ◌%◌, ◌^◌, ◌≤◌, ◌<◌, min, eqb, pos};
@@ -18,7 +19,7 @@ use domain::helpers;
 use fmt::{ChromaCol, ChromaFormat, ChromaRow, LumaCol, LumaRow};
 
 // A picture as the order sees it: its luma sides, its CTU and its least unit.
-#[derive(Drop)]
+#[derive(Clone, Copy)]
 pub struct Picture {
     pub width: u32,
     pub height: u32,
@@ -27,21 +28,21 @@ pub struct Picture {
 }
 
 // A luma neighbour's place, which may lie outside the picture.
-#[derive(Drop)]
+#[derive(Clone, Copy)]
 pub struct LumaNeighbour {
     pub row: i64,
     pub col: i64,
 }
 
 // A call's number, 0 for done, and its value, 0 where it is refused.
-#[derive(Drop)]
+#[derive(Clone, Copy)]
 pub struct Numbered {
     pub no: u32,
     pub value: u32,
 }
 
 // A call's number, and its flag, false where it is refused.
-#[derive(Drop)]
+#[derive(Clone, Copy)]
 pub struct Flagged {
     pub no: u32,
     pub yes: bool,
@@ -49,7 +50,7 @@ pub struct Flagged {
 
 // The picture's grid as the code goes by it: shifts from samples to cells and from cells to CTUs, the cells along a CTU,
 // and the CTUs in a row.
-#[derive(Drop)]
+#[derive(Clone, Copy)]
 struct Shifts {
     unit: u32,
     levels: u32,
@@ -188,7 +189,7 @@ pub fn is_available(
 }
 
 // A luma block of side n in its picture.
-#[derive(Drop)]
+#[derive(Clone, Copy)]
 pub struct LumaBlock {
     pub picture: Picture,
     pub row: LumaRow,
@@ -197,7 +198,7 @@ pub struct LumaBlock {
 }
 
 // A chroma block of side n, counted in chroma samples, in its picture, and the luma place that is being decoded.
-#[derive(Drop)]
+#[derive(Clone, Copy)]
 pub struct ChromaBlock {
     pub picture: Picture,
     pub format: ChromaFormat,
@@ -210,7 +211,7 @@ pub struct ChromaBlock {
 
 // How far the neighbours of a block reach that are there: whether the corner is, and how many entries of the row above and of the
 // left column, from entry 0 on, up to entry 2n.
-#[derive(Drop)]
+#[derive(Clone, Copy)]
 pub struct Reach {
     pub no: u32,
     pub corner: bool,
@@ -221,7 +222,7 @@ pub struct Reach {
 // Where a block stands over the luma grid: the luma places on which its first row and column lie, and the row above and the column
 // left of it; the steps to the next sample, down a column and across a row, in luma samples; and the plane's rows and columns from
 // the block's first on.
-#[derive(Drop)]
+#[derive(Clone, Copy)]
 struct Site {
     row: LumaRow,
     col: LumaCol,

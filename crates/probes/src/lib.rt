@@ -1,5 +1,6 @@
 // Entries at native types for the runs of the rules of fmt, order, smoothing and gathering against the Rust, and of the checksum against
 // the standard: each calls a door and hands its answer over as plain numbers. Rests on the doors' contracts.
+#![tactic(auto)]
 pub mod error_probes;
 pub mod predict_probes;
 pub mod walk_probes;
@@ -22,7 +23,7 @@ use refs::{ChromaRefGeometry, LumaRefGeometry, substitution};
 
 // A depth's figures, all 0 where the call is refused.
 #[repr(C)]
-#[derive(Drop)]
+#[derive(Clone, Copy)]
 pub struct DepthFigures {
     pub no: u32,
     pub bits: u32,
@@ -52,7 +53,7 @@ pub extern "C" fn salvrunde_probe_depth(bits: u32) -> DepthFigures
 
 // A format's subsampling, and whether the number names a format.
 #[repr(C)]
-#[derive(Drop)]
+#[derive(Clone, Copy)]
 pub struct FormatFigures {
     pub known: u32,
     pub across: u32,
@@ -79,7 +80,7 @@ pub extern "C" fn salvrunde_probe_format(idc: u32) -> FormatFigures
 
 // A place, and whether the number names a format; 0 where it does not.
 #[repr(C)]
-#[derive(Drop)]
+#[derive(Clone, Copy)]
 pub struct Place {
     pub known: u32,
     pub row: u32,
@@ -134,7 +135,7 @@ pub extern "C" fn salvrunde_probe_on_chroma(idc: u32, row: u32, col: u32) -> Pla
 
 // A call's number, and its value, 0 where it is refused.
 #[repr(C)]
-#[derive(Drop)]
+#[derive(Clone, Copy)]
 pub struct Answer {
     pub no: u32,
     pub value: u32,

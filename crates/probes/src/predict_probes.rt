@@ -234,7 +234,7 @@ pub extern "C" fn salvrunde_probe_predict_luma_tb_scratch(
 
 // A chosen mode and its sum, both 0 where the call is refused.
 #[repr(C)]
-#[derive(Drop)]
+#[derive(Clone, Copy)]
 pub struct Choice {
     pub no: u32,
     pub mode: u32,

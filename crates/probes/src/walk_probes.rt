@@ -13,7 +13,7 @@ use walk::{Progress, Stepped};
 
 // A plan's number, and the list number of the block that it is about.
 #[repr(C)]
-#[derive(Drop)]
+#[derive(Clone, Copy)]
 pub struct PlanAnswer {
     pub no: u32,
     pub block: u32,
@@ -40,7 +40,7 @@ pub extern "C" fn salvrunde_probe_check_plan(
 
 // What a call of walk or replay gives: its number and the block that it is about, how many blocks it did, and how many are done.
 #[repr(C)]
-#[derive(Drop)]
+#[derive(Clone, Copy)]
 pub struct StepAnswer {
     pub no: u32,
     pub block: u32,

@@ -1,5 +1,6 @@
 // Reference samples: the luma gather and the chroma pair gather (document 01, modules 3 and 4).
 // Rests on the contracts of order (which neighbours are there) and on substitution; a sample's value never says whether it is there.
+#![tactic(auto)]
 pub mod substitution;
 
 ghost use Rattle.std.specs.Prelude.{◌≡◌, ℕ, ◌+◌, ◌-◌, ◌*◌, ◌≤◌, ◌<◌, length};
@@ -24,7 +25,7 @@ pub struct GatheredPair {
 }
 
 // A luma block in its picture; stride, CTUs in a row and the neutral sample are worked out.
-#[derive(Drop)]
+#[derive(Clone, Copy)]
 pub struct LumaRefGeometry {
     pub bits: u32,
     pub picture: Picture,
@@ -34,7 +35,7 @@ pub struct LumaRefGeometry {
 }
 
 // A chroma block in its picture, and the luma place that is being decoded; the format is a chroma_format_idc.
-#[derive(Drop)]
+#[derive(Clone, Copy)]
 pub struct ChromaRefGeometry {
     pub bits: u32,
     pub format: u32,
@@ -51,7 +52,7 @@ pub struct ChromaRefGeometry {
 
 // Where a block's neighbours stand in a plane: the corner, entry 0 of the row above and entry 0 of the left column, and the plane's
 // width.
-#[derive(Drop)]
+#[derive(Clone, Copy)]
 pub struct Spot {
     pub corner: usize,
     pub above: usize,
@@ -183,7 +184,7 @@ pub fn gather_no(bits: u32, reach: u32, whole: bool) -> u32
 }
 
 // What a gather goes by: how far its block's neighbours reach, where they stand, how many samples a plane has.
-#[derive(Drop)]
+#[derive(Clone, Copy)]
 pub struct Layout {
     pub reach: Reach,
     pub spot: Spot,

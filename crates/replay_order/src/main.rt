@@ -3,6 +3,7 @@
 //
 // The list is made by `tests/differential/run list`. A line is eleven words of eight hex digits: the kind of the call, what
 // it is given, what it is to answer, and zeros. A line that opens with # and eight spaces is a comment, as long as the others.
+#![tactic(auto)]
 ghost use Rattle.std.specs.Prelude.{◌+◌, ◌≤◌};
 
 use fmt::depth::{BitDepth, DepthFrom};

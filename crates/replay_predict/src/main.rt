@@ -9,6 +9,7 @@
 // A call's samples come from its seed: each is the next number, brought to at most the largest; a largest of 1 stands for
 // samples of either end. The corner has the seed's own, the row above the numbers that follow, the row on the left and the
 // second block those that follow `other` of the seed.
+#![tactic(auto)]
 ghost use Rattle.std.specs.Prelude.{◌+◌, ◌≤◌, ◌<◌};
 
 use domain::rows::Rows;
@@ -17,7 +18,7 @@ use predict::scratch::AngularScratch;
 use predict::{angular, planar_dc};
 
 // What a line gives a call, and the number and the value that it wants.
-#[derive(Drop)]
+#[derive(Clone, Copy)]
 struct Call {
     n: usize,
     mode: u8,

@@ -13,6 +13,7 @@
 // plane and Cb the numbers that follow, the left row and Cr those that follow `other` of the seed. Substitution's flags come
 // from the current place's two numbers as seeds, with the unit as odds in sixteen; the entries that the sides name are there
 // too, and the corner where the CTU is 1.
+#![tactic(auto)]
 ghost use Rattle.std.specs.Prelude.{◌≤◌, ◌<◌, length, ◌≡◌};
 
 use domain::rows::Rows;
@@ -23,7 +24,7 @@ use refs::substitution::Flags;
 use refs::{ChromaRefGeometry, LumaRefGeometry, substitution};
 
 // What a line gives a call, which entries it compares, and the number and the corner that it wants.
-#[derive(Drop)]
+#[derive(Clone, Copy)]
 struct Call {
     bits: u32,
     format: u32,

@@ -6,7 +6,7 @@ ghost use Rattle.laws.specs.Bytes.{le_at};
 ghost use Rattle.report.specs.file.File.{trailer_of, area_of, regions_ok, file_ok};
 
 // The last 16 bytes of the input.
-#[derive(Drop)]
+#[derive(Clone, Copy)]
 pub struct Trailer {
     pub samples: u32,
     pub plan: u32,

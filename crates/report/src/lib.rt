@@ -1,5 +1,6 @@
 // What intrawalk prints of its input (document 01, 'The program'): the whole text, from the bytes alone.
 // Rests on the contracts of walk and replay, of the sums and of the lines.
+#![tactic(auto)]
 pub mod file;
 mod sums;
 pub mod text;

@@ -1,5 +1,6 @@
 // Smoothing of a block's references, H.265 8.4.4.2.3. Rests on the standard's definitions, the domain's tests, the rows and the
 // arithmetic of one reference (filters).
+#![tactic(auto)]
 ghost use Rattle.std.specs.Prelude.{◌≡◌, true, ℕ, ◌≤◌, length, get_or};
 ghost use Rattle.h265.specs.Notation.{from_rows};
 ghost use Rattle.h265.specs.Filtering.{bi_int_flag, strong_at};
@@ -13,7 +14,7 @@ use domain::rows;
 use samples::filters;
 
 // Whether a block's references are smoothed, or why the call is refused.
-#[derive(Drop)]
+#[derive(Clone, Copy)]
 pub struct Rule {
     pub no: u32,
     pub yes: bool,

@@ -7,7 +7,7 @@ use domain::helpers;
 use plan::tiling::Verdict;
 
 // A call's number and the block that it is about, how many blocks it does, and the block that it goes up to; refused, it does none.
-#[derive(Drop)]
+#[derive(Clone, Copy)]
 pub struct Step {
     pub no: u32,
     pub block: u32,

@@ -11,7 +11,7 @@ use plan::tiling::{Frame, Verdict};
 use samples::{deltas, ranges};
 
 // A still: its depth, its luma sides and its CTU.
-#[derive(Drop)]
+#[derive(Clone, Copy)]
 pub struct Still {
     pub bits: u32,
     pub frame: Frame,

@@ -1,5 +1,6 @@
 // Walk and replay of a luma still, block by block, in any number of calls (document 01, 'Plan, walk, replay').
 // Rests on the contracts of a still's checks, of the plan check and of the work on one block alone.
+#![tactic(auto)]
 pub mod block;
 mod block_rows;
 pub mod calls;
@@ -23,13 +24,13 @@ use plan::tiling::{Block, Verdict};
 use predict::scratch::AngularScratch;
 
 // How many blocks of the plan are done; 0 when fresh.
-#[derive(Drop)]
+#[derive(Clone, Copy)]
 pub struct Progress {
     pub done: u32,
 }
 
 // What a call gives: its number and the block that it is about, how many blocks it did, and the next record.
-#[derive(Drop)]
+#[derive(Clone, Copy)]
 pub struct Stepped {
     pub no: u32,
     pub block: u32,
@@ -38,7 +39,7 @@ pub struct Stepped {
 }
 
 // What a call comes to, before the first write: its answer, and the block that it goes up to, 0 when refused.
-#[derive(Drop)]
+#[derive(Clone, Copy)]
 struct Call {
     answer: Stepped,
     upto: usize,
