@@ -8,7 +8,7 @@ loop-i-init c = (search rules, subst (Standing _ _ 0) (sym c.check_start-t.ensur
 
 pub loop-i-preserved : goal.loop-i-preserved
 loop-i-preserved c =
-    (search rules, let e = c.check_step-t.ensures in subst (Standing _ _ _) (sym e) (standing_more c.loop-i.invariant.1 c.loop-i-test.true _ refl)
+    (search rules, let e = c.check_step-t.ensures in subst (Standing _ _ _) (sym e) (standing_more c.loop-i.invariant.1 c.loop-i-test.true _ refl))
 
 pub returns : goal.returns
 returns c = c.check_end.ensures ∙ standing_end c.loop-i.invariant.1 c.loop-i-test.false
