@@ -3,7 +3,7 @@
 ghost use Rattle.std.specs.Prelude.{◌≡◌};
 ghost use Rattle.domain.specs.rows.Neighbours.{level_rows};
 
-#[derive(Drop)]
+#[derive(Clone, Copy)]
 pub struct Rows {
     pub corner: u16,
     pub above: [u16; 65],

@@ -8,7 +8,7 @@ ghost use Rattle.h265.specs.Angular.{angular};
 ghost use Rattle.domain.specs.Facts.{Depth, Size};
 ghost use Rattle.samples.specs.taps.Taps.{interp_of, edge_of};
 ghost use Rattle.predict.specs.refusals.Refusals.{angular_no, refs_no, rows_no};
-ghost use Rattle.predict.specs.Lent.{len, entry_at, with_tables, lent_neighbours, Predicts, Becomes, Untouched};
+ghost use Rattle.predict.specs.Lent.{len, mut_len, entry_at, with_tables, lent_neighbours, Predicts, Becomes, Untouched};
 ghost use Rattle.predict.specs.angular.Unsigned.{side_of, ref_at, vertical_at, angular_at};
 ghost use Rattle.predict.specs.angles.Starts.{line_start, fraction_of, first_of};
 ghost use Rattle.predict.specs.angles.Angles.{turns, bends};
@@ -545,7 +545,7 @@ pub fn predict_angular_slices(
     indices: &mut [u32],
     fractions: &mut [u32],
 ) -> u32
-    ensures { (result ≡ angular_no bits n mode (with_tables (len above) (len left) (len pred) refs indices fractions))
+    ensures { (result ≡ angular_no bits n mode (with_tables (len above) (len left) (mut_len pred) refs indices fractions))
         × (Predicts result n (angular bits filter_boundary n mode (lent_neighbours corner above left)) pred
         × ((result ≡ 0 → ⊥) → Untouched refs indices fractions)) }
 {
@@ -585,7 +585,7 @@ pub fn vertical_refs(
     mode: u8,
     refs: &mut [u16],
 ) -> u32
-    ensures { (result ≡ refs_no n mode (len above) (len left) (len refs))
+    ensures { (result ≡ refs_no n mode (len above) (len left) (mut_len refs))
         × Becomes result (laid_refs corner above.now left.now n (mode - 18) refs.old) refs }
 {
     let no = refusals::refs_no(n, mode, above.len(), left.len(), refs.len());
@@ -604,7 +604,7 @@ pub fn vertical_rows(
     end: usize,
     pred: &mut [u16],
 ) -> u32
-    ensures { (result ≡ rows_no n mode first end (len above) (len refs) (len pred))
+    ensures { (result ≡ rows_no n mode first end (len above) (len refs) (mut_len pred))
         × Becomes result (rows (λ (y x : ℕ). laid_at above.now refs.now (mode - 18) (first + y) x) n
         (end - first) pred.old) pred }
 {

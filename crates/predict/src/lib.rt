@@ -18,7 +18,7 @@ ghost use Rattle.h265.specs.Prediction.{pred_samples};
 ghost use Rattle.domain.specs.rows.Neighbours.{neighbours_of};
 ghost use Rattle.predict.specs.refusals.Refusals.{predict_no};
 ghost use Rattle.predict.specs.Contents.{chroma_at};
-ghost use Rattle.predict.specs.Lent.{len, with_tables, lent_neighbours, Predicts, Untouched};
+ghost use Rattle.predict.specs.Lent.{len, mut_len, with_tables, lent_neighbours, Predicts, Untouched};
 
 use domain::rows;
 
@@ -35,7 +35,7 @@ pub fn predict_chroma_tb_slices(
     indices: &mut [u32],
     fractions: &mut [u32],
 ) -> u32
-    ensures { (result ≡ predict_no bits n mode (with_tables (len above) (len left) (len pred) refs indices fractions))
+    ensures { (result ≡ predict_no bits n mode (with_tables (len above) (len left) (mut_len pred) refs indices fractions))
         × (Predicts result n (pred_samples (chroma_at bits) first_edition_strong n mode (lent_neighbours corner above left)) pred
         × ((result ≡ 0 → ⊥) → Untouched refs indices fractions)) }
 {
@@ -69,7 +69,7 @@ pub fn predict_luma_tb_slices(
     indices: &mut [u32],
     fractions: &mut [u32],
 ) -> u32
-    ensures { (result ≡ predict_no bits n mode (with_tables 65 65 (len pred) refs indices fractions))
+    ensures { (result ≡ predict_no bits n mode (with_tables 65 65 (mut_len pred) refs indices fractions))
         × (Predicts result n (pred_samples (luma_at bits) first_edition_strong n mode (neighbours_of rows)) pred
         × ((result ≡ 0 → ⊥) → Untouched refs indices fractions)) }
 {

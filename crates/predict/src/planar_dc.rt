@@ -9,7 +9,7 @@ ghost use Rattle.h265.specs.Dc.{dc};
 ghost use Rattle.domain.specs.Facts.{Size};
 ghost use Rattle.samples.specs.taps.Taps.{blended};
 ghost use Rattle.predict.specs.refusals.Refusals.{flat_no};
-ghost use Rattle.predict.specs.Lent.{len, entry_at, lent_neighbours, Predicts};
+ghost use Rattle.predict.specs.Lent.{len, mut_len, entry_at, lent_neighbours, Predicts};
 ghost use Rattle.predict.specs.planar_dc.Flat.{FlatReady, planar_sample};
 ghost use Rattle.predict.specs.planar_dc.Text.{Total};
 ghost use Rattle.predict.specs.planar_dc.Stores.{heads};
@@ -135,7 +135,7 @@ pub(crate) fn planar_block(above: &[u16], left: &[u16], n: usize, pred: &mut [u1
 }
 
 pub fn predict_planar_into(above: &[u16], left: &[u16], n: usize, pred: &mut [u16]) -> u32
-    ensures { (result ≡ flat_no n (len above) (len left) (len pred))
+    ensures { (result ≡ flat_no n (len above) (len left) (mut_len pred))
         × Predicts result n (planar n (lent_neighbours 0 above left)) pred }
 {
     let no = refusals::flat_no(n, above.len(), left.len(), pred.len());
@@ -245,7 +245,7 @@ pub fn predict_dc_into(
     filter_boundary: bool,
     pred: &mut [u16],
 ) -> u32
-    ensures { (result ≡ flat_no n (len above) (len left) (len pred))
+    ensures { (result ≡ flat_no n (len above) (len left) (mut_len pred))
         × Predicts result n (dc filter_boundary n (lent_neighbours 0 above left)) pred }
 {
     let no = refusals::flat_no(n, above.len(), left.len(), pred.len());

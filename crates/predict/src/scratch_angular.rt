@@ -3,7 +3,7 @@
 ghost use Rattle.std.specs.Prelude.{◌≡◌};
 ghost use Rattle.h265.specs.Angular.{angular};
 ghost use Rattle.predict.specs.refusals.Refusals.{angular_no};
-ghost use Rattle.predict.specs.Lent.{len, with_scratch, lent_neighbours, Predicts};
+ghost use Rattle.predict.specs.Lent.{len, mut_len, with_scratch, lent_neighbours, Predicts};
 
 use crate::angular;
 use crate::scratch::AngularScratch;
@@ -20,7 +20,7 @@ pub fn predict_angular_into(
     pred: &mut [u16],
     scratch: &mut AngularScratch,
 ) -> u32
-    ensures { (result ≡ angular_no bits n mode (with_scratch (len above) (len left) (len pred)))
+    ensures { (result ≡ angular_no bits n mode (with_scratch (len above) (len left) (mut_len pred)))
         × (Predicts result n (angular bits filter_boundary n mode (lent_neighbours corner above left)) pred
         × ((result ≡ 0 → ⊥) → scratch.new ≡ scratch.old)) }
 {
@@ -50,7 +50,7 @@ pub fn predict_angular_fresh(
     bits: u32,
     pred: &mut [u16],
 ) -> u32
-    ensures { (result ≡ angular_no bits n mode (with_scratch (len above) (len left) (len pred)))
+    ensures { (result ≡ angular_no bits n mode (with_scratch (len above) (len left) (mut_len pred)))
         × Predicts result n (angular bits filter_boundary n mode (lent_neighbours corner above left)) pred }
 {
     let mut scratch = AngularScratch::new();

@@ -6,7 +6,7 @@ ghost use Rattle.h265.specs.Prediction.{pred_samples};
 ghost use Rattle.domain.specs.rows.Neighbours.{neighbours_of};
 ghost use Rattle.predict.specs.refusals.Refusals.{predict_no};
 ghost use Rattle.predict.specs.Contents.{chroma_at};
-ghost use Rattle.predict.specs.Lent.{len, with_scratch, lent_neighbours, Predicts};
+ghost use Rattle.predict.specs.Lent.{len, mut_len, with_scratch, lent_neighbours, Predicts};
 
 use crate::scratch::AngularScratch;
 use domain::rows;
@@ -22,7 +22,7 @@ pub fn predict_chroma_tb_into(
     pred: &mut [u16],
     scratch: &mut AngularScratch,
 ) -> u32
-    ensures { (result ≡ predict_no bits n mode (with_scratch (len above) (len left) (len pred)))
+    ensures { (result ≡ predict_no bits n mode (with_scratch (len above) (len left) (mut_len pred)))
         × (Predicts result n (pred_samples (chroma_at bits) first_edition_strong n mode (lent_neighbours corner above left)) pred
         × ((result ≡ 0 → ⊥) → scratch.new ≡ scratch.old)) }
 {
@@ -49,7 +49,7 @@ pub fn predict_luma_tb_into(
     pred: &mut [u16],
     scratch: &mut AngularScratch,
 ) -> u32
-    ensures { (result ≡ predict_no bits n mode (with_scratch 65 65 (len pred)))
+    ensures { (result ≡ predict_no bits n mode (with_scratch 65 65 (mut_len pred)))
         × (Predicts result n (pred_samples (luma_at bits) first_edition_strong n mode (neighbours_of rows)) pred
         × ((result ≡ 0 → ⊥) → scratch.new ≡ scratch.old)) }
 {
@@ -75,7 +75,7 @@ pub fn predict_chroma_tb_fresh(
     bits: u32,
     pred: &mut [u16],
 ) -> u32
-    ensures { (result ≡ predict_no bits n mode (with_scratch (len above) (len left) (len pred)))
+    ensures { (result ≡ predict_no bits n mode (with_scratch (len above) (len left) (mut_len pred)))
         × Predicts result n (pred_samples (chroma_at bits) first_edition_strong n mode (lent_neighbours corner above left)) pred }
 {
     let mut scratch = AngularScratch::new();
@@ -90,7 +90,7 @@ pub fn predict_luma_tb_fresh(
     bits: u32,
     pred: &mut [u16],
 ) -> u32
-    ensures { (result ≡ predict_no bits n mode (with_scratch 65 65 (len pred)))
+    ensures { (result ≡ predict_no bits n mode (with_scratch 65 65 (mut_len pred)))
         × Predicts result n (pred_samples (luma_at bits) first_edition_strong n mode (neighbours_of rows)) pred }
 {
     let mut scratch = AngularScratch::new();

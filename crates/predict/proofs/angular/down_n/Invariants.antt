@@ -1,0 +1,12 @@
+use mathlib.Core.Path.{◌≡◌}
+use Prim.Native.Nat.{◌-◌, ◌≤◌}
+use lib.ListN.{length}
+use Rattle.predict.specs.angular.Lines.{line_from}
+use Rattle.laws.specs.Fill.{rows}
+use Rattle.predict.proofs.angular.down_n.Given as goal
+
+abbrev pub invariant-loop-r : goal.invariant-loop-r
+invariant-loop-r l = (l.r ≤ l.count) × ((length l.pred ≡ length l.initial.pred) × (l.pred ≡ rows (line_from l.refs l.b l.e l.first) l.n l.r l.initial.pred))
+
+abbrev pub decreases-loop-r : goal.decreases-loop-r
+decreases-loop-r l = l.count - l.r

@@ -1,0 +1,11 @@
+-- `angular::edges` meets its contract. The loop fills the list, one entry a turn. Assumes nothing.
+use Prim.Native.Nat.{◌-◌}
+use borrow.Author.Rules.{rules}
+use Rattle.laws.specs.FillLaws.{fill_none, fill_more}
+use Rattle.predict.proofs.angular.edges.Goals as goal
+
+pub loop-i-init : goal.loop-i-init
+loop-i-init c = (search rules, (search rules, fill_none _ _))
+
+pub loop-i-preserved : goal.loop-i-preserved
+loop-i-preserved c = (search rules, (search rules, fill_more _ _ c.loop-i.invariant.1.1 c.edge.ensures))

@@ -1,0 +1,12 @@
+-- `planar_dc::flat_fill` meets its contract. One value in every entry: the loop keeps an equation with `fill`.
+use Prim.Native.Nat.{◌-◌}
+use mathlib.Core.Path.{refl}
+use borrow.Author.Rules.{rules}
+use Rattle.laws.specs.FillLaws.{fill_none, fill_more}
+use Rattle.predict.proofs.planar_dc.flat_fill.Goals as goal
+
+pub loop-i-init : goal.loop-i-init
+loop-i-init c = (search rules, (search rules, fill_none _ _))
+
+pub loop-i-preserved : goal.loop-i-preserved
+loop-i-preserved c = (search rules, (search rules, fill_more _ _ c.loop-i.invariant.1.1 (refl)))
