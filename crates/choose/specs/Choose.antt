@@ -10,7 +10,7 @@ use Rattle.h265.specs.Setting.{luma_at, first_edition_strong}
 use Rattle.h265.specs.Prediction.{pred_samples}
 use Rattle.domain.specs.Domain.{depth_ok, size_ok, smoothing_row}
 use Rattle.predict.specs.refusals.Refusals.{Lengths, lengths}
-use Rattle.predict.specs.Lent.{Slice, len, Untouched}
+use Rattle.predict.specs.Lent.{Slice, MutSlice, len, mut_len, Untouched}
 use Rattle.choose.specs.declared.Chosen.{Chosen}
 
 -- how far apart two samples are
@@ -51,10 +51,10 @@ pub record Chooses (k : ℕ) (sums : ℕ → ℕ) (r : Chosen) : Type 0 where
   pub nothing : (k ≡ 0 → ⊥) → (r.mode ≡ 0) × (r.sum ≡ 0)
 
 -- the lengths of what a call lends beside the source
-abbrev pub lends : Slice → Slice → Slice → Slice → Slice → Slice → Lengths
+abbrev pub lends : Slice → Slice → MutSlice → MutSlice → MutSlice → MutSlice → Lengths
 lends above left pred refs indices fractions =
-    lengths (len above) (len left) (len pred) (len refs) (len indices) (len fractions)
+    lengths (len above) (len left) (mut_len pred) (mut_len refs) (mut_len indices) (mut_len fractions)
 
 -- the scratch is as it was: the block's buffer and the three tables
-abbrev pub ScratchKept : Slice → Slice → Slice → Slice → Type 0
+abbrev pub ScratchKept : MutSlice → MutSlice → MutSlice → MutSlice → Type 0
 ScratchKept pred refs indices fractions = (pred.exit.now ≡ pred.entry.now) × Untouched refs indices fractions

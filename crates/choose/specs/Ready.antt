@@ -1,7 +1,7 @@
 -- What a choice that is not refused has, and that no predictor and no smoothing refuses it. Rests on the numbers of all three.
 use Rattle.std.specs.Prelude.{◌≡◌, true, List, ℕ, ◌*◌, ◌≤◌, leb, length}
 use Rattle.std.proofs.Common.{arith}
-use Rattle.std.specs.Borrow.{Bor}
+use Rattle.std.specs.Borrow.{Bor, MutBor}
 use borrow.Author.Tests.{leb-true, le-leb}
 use Rattle.laws.specs.Choose.{passed, both_true}
 use Rattle.domain.specs.Domain.{depth_ok, size_ok, smoothing_row}
@@ -11,7 +11,7 @@ use Rattle.predict.specs.refusals.Refusals.{Lengths, lengths, is_enough, flat_no
 use Rattle.choose.specs.Choose.{lends_enough, choose_no}
 
 -- the lengths of what a private function is lent
-abbrev pub held_by : Bor (List ℕ) → Bor (List ℕ) → Bor (List ℕ) → Bor (List ℕ) → Bor (List ℕ) → Bor (List ℕ) → Lengths
+abbrev pub held_by : Bor (List ℕ) → Bor (List ℕ) → MutBor (List ℕ) → MutBor (List ℕ) → MutBor (List ℕ) → MutBor (List ℕ) → Lengths
 held_by above left pred refs indices fractions =
     lengths (length above.now) (length left.now) (length pred.now) (length refs.now) (length indices.now) (length fractions.now)
 
