@@ -1,14 +1,14 @@
 -- Document 01, 'Plan, walk, replay': what a call of walk or replay gives, by its verdict, and what it leaves. Assumes nothing.
 use Rattle.std.specs.Prelude.{◌≡◌, List, ℕ, ◌+◌, ℤ, length}
 use Rattle.laws.specs.Choose.{served}
-use Rattle.predict.specs.Lent.{Slice, Untouched}
+use Rattle.predict.specs.Lent.{Slice, MutSlice, Untouched}
 use Rattle.plan.specs.declared.tiling.Verdict.{Verdict}
 use Rattle.plan.specs.tiling.Plan.{Plan}
 use Rattle.walk.specs.declared.checks.Still.{Still}
 use Rattle.walk.specs.checks.Checks.{Tables}
 use Rattle.walk.specs.calls.Steps.{doing_of}
 use Rattle.walk.specs.block.Walked.{World}
-use Rattle.walk.specs.Lent.{Residuals, lent_tables, world_before, world_after}
+use Rattle.walk.specs.Lent.{Residuals, MutResiduals, lent_tables, world_before, world_after}
 use Rattle.walk.specs.calls.Door.{replay_verdict, replay_after, walk_verdict, walk_after}
 use Rattle.walk.specs.declared.Progress.{Progress}
 use Rattle.walk.specs.declared.Stepped.{Stepped}
@@ -33,12 +33,12 @@ WalkGives s plan t p grant source w x r kept =
     × ((x ≡ walk_after s plan t p.done grant source w) × ((r.no ≡ 0 → ⊥) → kept))
 
 -- the same over a plane, planes and tables that are lent
-abbrev pub ReplayLent : Still → Plan → Progress → ℕ → Residuals → Slice → Slice → Slice → Slice → Stepped → Type 0
+abbrev pub ReplayLent : Still → Plan → Progress → ℕ → Residuals → MutSlice → MutSlice → MutSlice → MutSlice → Stepped → Type 0
 ReplayLent s plan p grant residuals plane refs indices fractions r =
     ReplayGives s plan (lent_tables refs indices fractions) p grant residuals.entry.now plane.entry.now plane.exit.now r
     (Untouched refs indices fractions)
 
-abbrev pub WalkLent : Still → Plan → Progress → ℕ → Slice → Slice → Residuals → Slice → Slice → Slice → Stepped → Type 0
+abbrev pub WalkLent : Still → Plan → Progress → ℕ → Slice → MutSlice → MutResiduals → MutSlice → MutSlice → MutSlice → Stepped → Type 0
 WalkLent s plan p grant source work residuals refs indices fractions r =
     WalkGives s plan (lent_tables refs indices fractions) p grant source.entry.now (world_before work residuals)
     (world_after work residuals) r

@@ -1,8 +1,8 @@
 -- What a call of walk or replay is lent, by name. Rests on the predictors' names of a lent slice.
 use Rattle.std.specs.Prelude.{ℕ, List, ℤ, length}
-use Rattle.std.specs.Borrow.{Bor}
+use Rattle.std.specs.Borrow.{Bor, MutBor}
 use denote.Triple.Both.{Both}
-use Rattle.predict.specs.Lent.{Slice, len}
+use Rattle.predict.specs.Lent.{Slice, MutSlice, mut_len}
 use Rattle.plan.specs.tiling.Plan.{Plan, plan_of}
 use Rattle.walk.specs.checks.Checks.{Tables}
 use Rattle.walk.specs.block.Walked.{World}
@@ -12,8 +12,8 @@ abbrev pub tables : List ℕ → List ℕ → List ℕ → Tables
 tables refs indices fractions = record { refs = length refs; indices = length indices; fractions = length fractions }
 
 -- those of three lent slices, and those of the scratch struct
-abbrev pub lent_tables : Slice → Slice → Slice → Tables
-lent_tables refs indices fractions = record { refs = len refs; indices = len indices; fractions = len fractions }
+abbrev pub lent_tables : MutSlice → MutSlice → MutSlice → Tables
+lent_tables refs indices fractions = record { refs = mut_len refs; indices = mut_len indices; fractions = mut_len fractions }
 
 abbrev pub scratch_tables : Tables
 scratch_tables = record { refs = 193; indices = 32; fractions = 32 }
@@ -26,12 +26,16 @@ lent_plan rows cols sides modes = plan_of rows.entry.now cols.entry.now sides.en
 abbrev pub Residuals : Type 0
 Residuals = Both (Bor (List ℤ)) (Bor (List ℤ))
 
+-- residuals that a call may write
+abbrev pub MutResiduals : Type 0
+MutResiduals = Both (MutBor (List ℤ)) (MutBor (List ℤ))
+
 -- what a walk writes, when its call began and when it ended
 abbrev pub world : List ℕ → List ℤ → World
 world work residuals = record { work = work; residuals = residuals }
 
-abbrev pub world_before : Slice → Residuals → World
+abbrev pub world_before : MutSlice → MutResiduals → World
 world_before work residuals = world work.entry.now residuals.entry.now
 
-abbrev pub world_after : Slice → Residuals → World
+abbrev pub world_after : MutSlice → MutResiduals → World
 world_after work residuals = world work.exit.now residuals.exit.now

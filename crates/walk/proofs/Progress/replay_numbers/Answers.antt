@@ -1,0 +1,31 @@
+-- `walk::Progress::replay_numbers` meets its contract. Every check precedes the first write; then the blocks. Rests on the loop over the blocks and on what a call comes to.
+use mathlib.Core.Path.{sym, ap, ◌∙◌}
+use mathlib.Core.Bool.{Bool}
+use lib.ListN.{length}
+use Rattle.plan.specs.declared.tiling.Verdict.{Verdict}
+use Rattle.plan.specs.tiling.Plan.{plan_of}
+use Rattle.walk.specs.checks.Checks.{replay_no, settle}
+use Rattle.walk.specs.checks.Laws.{settle_zero}
+use Rattle.walk.specs.calls.Laws.{found_small}
+use Rattle.walk.specs.Listed.{bare, call_of, replay_asks, replay_ends}
+use Rattle.walk.proofs.Progress.replay_numbers.Goals as goal
+
+pub call_of-call-requires : goal.call_of-call-requires
+call_of-call-requires c z =     let a = c.args in
+    let h = settle_zero _ _ _ _ (sym (ap (λ (v : Verdict). v.no) c.settled-v.ensures) ∙ z) in
+    (h.1, found_small a.still (plan_of a.rows.now a.cols.now a.sides.now a.modes.now) _ c.check_plan_numbers-found.ensures h.0)
+
+pub replay_blocks-requires : goal.replay_blocks-requires
+replay_blocks-requires c =     let a = c.args in
+    let found = c.check_plan_numbers-found in
+    let v = c.settled-v.ensures ∙ ap (settle found.result (length a.rows.now) a.self.done) (c.replay_no-early.ensures ∙ ap (λ (w : Bool). replay_no a.still w (record { refs = length a.refs.now; indices = length a.indices.now; fractions = length a.fractions.now }) (length a.plane.now) a.residuals.now) c.is_whole.ensures) in
+    let is = c.call_of-call.ensures ∙ ap (λ (u : Verdict). call_of u (bare (length a.rows.now)) a.self a.grant) v in
+    replay_asks a.still (plan_of a.rows.now a.cols.now a.sides.now a.modes.now) (record { refs = length a.refs.now; indices = length a.indices.now; fractions = length a.fractions.now }) a.self a.grant a.residuals.now a.plane.now found.result found.ensures _ is
+
+pub returns : goal.returns
+returns c =     let a = c.args in
+    let found = c.check_plan_numbers-found in
+    let v = c.settled-v.ensures ∙ ap (settle found.result (length a.rows.now) a.self.done) (c.replay_no-early.ensures ∙ ap (λ (w : Bool). replay_no a.still w (record { refs = length a.refs.now; indices = length a.indices.now; fractions = length a.fractions.now }) (length a.plane.now) a.residuals.now) c.is_whole.ensures) in
+    let is = c.call_of-call.ensures ∙ ap (λ (u : Verdict). call_of u (bare (length a.rows.now)) a.self a.grant) v in
+    let e = c.replay_blocks.ensures in
+    replay_ends a.still (plan_of a.rows.now a.cols.now a.sides.now a.modes.now) (record { refs = length a.refs.now; indices = length a.indices.now; fractions = length a.fractions.now }) a.self a.grant a.residuals.now a.plane.now found.result found.ensures _ is _ e.0 e.1
