@@ -22,7 +22,7 @@ use samples::ranges;
 
 // Depth, picture and CTU of the pairs that are counted, how many they are, and for each mode its blocks, their samples, and the squares of
 // the differences in them.
-#[derive(Drop)]
+#[derive(Clone, Copy)]
 pub struct Report {
     pub bits: u32,
     pub frame: Frame,
@@ -49,7 +49,7 @@ pub struct Joined {
 
 // What a call over a plan of records comes to before it counts: its number and block, and up to which block it counts, 0 where it is
 // refused.
-#[derive(Drop)]
+#[derive(Clone, Copy)]
 struct Start {
     found: Verdict,
     upto: usize,

@@ -1,0 +1,15 @@
+use mathlib.Core.Path.{◌≡◌}
+use Prim.Native.Nat.{ℕ, ◌+◌, ◌-◌, ◌*◌, ◌≤◌}
+use lib.ListN.{get_or}
+use Rattle.laws.specs.Sum.{total}
+use Rattle.octets.specs.Bytes.{samples_of}
+use Rattle.errors.specs.Errors.{square_apart}
+use Rattle.errors.proofs.on_bytes.row_squares.Given as goal
+
+abbrev pub invariant-loop-i : goal.invariant-loop-i
+invariant-loop-i l =
+    (l.i ≤ l.n) × ((l.sum ≤ l.i * 16769025)
+    × (l.sum ≡ total (λ (c : ℕ). square_apart (get_or (samples_of l.a) (l.at + c) 0) (get_or (samples_of l.b) (l.at + c) 0)) l.i))
+
+abbrev pub decreases-loop-i : goal.decreases-loop-i
+decreases-loop-i l = l.n - l.i

@@ -1,0 +1,14 @@
+use mathlib.Core.Path.{◌≡◌}
+use Prim.Native.Nat.{ℕ, ◌+◌, ◌-◌, ◌*◌, ◌≤◌}
+use Rattle.laws.specs.Sum.{total}
+use Rattle.octets.specs.Bytes.{samples_of}
+use Rattle.errors.specs.Errors.{error_at}
+use Rattle.errors.proofs.on_bytes.rows_squares.Given as goal
+
+abbrev pub invariant-loop-r : goal.invariant-loop-r
+invariant-loop-r l =
+    (l.r ≤ l.n) × ((l.sum ≤ l.r * 536608800)
+    × (l.sum ≡ total (λ (y : ℕ). total (λ (x : ℕ). error_at (samples_of l.a) (samples_of l.b) l.width (l.row + y) (l.col + x)) l.n) l.r))
+
+abbrev pub decreases-loop-r : goal.decreases-loop-r
+decreases-loop-r l = l.n - l.r
