@@ -225,8 +225,8 @@ pub extern "C" fn salvrunde_replay(
     plane: &mut [u8],
     res: &mut [u8],
 ) -> u32
-    ensures* { λ r. ⌜ record { number = r; plane = plane.new; result = res.new } ≡ replayed (record
-        { bits = bits; frame = record { width = width; height = height; ctu = ctu } }) done plan.now residuals.now grant plane.old res.old ⌝ }
+    ensures { record { number = result; plane = plane.new; result = res.new } ≡ replayed (record
+        { bits = bits; frame = record { width = width; height = height; ctu = ctu } }) done plan.now residuals.now grant plane.old res.old }
 {
     let frame = Frame { width, height, ctu };
     let still = Still { bits, frame };

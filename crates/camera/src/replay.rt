@@ -361,8 +361,8 @@ pub(crate) fn replay(
     res: &mut [u8],
     grant: u32,
 ) -> u32
-    ensures* { λ r. ⌜ record { number = r; plane = plane.new; result = res.new } ≡ replayed still
-        done plan.now residuals.now grant plane.old res.old ⌝ }
+    ensures { record { number = result; plane = plane.new; result = res.new } ≡ replayed still
+        done plan.now residuals.now grant plane.old res.old }
 {
     let v = verdict(done, still, plan, residuals, plane.len(), res.len());
     if v.no != 0 {

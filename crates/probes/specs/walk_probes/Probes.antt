@@ -9,8 +9,8 @@ use Rattle.walk.specs.block.Walked.{World}
 use Rattle.walk.specs.calls.Door.{walk_verdict, walk_after, replay_verdict, replay_after}
 use Rattle.walk.specs.declared.Progress.{Progress}
 use Rattle.walk.specs.declared.Stepped.{Stepped}
-use Rattle.predict.specs.Lent.{Slice, Untouched}
-use Rattle.walk.specs.Lent.{Residuals, lent_tables, world_before, world_after}
+use Rattle.predict.specs.Lent.{Slice, MutSlice, Untouched}
+use Rattle.walk.specs.Lent.{Residuals, MutResiduals, lent_tables, world_before, world_after}
 use Rattle.walk.specs.Door.{stepped_by}
 use Rattle.probes.specs.declared.walk_probes.PlanAnswer.{PlanAnswer}
 use Rattle.probes.specs.declared.walk_probes.StepAnswer.{StepAnswer}
@@ -44,12 +44,12 @@ ProbeWalk s plan t p grant source before after r kept =
     × ((after ≡ walk_after s plan t p.done grant source before) × ((r.no ≡ 0 → ⊥) → kept))
 
 -- the same over tables that are lent
-abbrev pub ProbeReplayLent : Still → Plan → Progress → ℕ → Residuals → Slice → Slice → Slice → Slice → StepAnswer → Type 0
+abbrev pub ProbeReplayLent : Still → Plan → Progress → ℕ → Residuals → MutSlice → MutSlice → MutSlice → MutSlice → StepAnswer → Type 0
 ProbeReplayLent s plan p grant residuals plane refs indices fractions r =
     ProbeReplay s plan (lent_tables refs indices fractions) p grant residuals.entry.now plane.entry.now plane.exit.now r
     (Untouched refs indices fractions)
 
-abbrev pub ProbeWalkLent : Still → Plan → Progress → ℕ → Slice → Slice → Residuals → Slice → Slice → Slice → StepAnswer → Type 0
+abbrev pub ProbeWalkLent : Still → Plan → Progress → ℕ → Slice → MutSlice → MutResiduals → MutSlice → MutSlice → MutSlice → StepAnswer → Type 0
 ProbeWalkLent s plan p grant source work residuals refs indices fractions r =
     ProbeWalk s plan (lent_tables refs indices fractions) p grant source.entry.now (world_before work residuals)
     (world_after work residuals) r
