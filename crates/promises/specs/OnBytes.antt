@@ -6,7 +6,7 @@ use Rattle.std.specs.Prelude.{ℕ, ◌-◌, ◌*◌, ◌≤◌, ◌<◌, min, �
 use Rattle.std.specs.Int.{w32}
 use Rattle.std.proofs.Common.{SFits}
 use contract.Lifetimes.{Lfts}
-use Rattle.std.specs.Borrow.{Bor}
+use Rattle.std.specs.Borrow.{Bor, MutBor}
 use denote.Triple.Clauses.{AtExit}
 use Rattle.octets.specs.Bytes.{le4, samples_of, residuals_of}
 use Rattle.octets.specs.Laws.{AreBytes, Below}
@@ -92,7 +92,7 @@ pub record ByteGave (b : ByteJob) (x : Held (List ℕ)) (a : ByteAsk) (r : ℕ) 
 pub record OnBytes : Type 1 where
   -- The entry, by its contract, with what is lent named as in the code: `now` is what it holds, e what there is at exit, of which two parts
   -- are the result buffer and the plane. Calls of it, one after the other, are the chains below.
-  pub by_replay : (κs : Lfts 4) (done bits width height ctu grant : ℕ) (plan residuals plane result : Bor (List ℕ)) (r : ℕ)
+  pub by_replay : (κs : Lfts 4) (done bits width height ctu grant : ℕ) (plan residuals : Bor (List ℕ)) (plane result : MutBor (List ℕ)) (r : ℕ)
       (e : AtExit salvrunde-replay.ended κs)
       → salvrunde-replay-contract.Post κs (done, (bits, (width, (height, (ctu, (grant, (plan, (residuals, (plane, (result, tt)))))))))) r e
       → let still : Still = record { bits = bits; frame = record { width = width; height = height; ctu = ctu } } in

@@ -13,7 +13,7 @@ use Rattle.camera.specs.sums.Entry.{word_into}
 use Rattle.checksum.proofs.picture_checksum.Reads as door
 use Rattle.checksum.proofs.on_bytes.picture_checksum_bytes.Reads as bytes-door
 use Rattle.camera.proofs.salvrunde_checksum.Reads as c-checksum
-use Rattle.promises.specs.demand2.Demand2.{LentSlice, ◌and◌, none}
+use Rattle.promises.specs.demand2.Demand2.{LentSlice, LentMutSlice, ◌and◌, none}
 
 -- what meets a door's contract with the number 0: over a plane of samples, and over one of bytes
 abbrev pub Sums : Lfts 1 → LentSlice → RowRange → ℕ → Summed → Type 0
@@ -53,7 +53,7 @@ pub record ChecksumPromise : Type 1 where
       → SumsBytes μ plane (row_range bits width height a c) sum roomy whole
       → whole.sum ≡ lower.sum
   -- the entry for C: a served call leaves that sum in the first four bytes of `out`, and the others as they were
-  pub in_c : (κs : Lfts 2) (bits width height first end sum number : ℕ) (plane out out' : LentSlice)
+  pub in_c : (κs : Lfts 2) (bits width height first end sum number : ℕ) (plane : LentSlice) (out out' : LentMutSlice)
       → c-checksum.Post κs (bits and width and height and first and end and sum and plane and out and none) number
       (bits and width and height and first and end and sum and plane and out' and none) → number ≡ 0
       → out'.now ≡ word_into (sum_of_rows bits (sample_in_plane (samples_of plane.now) width) width first (end - first) sum) out.now

@@ -10,7 +10,7 @@ use Rattle.choose.specs.declared.Chosen.{Chosen}
 use Rattle.choose.proofs.choose_mode.Reads as door
 use Rattle.octets.specs.Bytes.{samples_of, word_of}
 use Rattle.camera.proofs.salvrunde_choose.Reads as c-choose
-use Rattle.promises.specs.demand2.Demand2.{LentSlice, LentTables, ◌and◌, none, in_rows, rows_in_bytes, luma_samples, Gathers, standard_block}
+use Rattle.promises.specs.demand2.Demand2.{LentSlice, LentMutSlice, LentTables, ◌and◌, none, in_rows, rows_in_bytes, luma_samples, Gathers, standard_block}
 
 -- the sum of absolute differences of a block of side n, in the first n * n entries of a source, from the samples in column x and row y
 abbrev pub sum_from : ℕ → List ℕ → (ℕ → ℕ → ℕ) → ℕ
@@ -26,7 +26,7 @@ pub record Asked : Type 0 where
   pub bits : ℕ
 
 -- an answer that meets the door's contract
-abbrev pub Answers : Lfts 7 → Asked → LentSlice → LentTables → Chosen → LentSlice → LentTables → Type 0
+abbrev pub Answers : Lfts 7 → Asked → LentMutSlice → LentTables → Chosen → LentMutSlice → LentTables → Type 0
 Answers κs a pred tables r pred' tables' =
     door.Post κs (a.corner and a.above and a.left and a.source and a.n and a.bits and pred and tables) r
     (a.corner and a.above and a.left and a.source and a.n and a.bits and pred' and tables')
@@ -51,16 +51,16 @@ pub record BestBytes (sums : ℕ → ℕ) (before after : List ℕ) : Type 0 whe
 
 pub record ChoicePromise : Type 1 where
   -- the mode is one of the 35, so that walk and replay take it in a plan, and the sum is its own
-  pub a_mode : (κs : Lfts 7) (a : Asked) (pred pred' : LentSlice) (tables tables' : LentTables) (r : Chosen)
+  pub a_mode : (κs : Lfts 7) (a : Asked) (pred pred' : LentMutSlice) (tables tables' : LentTables) (r : Chosen)
       → Answers κs a pred tables r pred' tables' → r.no ≡ 0 → (r.mode ≤ 34) × (r.sum ≡ sum_of a r.mode)
   -- no mode does better
-  pub none_better : (κs : Lfts 7) (a : Asked) (pred pred' : LentSlice) (tables tables' : LentTables) (r : Chosen)
+  pub none_better : (κs : Lfts 7) (a : Asked) (pred pred' : LentMutSlice) (tables tables' : LentTables) (r : Chosen)
       → Answers κs a pred tables r pred' tables' → r.no ≡ 0 → (mode : ℕ) → mode ≤ 34 → r.sum ≤ sum_of a mode
   -- every lower mode does worse
-  pub lower_worse : (κs : Lfts 7) (a : Asked) (pred pred' : LentSlice) (tables tables' : LentTables) (r : Chosen)
+  pub lower_worse : (κs : Lfts 7) (a : Asked) (pred pred' : LentMutSlice) (tables tables' : LentTables) (r : Chosen)
       → Answers κs a pred tables r pred' tables' → r.no ≡ 0 → (mode : ℕ) → mode < r.mode → r.sum < sum_of a mode
   -- refused: mode 0, sum 0, and all scratch as it was
-  pub refused : (κs : Lfts 7) (a : Asked) (pred pred' : LentSlice) (tables tables' : LentTables) (r : Chosen)
+  pub refused : (κs : Lfts 7) (a : Asked) (pred pred' : LentMutSlice) (tables tables' : LentTables) (r : Chosen)
       → Answers κs a pred tables r pred' tables' → ¬ (r.no ≡ 0)
       → (r.mode ≡ 0) × ((r.sum ≡ 0) × ((pred'.now ≡ pred.now) × ((tables'.0.now ≡ tables.0.now)
       × ((tables'.1.0.now ≡ tables.1.0.now) × (tables'.1.1.0.now ≡ tables.1.1.0.now)))))
@@ -69,7 +69,7 @@ pub record ChoicePromise : Type 1 where
       → (above left source : LentSlice) → above.now ≡ g.rows.above → left.now ≡ g.rows.left → (mode : ℕ) → mode ≤ 34
       → sum_of (asked_of geo g above left source) mode ≡ sum_from geo.n source.now (standard_block plane.now geo mode)
   -- for C: what a served call of salvrunde_choose writes into its buffer's first eight bytes, from what the bytes of rows and source spell
-  pub salvrunde_choose : (κs : Lfts 4) (bits n corner : ℕ) (above left source out out' : LentSlice) (number : ℕ)
+  pub salvrunde_choose : (κs : Lfts 4) (bits n corner : ℕ) (above left source : LentSlice) (out out' : LentMutSlice) (number : ℕ)
       → c-choose.Post κs (bits and n and corner and above and left and source and out and none) number
       (bits and n and corner and above and left and source and out' and none) → number ≡ 0
       → BestBytes (λ mode. sum_from n (samples_of source.now) (luma_samples bits n mode (rows_in_bytes corner above left))) out.now out'.now

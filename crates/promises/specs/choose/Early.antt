@@ -5,23 +5,23 @@ use Rattle.std.specs.Prelude.{◌≡◌}
 use contract.Lifetimes.{Lfts}
 use Rattle.choose.specs.declared.Chosen.{Chosen}
 use Rattle.choose.proofs.choose_early.Reads as early
-use Rattle.promises.specs.demand2.Demand2.{LentSlice, LentTables, ◌and◌}
+use Rattle.promises.specs.demand2.Demand2.{LentMutSlice, LentTables, ◌and◌}
 use Rattle.promises.specs.one_answer.OneAnswer.{chosen_once}
 use Rattle.promises.specs.choose.Choose.{Asked, Answers}
 
 -- an answer that meets the early door's contract
-abbrev pub AnswersEarly : Lfts 7 → Asked → LentSlice → LentTables → Chosen → LentSlice → LentTables → Type 0
+abbrev pub AnswersEarly : Lfts 7 → Asked → LentMutSlice → LentTables → Chosen → LentMutSlice → LentTables → Type 0
 AnswersEarly κs a pred tables r pred' tables' =
     early.Post κs (a.corner and a.above and a.left and a.source and a.n and a.bits and pred and tables) r
     (a.corner and a.above and a.left and a.source and a.n and a.bits and pred' and tables')
 
 -- the two contracts are one
-pub one_contract : (κs : Lfts 7) (a : Asked) (pred pred' : LentSlice) (tables tables' : LentTables) (r : Chosen)
+pub one_contract : (κs : Lfts 7) (a : Asked) (pred pred' : LentMutSlice) (tables tables' : LentTables) (r : Chosen)
     → AnswersEarly κs a pred tables r pred' tables' → Answers κs a pred tables r pred' tables'
 one_contract κs a pred pred' tables tables' r p = p
 
 -- the two answers are one
-pub same_choice : (κs : Lfts 7) (a : Asked) (pred full-pred early-pred : LentSlice)
+pub same_choice : (κs : Lfts 7) (a : Asked) (pred full-pred early-pred : LentMutSlice)
     (tables full-tables early-tables : LentTables) (r s : Chosen)
     → Answers κs a pred tables r full-pred full-tables → AnswersEarly κs a pred tables s early-pred early-tables → r ≡ s
 same_choice κs a pred full-pred early-pred tables full-tables early-tables r s p q = chosen_once _ _ p.0 q.0

@@ -9,7 +9,7 @@ use prog.Routine.{Routine}
 use types.Logic.{Logic}
 use contract.Lifetimes.{Lfts}
 use contract.Monad.{Fun, fact}
-use Rattle.std.specs.Borrow.{Bor}
+use Rattle.std.specs.Borrow.{Bor, MutBor}
 use Rattle.h265.specs.Notation.{Neighbours, from_rows}
 use Rattle.h265.specs.Setting.{luma_at, first_edition_strong}
 use Rattle.h265.specs.Substitution.{neighbours}
@@ -69,15 +69,18 @@ a and b = (a, b)
 abbrev pub none : Unit {0}
 none = tt
 
--- a lent slice; the scratch, as three lent tables and as a struct: the last parameters of a call
+-- a slice that is lent to be read, and one to be written; the scratch, as three lent tables and as a struct: the last parameters of a call
 abbrev pub LentSlice : Type 0
 LentSlice = Bor (List ℕ)
 
+abbrev pub LentMutSlice : Type 0
+LentMutSlice = MutBor (List ℕ)
+
 abbrev pub LentTables : Type 0
-LentTables = LentSlice × (LentSlice × (LentSlice × Unit {0}))
+LentTables = LentMutSlice × (LentMutSlice × (LentMutSlice × Unit {0}))
 
 abbrev pub Scratch : Type 0
-Scratch = Bor AngularScratch × Unit {0}
+Scratch = MutBor AngularScratch × Unit {0}
 
 -- the neighbours in a corner and two lent rows, of samples and of bytes, two a sample
 abbrev pub in_rows : ℕ → LentSlice → LentSlice → Neighbours
@@ -126,21 +129,21 @@ Holds n clause block = (x y : ℕ) → x < n → y < n → get_or block (y * n +
 
 -- A door that writes a block into `pred`: `post` is its contract, over the parameters at entry, the number, and the parameters at exit.
 -- `last` is its scratch, of which nothing is said. What meets the contract with the number 0 has the clause's samples in `pred` at exit.
-abbrev pub Writes : {A Last : Type 0} → (A → ℕ → A → Type 0) → (LentSlice → Last → A) → ℕ → (ℕ → ℕ → ℕ) → Type 0
+abbrev pub Writes : {A Last : Type 0} → (A → ℕ → A → Type 0) → (LentMutSlice → Last → A) → ℕ → (ℕ → ℕ → ℕ) → Type 0
 Writes {A} {Last} post call n clause =
-    (pred pred' : LentSlice) (last last' : Last) (number : ℕ) → post (call pred last) number (call pred' last') → number ≡ 0
+    (pred pred' : LentMutSlice) (last last' : Last) (number : ℕ) → post (call pred last) number (call pred' last') → number ≡ 0
     → Holds n clause pred'.now
 
 -- Of a door that is proved by hand the prover has no such reading: its contract is an assertion of any model, from which the fact follows.
-abbrev pub WritesHeld : {M : Type 1} (𝓤 : Ura M) {A : Type 0} → (A → ℕ → A → SProp 𝓤) → (LentSlice → Scratch → A) → ℕ → (ℕ → ℕ → ℕ) → Type 1
+abbrev pub WritesHeld : {M : Type 1} (𝓤 : Ura M) {A : Type 0} → (A → ℕ → A → SProp 𝓤) → (LentMutSlice → Scratch → A) → ℕ → (ℕ → ℕ → ℕ) → Type 1
 WritesHeld 𝓤 {A} ensures call n clause =
-    (pred pred' : LentSlice) (last last' : Scratch) (number : ℕ) → number ≡ 0
+    (pred pred' : LentMutSlice) (last last' : Scratch) (number : ℕ) → number ≡ 0
     → ent 𝓤 (ensures (call pred last) number (call pred' last')) (fact 𝓤 (Holds n clause pred'.now))
 
 -- An entry for C, and what is said of the samples that `out` spells at exit.
-abbrev pub Spells : {A : Type 0} → (A → ℕ → A → Type 0) → (LentSlice → A) → (List ℕ → Type 0) → Type 0
+abbrev pub Spells : {A : Type 0} → (A → ℕ → A → Type 0) → (LentMutSlice → A) → (List ℕ → Type 0) → Type 0
 Spells {A} post call says =
-    (out out' : LentSlice) (number : ℕ) → post (call out) number (call out') → number ≡ 0 → says (samples_of out'.now)
+    (out out' : LentMutSlice) (number : ℕ) → post (call out) number (call out') → number ≡ 0 → says (samples_of out'.now)
 
 -- what meets the contract of the luma gather with the number 0
 abbrev pub Gathers : Lfts 1 → LentSlice → LumaRefGeometry → Gathered → Type 0

@@ -40,7 +40,7 @@ use Rattle.predict.specs.planar_dc.Flat.{ready}
 use Rattle.predict.specs.angular.Door.{fit}
 use Rattle.predict.specs.by_mode.Door.{given, highest}
 use Rattle.predict.specs.modes.Modes.{pred_alone}
-use Rattle.promises.specs.demand2.Demand2.{LentSlice, LentTables, Holds, luma_samples, standard_neighbours, AreChroma, standard_block}
+use Rattle.promises.specs.demand2.Demand2.{LentSlice, LentMutSlice, LentTables, Holds, luma_samples, standard_neighbours, AreChroma, standard_block}
 use Rattle.promises.specs.demand2.Demand2.{WithScratch, Demand2}
 use Rattle.promises.specs.demand2.Spelt2.{luma_size, luma_refs_spelt, chroma_refs_spelt}
 use Rattle.promises.specs.demand2.Spelt2.{planar_spelt, dc_spelt, angular_spelt, chroma_spelt, luma_spelt}
@@ -48,26 +48,29 @@ use Rattle.promises.specs.demand2.Spelt2.{planar_spelt, dc_spelt, angular_spelt,
 abbrev pub entries_in : LentSlice → ℕ
 entries_in s = length s.now
 
+abbrev pub mut_entries_in : LentMutSlice → ℕ
+mut_entries_in s = length s.now
+
 -- what a call lends: rows of so many entries, a block of so many, and three tables
 abbrev pub with_lent_tables : ℕ → ℕ → ℕ → LentTables → Lengths
-with_lent_tables above left pred t = lengths above left pred (entries_in t.0) (entries_in t.1.0) (entries_in t.1.1.0)
+with_lent_tables above left pred t = lengths above left pred (mut_entries_in t.0) (mut_entries_in t.1.0) (mut_entries_in t.1.1.0)
 
 -- what a door with this number left of the block that it was lent
-abbrev Left : (ℕ → ℕ → ℕ) → ℕ → ℕ → LentSlice → LentSlice → Type 0
+abbrev Left : (ℕ → ℕ → ℕ) → ℕ → ℕ → LentMutSlice → LentMutSlice → Type 0
 Left clause n number pred pred' = pred'.now ≡ served number (block (λ (y x : ℕ). clause x y) n pred.now) pred.now
 
 -- one with the number 0
-module _ (clause : ℕ → ℕ → ℕ) (n number : ℕ) (pred pred' : LentSlice) (zero : number ≡ 0) (holds : Left clause n number pred pred') where
-  in_its_place : n * n ≤ entries_in pred → Holds n clause pred'.now
+module _ (clause : ℕ → ℕ → ℕ) (n number : ℕ) (pred pred' : LentMutSlice) (zero : number ≡ 0) (holds : Left clause n number pred pred') where
+  in_its_place : n * n ≤ mut_entries_in pred → Holds n clause pred'.now
   in_its_place room x y hx hy =
       ap (λ (l : List ℕ). get_or l (y * n + x) 0) (holds ∙ sym (worked number (block (λ (y x : ℕ). clause x y) n pred.now) pred.now zero))
       ∙ rows_at (λ (y x : ℕ). clause x y) n n pred.now y x 0 hy hx room
 
   -- by the kind of its number: planar and DC; angular; a block in any mode
-  flat : (above left : ℕ) → number ≡ flat_no n above left (entries_in pred) → Holds n clause pred'.now
-  flat above left e = in_its_place (ready n above left (entries_in pred) (sym e ∙ zero)).1
+  flat : (above left : ℕ) → number ≡ flat_no n above left (mut_entries_in pred) → Holds n clause pred'.now
+  flat above left e = in_its_place (ready n above left (mut_entries_in pred) (sym e ∙ zero)).1
 
-  module _ (bits mode : ℕ) (lent : Lengths) (same : lent.pred ≡ entries_in pred) where
+  module _ (bits mode : ℕ) (lent : Lengths) (same : lent.pred ≡ mut_entries_in pred) where
     pub angled : number ≡ angular_no bits n mode lent → Holds n clause pred'.now
     angled e = in_its_place (let h = (fit bits n mode lent (sym e ∙ zero)).room in omega arith)
 
@@ -85,9 +88,9 @@ module _ (plane : List ℕ) (geo : LumaRefGeometry) (g : Gathered) (met : g ≡ 
   gathered = rw met (rw no_is (luma_standard plane geo no_is))
 
   -- and a luma block over the rows that it gave
-  whole : (mode number : ℕ) (pred pred' : LentSlice) → number ≡ 0
+  whole : (mode number : ℕ) (pred pred' : LentMutSlice) → number ≡ 0
       → Left (luma_samples geo.bits geo.n mode (neighbours_of g.rows)) geo.n number pred pred'
-      → (lent : Lengths) → lent.pred ≡ entries_in pred → number ≡ predict_no geo.bits geo.n mode lent
+      → (lent : Lengths) → lent.pred ≡ mut_entries_in pred → number ≡ predict_no geo.bits geo.n mode lent
       → Holds geo.n (standard_block plane geo mode) pred'.now
   unfolding predicted
   whole mode number pred pred' zero holds lent same e x y hx hy =
@@ -139,15 +142,15 @@ module _ {M : Type 1} {𝓤 : Ura M} (𝓛 : Logic 𝓤) (mem : Memory → SProp
   with-scratch = record {
     predict_angular_into = λ κs corner above left n mode edge bits pred pred' last last' number zero.
         fact_mono 𝓤 _ _
-        (λ p. angled _ n number pred pred' zero p.1.0 bits mode (with_scratch (entries_in above) (entries_in left) (entries_in pred)) refl p.0);
+        (λ p. angled _ n number pred pred' zero p.1.0 bits mode (with_scratch (entries_in above) (entries_in left) (mut_entries_in pred)) refl p.0);
     predict_chroma_tb_into = λ κs mode corner above left n bits pred pred' last last' number zero.
         fact_mono 𝓤 _ _
-        (λ p. moded _ n number pred pred' zero p.1.0 bits mode (with_scratch (entries_in above) (entries_in left) (entries_in pred)) refl p.0);
+        (λ p. moded _ n number pred pred' zero p.1.0 bits mode (with_scratch (entries_in above) (entries_in left) (mut_entries_in pred)) refl p.0);
     predict_luma_tb_into = λ κs mode rows n bits pred pred' last last' number zero.
-        fact_mono 𝓤 _ _ (λ p. moded _ n number pred pred' zero p.1.0 bits mode (with_scratch 65 65 (entries_in pred)) refl p.0);
+        fact_mono 𝓤 _ _ (λ p. moded _ n number pred pred' zero p.1.0 bits mode (with_scratch 65 65 (mut_entries_in pred)) refl p.0);
     gathered_luma_into = λ κ plane geo g m κs mode pred pred' last last' number zero.
         fact_mono 𝓤 _ _
-        (λ p. whole plane.now geo g m.0 m.1 mode number pred pred' zero p.1.0 (with_scratch 65 65 (entries_in pred)) refl p.0);
+        (λ p. whole plane.now geo g m.0 m.1 mode number pred pred' zero p.1.0 (with_scratch 65 65 (mut_entries_in pred)) refl p.0);
   }
 
 pub demand_2 : Demand2
@@ -162,21 +165,21 @@ demand_2 = record {
   predict_dc_into = λ κs above left n edge pred pred' last last' number p zero.
       flat _ n number pred pred' zero p.1 (entries_in above) (entries_in left) p.0;
   predict_angular_slices = λ κs corner above left n mode edge bits pred pred' last last' number p zero.
-      angled _ n number pred pred' zero p.1.0 bits mode (with_lent_tables (entries_in above) (entries_in left) (entries_in pred) last) refl p.0;
+      angled _ n number pred pred' zero p.1.0 bits mode (with_lent_tables (entries_in above) (entries_in left) (mut_entries_in pred) last) refl p.0;
   predict_angular_fresh = λ κs corner above left n mode edge bits pred pred' last last' number p zero.
-      angled _ n number pred pred' zero p.1 bits mode (with_scratch (entries_in above) (entries_in left) (entries_in pred)) refl p.0;
+      angled _ n number pred pred' zero p.1 bits mode (with_scratch (entries_in above) (entries_in left) (mut_entries_in pred)) refl p.0;
   predict_chroma_tb_slices = λ κs mode corner above left n bits pred pred' last last' number p zero.
-      moded _ n number pred pred' zero p.1.0 bits mode (with_lent_tables (entries_in above) (entries_in left) (entries_in pred) last) refl p.0;
+      moded _ n number pred pred' zero p.1.0 bits mode (with_lent_tables (entries_in above) (entries_in left) (mut_entries_in pred) last) refl p.0;
   predict_chroma_tb_fresh = λ κs mode corner above left n bits pred pred' last last' number p zero.
-      moded _ n number pred pred' zero p.1 bits mode (with_scratch (entries_in above) (entries_in left) (entries_in pred)) refl p.0;
+      moded _ n number pred pred' zero p.1 bits mode (with_scratch (entries_in above) (entries_in left) (mut_entries_in pred)) refl p.0;
   predict_luma_tb_slices = λ κs mode rows n bits pred pred' last last' number p zero.
-      moded _ n number pred pred' zero p.1.0 bits mode (with_lent_tables 65 65 (entries_in pred) last) refl p.0;
+      moded _ n number pred pred' zero p.1.0 bits mode (with_lent_tables 65 65 (mut_entries_in pred) last) refl p.0;
   predict_luma_tb_fresh = λ κs mode rows n bits pred pred' last last' number p zero.
-      moded _ n number pred pred' zero p.1 bits mode (with_scratch 65 65 (entries_in pred)) refl p.0;
+      moded _ n number pred pred' zero p.1 bits mode (with_scratch 65 65 (mut_entries_in pred)) refl p.0;
   gathered_luma_slices = λ κ plane geo g m κs mode pred pred' last last' number p zero.
-      whole plane.now geo g m.0 m.1 mode number pred pred' zero p.1.0 (with_lent_tables 65 65 (entries_in pred) last) refl p.0;
+      whole plane.now geo g m.0 m.1 mode number pred pred' zero p.1.0 (with_lent_tables 65 65 (mut_entries_in pred) last) refl p.0;
   gathered_luma_fresh = λ κ plane geo g m κs mode pred pred' last last' number p zero.
-      whole plane.now geo g m.0 m.1 mode number pred pred' zero p.1 (with_scratch 65 65 (entries_in pred)) refl p.0;
+      whole plane.now geo g m.0 m.1 mode number pred pred' zero p.1 (with_scratch 65 65 (mut_entries_in pred)) refl p.0;
   with-scratch = with-scratch;
   salvrunde_luma_refs = λ κs bits width height ctu unit row col n plane bytes out out' number.
       luma_refs_spelt plane.now (luma_geometry bits width height ctu unit row col n) out.now bytes;

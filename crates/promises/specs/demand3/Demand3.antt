@@ -9,7 +9,7 @@ use prog.Routine.{Routine}
 use types.Logic.{Logic}
 use contract.Lifetimes.{Lfts}
 use contract.Monad.{Fun, fact}
-use Rattle.std.specs.Borrow.{Bor}
+use Rattle.std.specs.Borrow.{Bor, MutBor}
 use denote.Triple.Clauses.{AtExit}
 use Rattle.h265.specs.Notation.{clip_to}
 use Rattle.predict.specs.declared.scratch.AngularScratch.{AngularScratch}
@@ -163,8 +163,8 @@ pub record Demand3 : Type 2 where
   -- The doors, by their contracts, with what is lent named as in the code: `now` is what it holds, e what there is at exit. The plan is
   -- what the lent numbers or records list, so that calls of both forms, with whatever scratch, are calls of one task where they list one
   -- plan.
-  pub by_walk_numbers : (κs : Lfts 10) (self : Progress) (still : Still) (rows cols sides modes source work : Bor (List ℕ))
-      (residuals : Bor (List ℤ)) (refs indices fractions : Bor (List ℕ)) (grant : ℕ) (r : Stepped) (e : AtExit walk-numbers.ended κs)
+  pub by_walk_numbers : (κs : Lfts 10) (self : Progress) (still : Still) (rows cols sides modes source : Bor (List ℕ))
+      (work : MutBor (List ℕ)) (residuals : MutBor (List ℤ)) (refs indices fractions : MutBor (List ℕ)) (grant : ℕ) (r : Stepped) (e : AtExit walk-numbers.ended κs)
       → walk-numbers-contract.Post κs
       (self, (still, (rows, (cols, (sides, (modes, (source, (work, (residuals, (refs, (indices, (fractions, (grant, tt))))))))))))) r e
       → WalkGave (task still (plan_of rows.now cols.now sides.now modes.now)) source.now
@@ -173,22 +173,22 @@ pub record Demand3 : Type 2 where
       (held r.next (world e.1.1.1.1.1.1.1.0.now e.1.1.1.1.1.1.1.1.0.now))
   pub by_replay_numbers : (κs : Lfts 9) (self : Progress) (still : Still) (rows cols sides modes : Bor (List ℕ))
       (residuals : Bor (List ℤ))
-      (plane refs indices fractions : Bor (List ℕ)) (grant : ℕ) (r : Stepped) (e : AtExit replay-numbers.ended κs)
+      (plane refs indices fractions : MutBor (List ℕ)) (grant : ℕ) (r : Stepped) (e : AtExit replay-numbers.ended κs)
       → replay-numbers-contract.Post κs
       (self, (still, (rows, (cols, (sides, (modes, (residuals, (plane, (refs, (indices, (fractions, (grant, tt)))))))))))) r e
       → ReplayGave (task still (plan_of rows.now cols.now sides.now modes.now)) residuals.now (held self plane.now)
       (ask grant (tables refs.now indices.now fractions.now)) r (held r.next e.1.1.1.1.1.1.1.0.now)
   -- the doors over records are proved by hand: their clause is an assertion of any model, and entails the same
   pub by_walk : {M : Type 1} {𝓤 : Ura M} (𝓛 : Logic 𝓤) (mem : Memory → SProp 𝓤) (run : Routine → Fun 𝓤) (κs : Lfts 5)
-      (self : Progress) (still : Still) (plan : Bor (List Block)) (source work : Bor (List ℕ)) (residuals : Bor (List ℤ))
-      (scratch : Bor AngularScratch) (grant : ℕ) (r : Stepped) (e : AtExit walk-records.ended κs)
+      (self : Progress) (still : Still) (plan : Bor (List Block)) (source : Bor (List ℕ)) (work : MutBor (List ℕ)) (residuals : MutBor (List ℤ))
+      (scratch : MutBor AngularScratch) (grant : ℕ) (r : Stepped) (e : AtExit walk-records.ended κs)
       → ent 𝓤
       ((walk-records.clauses 𝓛 mem run κs (self, (still, (plan, (source, (work, (residuals, (scratch, (grant, tt))))))))).ensures tt r e)
       (fact 𝓤 (WalkGave (task still (listed plan.now)) source.now (held self (world work.now residuals.now))
       (ask grant scratch_tables) r (held r.next (world e.1.1.1.1.0.now e.1.1.1.1.1.0.now))))
   pub by_replay : {M : Type 1} {𝓤 : Ura M} (𝓛 : Logic 𝓤) (mem : Memory → SProp 𝓤) (run : Routine → Fun 𝓤) (κs : Lfts 4)
-      (self : Progress) (still : Still) (plan : Bor (List Block)) (residuals : Bor (List ℤ)) (plane : Bor (List ℕ))
-      (scratch : Bor AngularScratch) (grant : ℕ) (r : Stepped) (e : AtExit replay-records.ended κs)
+      (self : Progress) (still : Still) (plan : Bor (List Block)) (residuals : Bor (List ℤ)) (plane : MutBor (List ℕ))
+      (scratch : MutBor AngularScratch) (grant : ℕ) (r : Stepped) (e : AtExit replay-records.ended κs)
       → ent 𝓤 ((replay-records.clauses 𝓛 mem run κs
       (self, (still, (plan, (residuals, (plane, (scratch, (grant, tt)))))))).ensures tt r e)
       (fact 𝓤 (ReplayGave (task still (listed plan.now)) residuals.now (held self plane.now) (ask grant scratch_tables) r

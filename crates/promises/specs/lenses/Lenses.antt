@@ -11,7 +11,7 @@ use prog.Routine.{Routine}
 use types.Logic.{Logic}
 use contract.Lifetimes.{Lfts}
 use contract.Monad.{Fun, fact}
-use Rattle.std.specs.Borrow.{Bor}
+use Rattle.std.specs.Borrow.{Bor, MutBor}
 use denote.Triple.Clauses.{AtExit}
 use Rattle.laws.specs.Chain.{sum}
 use Rattle.predict.specs.declared.scratch.AngularScratch.{AngularScratch}
@@ -180,7 +180,7 @@ module _ (plan : Plan) (stills : ℕ → Still) (t : Tables) where
 -- The doors take such turns, by their contracts: what is lent is named as in the code, `now` is what it holds and e what there is at exit.
 pub record LensDoors : Type 2 where
   pub turn_walk_numbers : (κs : Lfts 10) (stills : ℕ → Still) (l : ℕ) (self : Progress)
-      (rows cols sides modes source work : Bor (List ℕ)) (residuals : Bor (List ℤ)) (refs indices fractions : Bor (List ℕ)) (grant : ℕ)
+      (rows cols sides modes source : Bor (List ℕ)) (work : MutBor (List ℕ)) (residuals : MutBor (List ℤ)) (refs indices fractions : MutBor (List ℕ)) (grant : ℕ)
       (other : Held (List ℕ)) (r : Stepped) (e : AtExit walk-numbers.ended κs)
       → walk-numbers-contract.Post κs
       (self, (stills l, (rows, (cols, (sides, (modes, (source, (work, (residuals, (refs, (indices, (fractions, (grant, tt))))))))))))) r e
@@ -191,7 +191,7 @@ pub record LensDoors : Type 2 where
       (of_lens source.now (held r.next (world s.0.now s.1.0.now)) other)
       (scratch_of s.1.1.0.now s.1.1.1.0.now s.1.1.1.1.0.now)
   pub turn_replay_numbers : (κs : Lfts 9) (stills : ℕ → Still) (l : ℕ) (self : Progress) (rows cols sides modes : Bor (List ℕ))
-      (residuals : Bor (List ℤ)) (plane refs indices fractions : Bor (List ℕ)) (grant : ℕ)
+      (residuals : Bor (List ℤ)) (plane refs indices fractions : MutBor (List ℕ)) (grant : ℕ)
       (source work : List ℕ) (other : Progress) (r : Stepped) (e : AtExit replay-numbers.ended κs)
       → replay-numbers-contract.Post κs
       (self, (stills l, (rows, (cols, (sides, (modes, (residuals, (plane, (refs, (indices, (fractions, (grant, tt)))))))))))) r e
@@ -203,8 +203,8 @@ pub record LensDoors : Type 2 where
       (scratch_of s.1.0.now s.1.1.0.now s.1.1.1.0.now)
   -- the doors over records are proved by hand: their clause is an assertion of any model, and entails the same
   pub turn_walk : {M : Type 1} {𝓤 : Ura M} (𝓛 : Logic 𝓤) (mem : Memory → SProp 𝓤) (run : Routine → Fun 𝓤) (κs : Lfts 5)
-      (stills : ℕ → Still) (l : ℕ) (self : Progress) (plan : Bor (List Block)) (source work : Bor (List ℕ)) (residuals : Bor (List ℤ))
-      (scratch : Bor AngularScratch) (grant : ℕ) (other : Held (List ℕ)) (r : Stepped) (e : AtExit walk-records.ended κs)
+      (stills : ℕ → Still) (l : ℕ) (self : Progress) (plan : Bor (List Block)) (source : Bor (List ℕ)) (work : MutBor (List ℕ)) (residuals : MutBor (List ℤ))
+      (scratch : MutBor AngularScratch) (grant : ℕ) (other : Held (List ℕ)) (r : Stepped) (e : AtExit walk-records.ended κs)
       → let s = e.1.1.1.1 in
       ent 𝓤
       ((walk-records.clauses 𝓛 mem run κs
@@ -213,8 +213,8 @@ pub record LensDoors : Type 2 where
       (of_lens source.now (held self (world work.now residuals.now)) other) (to_walk as_is grant) scratch.now r
       (of_lens source.now (held r.next (world s.0.now s.1.0.now)) other) s.1.1.0.now))
   pub turn_replay : {M : Type 1} {𝓤 : Ura M} (𝓛 : Logic 𝓤) (mem : Memory → SProp 𝓤) (run : Routine → Fun 𝓤) (κs : Lfts 4)
-      (stills : ℕ → Still) (l : ℕ) (self : Progress) (plan : Bor (List Block)) (residuals : Bor (List ℤ)) (plane : Bor (List ℕ))
-      (scratch : Bor AngularScratch) (grant : ℕ) (source work : List ℕ) (other : Progress) (r : Stepped)
+      (stills : ℕ → Still) (l : ℕ) (self : Progress) (plan : Bor (List Block)) (residuals : Bor (List ℤ)) (plane : MutBor (List ℕ))
+      (scratch : MutBor AngularScratch) (grant : ℕ) (source work : List ℕ) (other : Progress) (r : Stepped)
       (e : AtExit replay-records.ended κs)
       → let s = e.1.1.1.1 in
       ent 𝓤 ((replay-records.clauses 𝓛 mem run κs

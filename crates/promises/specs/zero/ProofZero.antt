@@ -45,8 +45,8 @@ use Rattle.predict.specs.modes.Flat.{planar_alone, dc_alone}
 use Rattle.predict.specs.modes.Angular.{angular_alone}
 use Rattle.predict.specs.modes.Modes.{pred_alone}
 use Rattle.predict.specs.refusals.Refusals.{Lengths, predict_no, angular_no}
-use Rattle.promises.specs.demand2.Demand2.{LentSlice, in_rows, luma_samples, chroma_samples, standard_neighbours, Gathers, Holds}
-use Rattle.promises.specs.demand2.Proof2.{entries_in, with_lent_tables, angled, moded, no_is, demand_2}
+use Rattle.promises.specs.demand2.Demand2.{LentSlice, LentMutSlice, in_rows, luma_samples, chroma_samples, standard_neighbours, Gathers, Holds}
+use Rattle.promises.specs.demand2.Proof2.{entries_in, mut_entries_in, with_lent_tables, angled, moded, no_is, demand_2}
 use Rattle.promises.specs.zero.Zero.{AgreeWhereAvailable, SameButEntry2n, Substituted}
 use Rattle.promises.specs.zero.Zero.{SameBlocks, SameLumaBlocks, SameWithScratch, Zero}
 
@@ -105,7 +105,7 @@ missing plane geo g served e =
     })
 
 -- (c): two blocks that hold clauses which are alike
-same_at : (n : ℕ) (pred buf : LentSlice) (f g : ℕ → ℕ → ℕ) → Holds n f pred.now → Holds n g buf.now
+same_at : (n : ℕ) (pred buf : LentMutSlice) (f g : ℕ → ℕ → ℕ) → Holds n f pred.now → Holds n g buf.now
     → ((x y : ℕ) → x < n → y < n → f x y ≡ g x y)
     → (x y : ℕ) → x < n → y < n → get_or pred.now (y * n + x) 0 ≡ get_or buf.now (y * n + x) 0
 same_at n pred buf f g p q alike x y hx hy = p x y hx hy ∙ alike x y hx hy ∙ sym (q x y hx hy)
@@ -141,37 +141,37 @@ module _ (n corner corner₂ : ℕ) (above left above₂ left₂ : LentSlice) wh
           (demand_2.predict_planar_into κs above left n pred pred' last last' number p e)
           (demand_2.predict_planar_into κt above₂ left₂ n buf buf' more more' number₂ q f)
           (λ x y hx hy.
-          planar_alone n x y (ready n (entries_in above) (entries_in left) (entries_in pred) (sym p.0 ∙ e)).0.size hx hy _ _ a.above a.left);
+          planar_alone n x y (ready n (entries_in above) (entries_in left) (mut_entries_in pred) (sym p.0 ∙ e)).0.size hx hy _ _ a.above a.left);
       by_dc = λ κs κt edge pred pred' last last' number p e buf buf' more more' number₂ q f.
           same_at n pred' buf' (dc edge n (in_rows 0 above left)) (dc edge n (in_rows 0 above₂ left₂))
           (demand_2.predict_dc_into κs above left n edge pred pred' last last' number p e)
           (demand_2.predict_dc_into κt above₂ left₂ n edge buf buf' more more' number₂ q f)
           (λ x y hx hy.
-          dc_alone n x y (ready n (entries_in above) (entries_in left) (entries_in pred) (sym p.0 ∙ e)).0.size hx hy _ _ a.above a.left edge);
+          dc_alone n x y (ready n (entries_in above) (entries_in left) (mut_entries_in pred) (sym p.0 ∙ e)).0.size hx hy _ _ a.above a.left edge);
       by_angular_slices = λ κs κt mode edge bits pred pred' last last' number p e buf buf' more more' number₂ q f.
           same_at n pred' buf' (angular bits edge n mode one) (angular bits edge n mode two)
           (demand_2.predict_angular_slices κs corner above left n mode edge bits pred pred' last last' number p e)
           (demand_2.predict_angular_slices κt corner₂ above₂ left₂ n mode edge bits buf buf' more more' number₂ q f)
           (λ x y hx hy.
-          angled_alike n one two a x y hx hy bits mode edge (with_lent_tables (entries_in above) (entries_in left) (entries_in pred) last) (sym p.0 ∙ e));
+          angled_alike n one two a x y hx hy bits mode edge (with_lent_tables (entries_in above) (entries_in left) (mut_entries_in pred) last) (sym p.0 ∙ e));
       by_angular_fresh = λ κs κt mode edge bits pred pred' last last' number p e buf buf' more more' number₂ q f.
           same_at n pred' buf' (angular bits edge n mode one) (angular bits edge n mode two)
           (demand_2.predict_angular_fresh κs corner above left n mode edge bits pred pred' last last' number p e)
           (demand_2.predict_angular_fresh κt corner₂ above₂ left₂ n mode edge bits buf buf' more more' number₂ q f)
           (λ x y hx hy.
-          angled_alike n one two a x y hx hy bits mode edge (with_scratch (entries_in above) (entries_in left) (entries_in pred)) (sym p.0 ∙ e));
+          angled_alike n one two a x y hx hy bits mode edge (with_scratch (entries_in above) (entries_in left) (mut_entries_in pred)) (sym p.0 ∙ e));
       by_chroma_slices = λ κs κt mode bits pred pred' last last' number p e buf buf' more more' number₂ q f.
           same_at n pred' buf' (chroma_samples bits n mode one) (chroma_samples bits n mode two)
           (demand_2.predict_chroma_tb_slices κs mode corner above left n bits pred pred' last last' number p e)
           (demand_2.predict_chroma_tb_slices κt mode corner₂ above₂ left₂ n bits buf buf' more more' number₂ q f)
           (λ x y hx hy.
-          moded_alike n one two a x y hx hy (chroma_at bits) bits mode (with_lent_tables (entries_in above) (entries_in left) (entries_in pred) last) (sym p.0 ∙ e));
+          moded_alike n one two a x y hx hy (chroma_at bits) bits mode (with_lent_tables (entries_in above) (entries_in left) (mut_entries_in pred) last) (sym p.0 ∙ e));
       by_chroma_fresh = λ κs κt mode bits pred pred' last last' number p e buf buf' more more' number₂ q f.
           same_at n pred' buf' (chroma_samples bits n mode one) (chroma_samples bits n mode two)
           (demand_2.predict_chroma_tb_fresh κs mode corner above left n bits pred pred' last last' number p e)
           (demand_2.predict_chroma_tb_fresh κt mode corner₂ above₂ left₂ n bits buf buf' more more' number₂ q f)
           (λ x y hx hy.
-          moded_alike n one two a x y hx hy (chroma_at bits) bits mode (with_scratch (entries_in above) (entries_in left) (entries_in pred)) (sym p.0 ∙ e));
+          moded_alike n one two a x y hx hy (chroma_at bits) bits mode (with_scratch (entries_in above) (entries_in left) (mut_entries_in pred)) (sym p.0 ∙ e));
     }
 
 -- those that take gathered rows
@@ -181,12 +181,12 @@ same_luma n rows rows₂ a = record {
       same_at n pred' buf' (luma_samples bits n mode (neighbours_of rows)) (luma_samples bits n mode (neighbours_of rows₂))
       (demand_2.predict_luma_tb_slices κs mode rows n bits pred pred' last last' number p e)
       (demand_2.predict_luma_tb_slices κt mode rows₂ n bits buf buf' more more' number₂ q f)
-      (λ x y hx hy. moded_alike n _ _ a x y hx hy (luma_at bits) bits mode (with_lent_tables 65 65 (entries_in pred) last) (sym p.0 ∙ e));
+      (λ x y hx hy. moded_alike n _ _ a x y hx hy (luma_at bits) bits mode (with_lent_tables 65 65 (mut_entries_in pred) last) (sym p.0 ∙ e));
   by_luma_fresh = λ κs κt mode bits pred pred' last last' number p e buf buf' more more' number₂ q f.
       same_at n pred' buf' (luma_samples bits n mode (neighbours_of rows)) (luma_samples bits n mode (neighbours_of rows₂))
       (demand_2.predict_luma_tb_fresh κs mode rows n bits pred pred' last last' number p e)
       (demand_2.predict_luma_tb_fresh κt mode rows₂ n bits buf buf' more more' number₂ q f)
-      (λ x y hx hy. moded_alike n _ _ a x y hx hy (luma_at bits) bits mode (with_scratch 65 65 (entries_in pred)) (sym p.0 ∙ e));
+      (λ x y hx hy. moded_alike n _ _ a x y hx hy (luma_at bits) bits mode (with_scratch 65 65 (mut_entries_in pred)) (sym p.0 ∙ e));
 }
 
 -- those with the scratch as a struct
@@ -196,19 +196,19 @@ module _ {M : Type 1} {𝓤 : Ura M} (𝓛 : Logic 𝓤) (mem : Memory → SProp
     angular_held = λ n corner corner₂ above left above₂ left₂ a κs mode edge bits pred pred' last last' number zero.
         fact_mono 𝓤 _ _
         (λ p x y hx hy.
-        let lent = with_scratch (entries_in above) (entries_in left) (entries_in pred) in
+        let lent = with_scratch (entries_in above) (entries_in left) (mut_entries_in pred) in
         angled (angular bits edge n mode (in_rows corner above left)) n number pred pred' zero p.1.0 bits mode lent refl p.0 x y hx hy
         ∙ angled_alike n _ _ a x y hx hy bits mode edge lent (sym p.0 ∙ zero));
     chroma_held = λ n corner corner₂ above left above₂ left₂ a κs mode bits pred pred' last last' number zero.
         fact_mono 𝓤 _ _
         (λ p x y hx hy.
-        let lent = with_scratch (entries_in above) (entries_in left) (entries_in pred) in
+        let lent = with_scratch (entries_in above) (entries_in left) (mut_entries_in pred) in
         moded (chroma_samples bits n mode (in_rows corner above left)) n number pred pred' zero p.1.0 bits mode lent refl p.0 x y hx hy
         ∙ moded_alike n _ _ a x y hx hy (chroma_at bits) bits mode lent (sym p.0 ∙ zero));
     luma_held = λ n rows rows₂ a κs mode bits pred pred' last last' number zero.
         fact_mono 𝓤 _ _
         (λ p x y hx hy.
-        let lent = with_scratch 65 65 (entries_in pred) in
+        let lent = with_scratch 65 65 (mut_entries_in pred) in
         moded (luma_samples bits n mode (neighbours_of rows)) n number pred pred' zero p.1.0 bits mode lent refl p.0 x y hx hy
         ∙ moded_alike n _ _ a x y hx hy (luma_at bits) bits mode lent (sym p.0 ∙ zero));
   }

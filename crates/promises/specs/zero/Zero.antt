@@ -36,7 +36,7 @@ use Rattle.predict.proofs.scratch_predict.predict_chroma_tb_fresh.Reads as chrom
 use Rattle.predict.proofs.predict_luma_tb_slices.Reads as luma-slices
 use Rattle.predict.specs.contracts.scratch_predict.predict_luma_tb_into as luma-into
 use Rattle.predict.proofs.scratch_predict.predict_luma_tb_fresh.Reads as luma-fresh
-use Rattle.promises.specs.demand2.Demand2.{◌and◌, none, LentSlice, LentTables, in_rows, luma_samples, chroma_samples}
+use Rattle.promises.specs.demand2.Demand2.{◌and◌, none, LentSlice, LentMutSlice, LentTables, in_rows, luma_samples, chroma_samples}
 use Rattle.promises.specs.demand2.Demand2.{plane_sample, standard_neighbours, Gathers, WritesHeld}
 
 -- (a) A block's neighbours: the corner and entries 0 .. m − 1 of the row above and of the left column. Two planes agree at each of them
@@ -78,11 +78,11 @@ pub record Substituted (plane : LentSlice) (geo : LumaRefGeometry) (g : Gathered
 
 -- (c) Two calls of doors that write a block of side n, each meeting its contract with the number 0: they leave the same samples in their
 -- buffers. `last` and `more` are their scratch, of which nothing is said.
-abbrev pub SameBlock : {A Last : Type 0} → ℕ → (A → ℕ → A → Type 0) → (LentSlice → Last → A)
-    → (A → ℕ → A → Type 0) → (LentSlice → Last → A) → Type 0
+abbrev pub SameBlock : {A Last : Type 0} → ℕ → (A → ℕ → A → Type 0) → (LentMutSlice → Last → A)
+    → (A → ℕ → A → Type 0) → (LentMutSlice → Last → A) → Type 0
 SameBlock {A} {Last} n post call post₂ call₂ =
-    (pred pred' : LentSlice) (last last' : Last) (number : ℕ) → post (call pred last) number (call pred' last') → number ≡ 0
-    → (buf buf' : LentSlice) (more more' : Last) (number₂ : ℕ) → post₂ (call₂ buf more) number₂ (call₂ buf' more') → number₂ ≡ 0
+    (pred pred' : LentMutSlice) (last last' : Last) (number : ℕ) → post (call pred last) number (call pred' last') → number ≡ 0
+    → (buf buf' : LentMutSlice) (more more' : Last) (number₂ : ℕ) → post₂ (call₂ buf more) number₂ (call₂ buf' more') → number₂ ≡ 0
     → (x y : ℕ) → x < n → y < n → get_or pred'.now (y * n + x) 0 ≡ get_or buf'.now (y * n + x) 0
 
 -- the same block at every door that takes a corner and two lent rows: every mode, with the edge filter on and off
