@@ -1,8 +1,9 @@
--- Blocks that the reach doors serve, as facts, and that the code's rule is document 01's, for luma and for chroma. Assumes nothing.
-use Rattle.std.specs.Prelude.{◌≡◌, refl, Bool, true, false, ◌&&◌, ◌||◌, ℕ, ◌+◌, ◌-◌, ◌*◌, ◌/◌, ◌%◌, ◌^◌, ◌≤◌, ◌<◌, leb, ltb, eqb, ℤ, pos, negsuc, ◌-ℤ◌}
-use Rattle.std.proofs.Common.{sym, ap, ap₂, ◌∙◌, subst, inl, ⊎_elim, mul-one, zero-mul, add-mul, div-mul-le_self, div-le_self, arith, leb-true, ltb-true, eqb-true, lt-ltb, le-ltb, eq-eqb, ne_eqb}
+-- Blocks that the reach doors serve, as facts, and that the code's rule is document 01's, for luma (for chroma: proofs/ChromaRule).
+-- Assumes nothing.
+use Rattle.std.specs.Prelude.{◌≡◌, refl, Bool, true, false, ◌&&◌, ℕ, ◌+◌, ◌-◌, ◌*◌, ◌/◌, ◌%◌, ◌^◌, ◌≤◌, ◌<◌, leb, ltb, eqb, ℤ, pos, negsuc, ◌-ℤ◌}
+use Rattle.std.proofs.Common.{sym, ap, ap₂, ◌∙◌, subst, inl, ⊎_elim, mul-one, zero-mul, add-mul, div-mul-le_self, div-le_self, arith, leb-true, ltb-true, eqb-true, lt-ltb, le-ltb}
 use Rattle.std.proofs.Math.Path.{fun_ext}
-use Rattle.std.proofs.Math.Decide.{dec_lt, ℕ_discrete}
+use Rattle.std.proofs.Math.Decide.{dec_lt}
 use Rattle.laws.specs.Choose.{both_true, both_same, passed}
 use Rattle.laws.specs.Diff.{sub_pos}
 use Rattle.h265.specs.Order.{min_tb_addr_zs}
@@ -20,7 +21,7 @@ use Rattle.order.specs.declared.Site.{Site}
 use Rattle.order.specs.Order.{picture_ok, place_ok, number_at, before}
 use Rattle.order.specs.Good.{Good, sized, shifts_of, small_of}
 use Rattle.order.specs.Reach.{corner_has, above_has, left_has, leading, reach_by, in_plane, luma_place_ok, luma_reach_no, luma_has}
-use Rattle.order.specs.Reach.{chroma_height, chroma_width, has_chroma, chroma_block_ok, chroma_place_ok, chroma_reach_no, chroma_has}
+use Rattle.order.specs.Reach.{chroma_height, chroma_width, has_chroma, chroma_block_ok, chroma_place_ok, chroma_reach_no}
 use Rattle.order.specs.Edges.{number_by, Sited, above_there, left_there, corner_there, edges_of}
 use Rattle.order.specs.Walk.{span}
 
@@ -124,10 +125,10 @@ sited p s e height width row col n g es size i o tall wide =
         omega arith
 
 -- a rule that tells of each sample of a plane by a test of its own, and of none outside it
-record TellsEach (has : ℤ → ℤ → Bool) (height width : ℕ) (there : ℕ → ℕ → Bool) : Type 0 where
-  inside : (r c : ℕ) → has (pos r) (pos c) ≡ (ltb r height && ltb c width && there r c)
-  top : (r : ℕ) (c : ℤ) → has (negsuc r) c ≡ false
-  side : (r c : ℕ) → has (pos r) (negsuc c) ≡ false
+pub record TellsEach (has : ℤ → ℤ → Bool) (height width : ℕ) (there : ℕ → ℕ → Bool) : Type 0 where
+  pub inside : (r c : ℕ) → has (pos r) (pos c) ≡ (ltb r height && ltb c width && there r c)
+  pub top : (r : ℕ) (c : ℤ) → has (negsuc r) c ≡ false
+  pub side : (r c : ℕ) → has (pos r) (negsuc c) ≡ false
 
 -- a row or column before a place
 up : (v : ℕ) → 0 < v → pos v -ℤ pos 1 ≡ pos (v - 1)
@@ -224,7 +225,7 @@ module _ {has : ℤ → ℤ → Bool} {height width : ℕ} {there : ℕ → ℕ 
           ∙ sym (ap (λ (r : ℕ). has (pos r -ℤ pos 1) (pos col -ℤ pos 1)) z ∙ t.top 0 (pos col -ℤ pos 1))
 
   -- so are the reaches by the two, with a limit for the corner and the row above, and one for the left column
-  reach_is : (n high low : ℕ) → ((c : ℕ) → 0 < row → Limits high (row - 1) c) → ((r : ℕ) → row ≤ r → Limits low r (col - 1))
+  pub reach_is : (n high low : ℕ) → ((c : ℕ) → 0 < row → Limits high (row - 1) c) → ((r : ℕ) → row ≤ r → Limits low r (col - 1))
       → edges_of s e n high low ≡ reach_by 0 has row col n
   reach_is n high low up_same left-same =
       let corner = corner_is high up_same in
@@ -349,7 +350,7 @@ held_is step v t h = ⊎_elim (at 1 (omega arith)) (at 2 (omega arith)) t
     at : (k : ℕ) → saturated (k * v) ≡ v * k → step ≡ k → saturated (step * v) ≡ v * step
     at k q e = subst (λ (x : ℕ). saturated (x * v) ≡ v * x) (sym e) q
 
-chroma_over : (b : ChromaBlock) → ChromaFine b → Over (chroma_site b) (chroma_height b) (chroma_width b) b.row.0 b.col.0
+pub chroma_over : (b : ChromaBlock) → ChromaFine b → Over (chroma_site b) (chroma_height b) (chroma_width b) b.row.0 b.col.0
 chroma_over b f =
     let h = step_height b.format in
     let w = step_width b.format in
@@ -386,47 +387,3 @@ chroma_sited b f s e es ee =
     f.placed (chroma_over b f)
     (omega (arith, f.good.tall.high, div-mul-le_self b.picture.height (sub_height b.format)))
     (omega (arith, f.good.wide.high, div-mul-le_self b.picture.width (sub_width b.format))))
-
--- the chroma rule in a row above the block, and in one that is not
-above_block : (nb cur r row : ℕ) → r < row → ltb nb (cur + 1) ≡ (ltb nb cur || eqb nb cur && ltb r row)
-above_block nb cur r row h = rw (lt-ltb r row h) (go (dec_lt nb cur) (ℕ_discrete nb cur))
-  where
-    go : Dec (nb < cur) → Dec (nb ≡ cur) → ltb nb (cur + 1) ≡ (ltb nb cur || eqb nb cur && true)
-    go (yes l) _ = simp (lt-ltb nb (cur + 1) (omega arith), lt-ltb nb cur l)
-    go (no l) (yes e) = simp (lt-ltb nb (cur + 1) (omega arith), le-ltb nb cur (omega arith), eq-eqb nb cur e)
-    go (no l) (no e) = simp (le-ltb nb (cur + 1) (omega arith), le-ltb nb cur (omega arith), ne_eqb nb cur e)
-
-beside_block : (nb cur r row : ℕ) → row ≤ r → ltb nb cur ≡ (ltb nb cur || eqb nb cur && ltb r row)
-beside_block nb cur r row h = rw (le-ltb r row h) (go (ltb nb cur) (eqb nb cur))
-  where
-    go : (a b : Bool) → a ≡ (a || b && false)
-    go true b = refl
-    go false true = refl
-    go false false = refl
-
-chroma_tells : (b : ChromaBlock)
-    → let p = b.picture in
-    let cur = number_at p b.cur_luma_row.0 b.cur_luma_col.0 in
-    let nb : ℕ → ℕ → ℕ = λ r c. number_at p (r * sub_height b.format) (c * sub_width b.format) in
-    TellsEach (chroma_has b) (chroma_height b) (chroma_width b) (λ r c. ltb (nb r c) cur || eqb (nb r c) cur && ltb r b.row.0)
-unfolding chroma_has
-chroma_tells b = record { inside = λ r c. refl; top = λ r c. refl; side = λ r c. refl }
-
--- the code's rule with its two limits is the chroma rule
-pub chroma_edges : (b : ChromaBlock) → ChromaFine b → (s : Shifts) (e : Site) (cur : ℕ) (r : Reach) → s ≡ shifts_of b.picture → e
-    ≡ chroma_site b
-    → cur ≡ number_at b.picture b.cur_luma_row.0 b.cur_luma_col.0 → r ≡ edges_of s e b.n (cur + 1) cur
-    → r ≡ reach_by 0 (chroma_has b) b.row.0 b.col.0 b.n
-unfolding number_at min_tb_addr_zs
-chroma_edges b f s e cur r es ee ec er =
-    let p = b.picture in
-    let k = number_at p b.cur_luma_row.0 b.cur_luma_col.0 in
-    let nb : ℕ → ℕ → ℕ = λ y x. number_at p (y * sub_height b.format) (x * sub_width b.format) in
-    let some = size_small b.n f.size in
-    er
-    ∙ ap (λ (j : ℕ). edges_of s e b.n (j + 1) j) ec
-    ∙ ap₂ (λ (t : Shifts) (m : Site). edges_of t m b.n (k + 1) k) es ee
-    ∙ reach_is (chroma_tells b) (shifts_of p) (chroma_site b) b.row.0 b.col.0 (omega (arith, f.placed.row_in))
-    (omega (arith, f.placed.col_in)) (chroma_over b f) b.n (k + 1) k
-    (λ c h. sym (above_block (nb (b.row.0 - 1) c) k (b.row.0 - 1) b.row.0 (omega arith)))
-    (λ y h. sym (beside_block (nb y (b.col.0 - 1)) k y b.row.0 h))

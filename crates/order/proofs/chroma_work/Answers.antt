@@ -1,7 +1,8 @@
 -- `order::chroma_work` meets its contract: the code's rule with its two limits is the chroma rule.
 use native.Mathlib.Omega.{arith}
 use Rattle.order.specs.Good.{small_of, number_of, number_small}
-use Rattle.order.specs.Blocks.{chroma_fine, chroma_sited, chroma_edges}
+use Rattle.order.specs.Blocks.{chroma_fine, chroma_sited}
+use Rattle.order.proofs.ChromaRule.{chroma_edges}
 use Rattle.order.proofs.chroma_work.Goals as goal
 
 pub shifts_of-s-requires : goal.shifts_of-s-requires
