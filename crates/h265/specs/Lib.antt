@@ -21,7 +21,7 @@ pub mod Angular
 pub mod Prediction
 -- neighbours that agree where prediction reads them, and predictors that are means
 pub mod Mean
--- what neighbours and predictions are read from: the available samples beside a block
+-- the available samples beside a block, from which neighbours and predictions are read (proofs/Locality)
 pub mod Locality
 -- Annex D, the checksum of a decoded picture
 pub mod Checksum

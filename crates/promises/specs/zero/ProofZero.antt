@@ -21,7 +21,7 @@ use Rattle.h265.specs.Dc.{dc}
 use Rattle.h265.specs.Angular.{angular}
 use Rattle.h265.specs.Prediction.{pred_samples}
 use Rattle.h265.specs.Mean.{Agree}
-use Rattle.h265.specs.Locality.{neighbours_agree}
+use Rattle.h265.proofs.Locality.{neighbours_agree}
 use Rattle.domain.specs.Domain.{size_ok}
 use Rattle.domain.specs.Facts.{size_of, size_small}
 use Rattle.domain.specs.declared.rows.Rows.{Rows}
