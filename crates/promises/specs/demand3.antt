@@ -1,10 +1,8 @@
--- Document 01's demand 3, on one page with its proof; what the page on bytes (OnBytes) needs is here too. No code.
--- Demand3: document 01's demand 3, for a reader, over Calls: a call of walk or replay, and a chain of calls. Proof3 proves it; Example is a
--- walk that is served.
+-- Document 01's demand 3; what the page on bytes (OnBytes) needs is here too. No code.
+-- Demand3: document 01's demand 3, for a reader, over Calls: a call of walk or replay, and a chain of calls. Proof3 of proofs/demand3 proves it;
+-- Example there is a walk that is served.
 pub mod Calls
 pub mod Demand3
-pub mod Proof3
-pub mod Example
 -- Chains: a chain of calls is one call. Accept: what it means that a call is not refused. Gives: what one call of a door gives.
 -- Forms: one plan in its forms.
 pub mod Chains
@@ -15,7 +13,6 @@ pub mod Forms
 pub mod Blocks
 pub mod Range
 pub mod Spots
--- On bytes: Words has numbers and residuals as bytes, ProofBytes proves OnBytes, ExampleBytes is a replay that is served.
+-- On bytes: Words has numbers and residuals as bytes. ProofBytes of proofs/demand3 proves OnBytes, ExampleBytes there is a replay that is
+-- served.
 pub mod Words
-pub mod ProofBytes
-pub mod ExampleBytes

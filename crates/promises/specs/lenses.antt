@@ -1,7 +1,6 @@
 -- Several lenses under one plan that take turns with one scratch. No code. TurnLaw: the law of turns, over any call whose answer does
--- not go by the scratch. Lenses: what is promised of walk and replay. ProofLenses and ProofDoors prove it. TwoLenses: document 02's figure.
+-- not go by the scratch. Lenses: what is promised of walk and replay. ProofLenses of
+-- proofs/lenses and ProofDoors prove it. TwoLenses there: document 02's figure.
 pub mod TurnLaw
 pub mod Lenses
-pub mod ProofLenses
 pub mod ProofDoors
-pub mod TwoLenses

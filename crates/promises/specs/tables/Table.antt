@@ -43,10 +43,9 @@ use Rattle.refs.specs.declared.substitution.Flags.{Flags}
 use Rattle.refs.specs.declared.LumaRefGeometry.{LumaRefGeometry}
 use Rattle.refs.specs.declared.ChromaRefGeometry.{ChromaRefGeometry}
 use Rattle.refs.specs.substitution.Door.{substitute_no, substitute_refs}
-use Rattle.refs.specs.Door.{luma_block, luma_number, luma_length, luma_no, get_reference_samples, chroma_picture, chroma_block}
+use Rattle.refs.specs.Door.{luma_block, chroma_picture, chroma_block}
 use Rattle.refs.specs.Door.{chroma_length, chroma_number, chroma_no, get_reference_samples_chroma_pair}
 use Rattle.refs.specs.Served.{gather_no}
-use Rattle.camera.specs.gather.Door.{luma_bytes_no, luma_bytes_door}
 use Rattle.smooth.specs.Smoothing as smoothing
 use Rattle.smooth.specs.Smoothing.{should_filter_refs, filter_no, filter_references}
 use Rattle.predict.specs.refusals.Refusals.{flat_no, Lengths, lengths, is_enough, angular_no, predict_no, refs_no, rows_no}
@@ -170,7 +169,7 @@ module _ (p : Picture) (row : LumaRow) (col : LumaCol) where
   is-available nb = decode-order
 
 -- blocks of the two kinds
-luma-place : (b : LumaBlock) → Tells (luma_place_ok b) (BadLuma b)
+pub luma-place : (b : LumaBlock) → Tells (luma_place_ok b) (BadLuma b)
 luma-place b =
     let p = b.picture in
     all_of (all_of (all_of (placed p.height p.width b.row.0 b.col.0 b.n) (at-most b.n p.ctu)) (unit p.unit))
@@ -234,21 +233,6 @@ abbrev pub luma_table : Type 0 → LumaRefGeometry → List (Row ℕ)
 luma_table P g =
     (1 when ¬ Depth g.bits) ∷ (2 when ¬ Size g.n) ∷ (4 when BadPicture g.picture) ∷ (5 when P) ∷ (6 when BadLuma (luma_block g))
     ∷ []
-
-pub luma-number : {whole : Bool} {P : Type 0} → Tells whole P → (g : LumaRefGeometry) → Exact (luma_number whole g) (luma_table P g)
-luma-number t g =
-    exact_row (depth g.bits) refl
-    (λ e. exact_row (size g.n) refl
-    (λ e. exact_row (picture g.picture) refl (λ e. exact_row t refl (λ e. exact_row (luma-place (luma_block g)) refl (λ e. exact_none)))))
-
-pub luma_gather : (plane : List ℕ) (g : LumaRefGeometry)
-    → Exact (get_reference_samples plane g).no (luma_table (¬ (length plane ≡ luma_length g)) g)
-unfolding get_reference_samples luma_no
-luma_gather plane g = luma-number (same (length plane) (luma_length g)) g
-
-pub luma_gather_bytes : (b : List ℕ) (g : LumaRefGeometry) → Exact (luma_bytes_door b g).no (luma_table (¬ (length b ≡ 2 * luma_length g)) g)
-unfolding luma_bytes_door luma_bytes_no
-luma_gather_bytes b g = luma-number (same (length b) (2 * luma_length g)) g
 
 -- the rows of a chroma gather, where P says that a plane is not whole
 abbrev pub chroma_table : Type 0 → ChromaRefGeometry → List (Row ℕ)
@@ -327,33 +311,23 @@ module _ (bits n mode : ℕ) where
   abbrev pub predict_table : Type 0 → List (Row ℕ)
   predict_table P = (1 when ¬ Depth bits) ∷ (2 when ¬ Size n) ∷ (3 when 34 < mode) ∷ (5 when P) ∷ []
 
-  angular_number : {P : Type 0} (l : Lengths) → Tells (is_enough n l) P → Exact (angular_no bits n mode l) (angular_table P)
+  pub angular_number : {P : Type 0} (l : Lengths) → Tells (is_enough n l) P → Exact (angular_no bits n mode l) (angular_table P)
   angular_number l t =
       exact_row (depth bits) refl
       (λ e. exact_row (size n) refl (λ e. exact_row (all_of (at-most 2 mode) (at-most mode 34)) refl
       (λ e. exact_row t refl (λ e. exact_none))))
 
-  predict_number : {P : Type 0} (l : Lengths) → (Size n → Tells (is_enough n l) P) → Exact (predict_no bits n mode l) (predict_table P)
+  pub predict_number : {P : Type 0} (l : Lengths) → (Size n → Tells (is_enough n l) P) → Exact (predict_no bits n mode l) (predict_table P)
   predict_number l t = exact_row (depth bits) refl
       (λ e. exact_row (size n) refl (λ s. exact_row (at-most mode 34) refl (λ e. exact_row (t (size_of n s)) refl (λ e. exact_none))))
 
-  rows_short : (above left pred : ℕ)
+  pub rows_short : (above left pred : ℕ)
       → Tells (leb (2 * n) above && leb (2 * n) left && leb (n * n) pred) (above < 2 * n or left < 2 * n or pred < n * n)
   rows_short above left pred = all_of (all_of (at-most (2 * n) above) (at-most (2 * n) left)) (at-most (n * n) pred)
 
   -- rows of 65 entries are never short
   whole_rows : (pred : ℕ) → Size n → Tells (leb (2 * n) 65 && leb (2 * n) 65 && leb (n * n) pred) (pred < n * n)
   whole_rows pred s = rw (le-leb (2 * n) 65 (omega (arith, size_small n s))) (at-most (n * n) pred)
-
-  short : (l : Lengths) → Tells (is_enough n l) (Short n l)
-  short l = scratch (rows_short l.above l.left l.pred) l.refs l.indices l.fractions
-
-  -- the tables as lent slices; the rows of a luma block come by value, 65 entries each
-  pub predict_angular : (l : Lengths) → Exact (angular_no bits n mode l) (angular_table (Short n l))
-  predict_angular l = angular_number l (short l)
-
-  pub predict_chroma : (l : Lengths) → Exact (predict_no bits n mode l) (predict_table (Short n l))
-  predict_chroma l = predict_number l (λ s. short l)
 
   pub predict_luma : (pred refs indices fractions : ℕ)
       → Exact (predict_no bits n mode (lengths 65 65 pred refs indices fractions))

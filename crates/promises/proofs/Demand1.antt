@@ -39,19 +39,24 @@ use Rattle.probes.specs.Probes.{figures_of}
 use Rattle.probes.specs.walk_probes.Probes.{still_of}
 use Rattle.promises.specs.tables.Exact.{Row, Exact, ExactFirst}
 use Rattle.promises.specs.tables.Table.{depth-from, decode-order, is-available, luma-reach, chroma-reach, substitute-refs}
-use Rattle.promises.specs.tables.Table.{gather_number, luma_gather, chroma_gather, should-filter-refs, filter-references}
-use Rattle.promises.specs.tables.Table.{filter-luma-refs, predict_flat, predict_angular, predict_chroma, predict_luma}
+use Rattle.promises.specs.tables.Table.{gather_number, chroma_gather, should-filter-refs, filter-references}
+use Rattle.promises.proofs.tables.Table.{luma_gather}
+use Rattle.promises.specs.tables.Table.{filter-luma-refs, predict_flat, predict_luma}
+use Rattle.promises.proofs.tables.Table.{predict_angular, predict_chroma}
 use Rattle.promises.specs.tables.Table.{vertical_refs, vertical_rows}
 use Rattle.promises.specs.tables.Table.{predict_angular_scratch, predict_chroma_scratch, predict_luma_scratch, compute_residual}
 use Rattle.promises.specs.tables.Table.{reconstruct}
-use Rattle.promises.specs.run_tables.TableWalk.{about, verdict_in, check_plan, check_plan_numbers, check_plan_bytes, opening, settled}
-use Rattle.promises.specs.run_tables.TableWalk.{walk, replay}
-use Rattle.promises.specs.run_tables.TableBytes.{luma_refs, chroma_refs, planar, dc, angular, chroma-block, luma-block}
-use Rattle.promises.specs.run_tables.TableBytes as bytes
-use Rattle.promises.specs.run_tables.TableProgram.{ProgramTable, program}
+use Rattle.promises.specs.run_tables.TableWalk.{about, verdict_in, opening, settled}
+use Rattle.promises.proofs.run_tables.TableWalk.{check_plan, check_plan_numbers, check_plan_bytes}
+use Rattle.promises.proofs.run_tables.TableWalk.{walk, replay}
+use Rattle.promises.proofs.run_tables.TableBytes.{luma_refs, chroma_refs, planar, dc, angular, chroma-block, luma-block}
+use Rattle.promises.proofs.run_tables.TableBytes as bytes
+use Rattle.promises.specs.run_tables.TableProgram.{ProgramTable}
+use Rattle.promises.proofs.run_tables.TableProgram.{program}
 use Rattle.promises.specs.run_tables.TableChecksum as sums
 use Rattle.promises.specs.run_tables.TableChoose.{choose_mode, choose}
-use Rattle.promises.specs.run_tables.TableErrors as pairs
+use Rattle.promises.specs.run_tables.TableErrors.{entry_verdict}
+use Rattle.promises.proofs.run_tables.TableErrors as pairs
 use Rattle.camera.proofs.salvrunde_angular.Reads as camera-salvrunde-angular
 use Rattle.camera.proofs.salvrunde_checksum.Reads as camera-salvrunde-checksum
 use Rattle.camera.proofs.salvrunde_count_errors.Reads as camera-salvrunde-count-errors
@@ -245,10 +250,10 @@ errors_join_row = tabled (λ a x s p. ap (λ r. r.no) p)
 
 -- the number that an entry gives, with its block
 abbrev entered_in : List ℕ → List ℕ → List ℕ → List ℕ → ℕ → Verdict
-entered_in a b plan d number = about number (pairs.entry_verdict a b plan d).block
+entered_in a b plan d number = about number (entry_verdict a b plan d).block
 
 entered_number : (a b plan d : List ℕ) {number : ℕ} {after : List ℕ} → record { number = number; bytes = after } ≡ count_entry a b plan d
-    → entered_in a b plan d number ≡ pairs.entry_verdict a b plan d
+    → entered_in a b plan d number ≡ entry_verdict a b plan d
 entered_number a b plan d p = ap (entered_in a b plan d) (ap (λ (w : Entered). w.number) p ∙ pairs.entry_number a b plan d)
 
 record_count_into_row : (κs : Lfts 4)

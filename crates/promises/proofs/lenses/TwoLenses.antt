@@ -14,10 +14,10 @@ use Rattle.walk.specs.Lent.{scratch_tables}
 use Rattle.promises.specs.demand3.Calls.{Held, Made, Served, fresh, walk_verdict_at}
 use Rattle.promises.specs.demand3.Chains.{sum_none, sum_more}
 use Rattle.promises.specs.demand3.Demand3.{LosslessWalk}
-use Rattle.promises.specs.demand3.Example.{two, source, blank_world, blank_served}
+use Rattle.promises.proofs.demand3.Example.{two, source, blank_world, blank_served}
 use Rattle.promises.specs.lenses.TurnLaw.{Turn, own, Alone, Together}
 use Rattle.promises.specs.lenses.Lenses.{OfLens, of_lens, Request, to_walk, as_is, start_of, LensGave, Lenses, Turns}
-use Rattle.promises.specs.lenses.ProofLenses.{lenses_settled}
+use Rattle.promises.proofs.lenses.ProofLenses.{lenses_settled}
 
 abbrev too_bright : List ℕ
 too_bright = 256 ∷ replicate 127 130

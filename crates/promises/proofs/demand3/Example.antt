@@ -16,7 +16,7 @@ use Rattle.promises.specs.demand3.Calls.{Task, Ask, Roomy, granted, Each, Served
 use Rattle.promises.specs.demand3.Calls.{replay_call}
 use Rattle.promises.specs.demand3.Chains.{sum_none, sum_more}
 use Rattle.promises.specs.demand3.Demand3.{WalksAll}
-use Rattle.promises.specs.demand3.Proof3.{demand_3}
+use Rattle.promises.proofs.demand3.Proof3.{demand_3}
 
 abbrev pub two : Task
 two =

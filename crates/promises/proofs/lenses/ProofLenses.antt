@@ -21,9 +21,9 @@ use Rattle.promises.specs.demand3.Calls.{ReplaysServed, blocks, count, walk_verd
 use Rattle.promises.specs.demand3.Chains.{sum_more}
 use Rattle.promises.specs.demand3.Gives.{walk_gave, replay_gave}
 use Rattle.promises.specs.demand3.Demand3.{WalksAll, LosslessWalk, Replayed}
-use Rattle.promises.specs.demand3.Proof3.{demand_3}
+use Rattle.promises.proofs.demand3.Proof3.{demand_3}
 use Rattle.promises.specs.lenses.TurnLaw.{own, asks_in, answers_in, Alone, Blind, Answered, same_head, same_tail}
-use Rattle.promises.specs.lenses.TurnLaw.{own_turns, taken_so, in_parts, as_alone}
+use Rattle.promises.proofs.lenses.TurnLaw.{own_turns, taken_so, in_parts, as_alone}
 use Rattle.promises.specs.lenses.Lenses.{OfLens, of_lens, Request, to_walk, to_replay, as_is, start_of, WalkTurn, ReplayTurn}
 use Rattle.promises.specs.lenses.Lenses.{LensGave, Lenses, Turns, WalksOut, ReplaysOut, LensesPromise}
 

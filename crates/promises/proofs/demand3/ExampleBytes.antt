@@ -8,10 +8,10 @@ use Rattle.plan.specs.records.Records.{record_of}
 use Rattle.plan.specs.tiling.Plan.{listed}
 use Rattle.promises.specs.demand3.Calls.{task, Each, count, fresh, calls, walk_call}
 use Rattle.promises.specs.demand3.Chains.{sum_none, sum_more}
-use Rattle.promises.specs.demand3.Example.{two, source, blank_world, there, walked}
-use Rattle.promises.specs.demand3.Proof3.{demand_3}
+use Rattle.promises.proofs.demand3.Example.{two, source, blank_world, there, walked}
+use Rattle.promises.proofs.demand3.Proof3.{demand_3}
 use Rattle.promises.specs.demand3.Words.{words_of, length_words, residuals_back}
-use Rattle.promises.specs.demand3.ProofBytes.{on_bytes}
+use Rattle.promises.proofs.demand3.ProofBytes.{on_bytes}
 use Rattle.promises.specs.OnBytes.{ByteJob, ByteAsk, bytes_granted, spelt_task, byte_call, EachServed, Fits, Long}
 
 abbrev residuals : List ℤ

@@ -34,7 +34,7 @@ use Rattle.promises.specs.demand3.Demand3.{Replayed, ReplayDoes, WalksAll}
 use Rattle.promises.specs.demand3.Gives.{replay_done}
 use Rattle.promises.specs.demand3.Forms.{bytes_listed}
 use Rattle.promises.specs.demand3.Words.{words_of, length_words, words_are, residuals_back, in_words, read_back}
-use Rattle.promises.specs.demand3.Proof3.{demand_3}
+use Rattle.promises.proofs.demand3.Proof3.{demand_3}
 use Rattle.promises.specs.OnBytes.{ByteJob, ByteAsk, spelt_task, spelt_ask, bytes_granted, spelt, record_in, byte_after, byte_call}
 use Rattle.promises.specs.OnBytes.{EachServed, InType, Fits, Long, ByteGave, OnBytes}
 

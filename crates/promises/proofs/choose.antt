@@ -1,0 +1,2 @@
+-- ProofChoose proves what is promised of the chooser.
+pub mod ProofChoose
