@@ -53,7 +53,7 @@ pub(crate) fn sample_in(plane: &[u8], at: usize) -> u16
 // What stands before the first sample that is there: that sample.
 fn start_in(plane: &[u8], s: Spot, r: Reach, n: usize) -> u16
     requires { Reads r s (length (samples_of plane.now)) n × (any_by r.corner r.above r.left ≡ true) }
-    ensures { result ≡ start_of r (corner_on (samples_of plane.now) s) (above_on_plane (samples_of plane.entry.now) s) (left_on (samples_of plane.now) s) }
+    ensures { result ≡ start_of r (corner_on (samples_of plane.now) s) (above_on_plane (samples_of plane.now) s) (left_on (samples_of plane.now) s) }
 {
     if r.left > 0 {
         return sample_in(plane, s.left + (r.left - 1) * s.width);
@@ -67,7 +67,7 @@ fn start_in(plane: &[u8], s: Spot, r: Reach, n: usize) -> u16
 // The corner: a missing one takes left[0].
 fn corner_in(plane: &[u8], s: Spot, r: Reach, n: usize, start: u16) -> u16
     requires { Reads r s (length (samples_of plane.now)) n }
-    ensures { result ≡ corner_of r (corner_on (samples_of plane.now) s) (left_on (samples_of plane.entry.now) s) start }
+    ensures { result ≡ corner_of r (corner_on (samples_of plane.now) s) (left_on (samples_of plane.now) s) start }
 {
     if r.corner {
         return sample_in(plane, s.corner);
@@ -119,7 +119,7 @@ fn look_around(plane: &[u8], s: Spot, r: Reach, n: usize) -> Around
 // Reads an edge into a row: the entries that are there, then what the others have up to entry 2n.
 fn read_edge(plane: &[u8], e: Border, n: usize, row: &mut [u16])
     requires { Kept e (length (samples_of plane.now)) n × (65 ≤ length row.old) }
-    ensures { row.new ≡ padded (2 * n + 1) e.have e.rest (fill (on_edge (samples_of plane.entry.now) e.at e.step) e.have row.old) }
+    ensures { row.new ≡ padded (2 * n + 1) e.have e.rest (fill (on_edge (samples_of plane.now) e.at e.step) e.have row.old) }
 {
     let from = e.at;
     let step = e.step;

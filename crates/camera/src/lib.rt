@@ -2,6 +2,7 @@
 // the lower first. Each entry gives back its number, and writes nothing where it refuses. Rests on the doors' contracts and on how rows
 // are stored.
 #![tactic(auto)]
+
 mod choice;
 mod gather;
 mod luma;
@@ -105,7 +106,7 @@ pub extern "C" fn salvrunde_chroma_refs_ctu(
 // The planar block of side n, in rows, in the first 2 · n · n bytes of `out`; each row has at least 4 · n bytes. Numbers 2, 5.
 #[unsafe(no_mangle)]
 pub extern "C" fn salvrunde_planar(n: u32, above: &[u8], left: &[u8], out: &mut [u8]) -> u32
-    ensures { wrote result out.new ≡ planar_entry n above.now left.now out.entry.now }
+    ensures { wrote result out.new ≡ planar_entry n above.now left.now out.old }
 {
     prediction::planar(n, above, left, out)
 }
@@ -113,7 +114,7 @@ pub extern "C" fn salvrunde_planar(n: u32, above: &[u8], left: &[u8], out: &mut 
 // The DC block; an edge flag that is not 0 asks for filtered edges. Numbers 2, 5.
 #[unsafe(no_mangle)]
 pub extern "C" fn salvrunde_dc(n: u32, edge: u32, above: &[u8], left: &[u8], out: &mut [u8]) -> u32
-    ensures { wrote result out.new ≡ dc_entry n edge above.now left.now out.entry.now }
+    ensures { wrote result out.new ≡ dc_entry n edge above.now left.now out.old }
 {
     prediction::dc(n, edge, above, left, out)
 }
@@ -130,7 +131,7 @@ pub extern "C" fn salvrunde_angular(
     left: &[u8],
     out: &mut [u8],
 ) -> u32
-    ensures { wrote result out.new ≡ angular_entry bits n mode edge corner above.now left.entry.now out.old }
+    ensures { wrote result out.new ≡ angular_entry bits n mode edge corner above.now left.now out.old }
 {
     prediction::angular(bits, n, mode, edge, corner, above, left, out)
 }
@@ -146,7 +147,7 @@ pub extern "C" fn salvrunde_chroma_block(
     left: &[u8],
     out: &mut [u8],
 ) -> u32
-    ensures { wrote result out.new ≡ chroma_block_entry bits n mode corner above.now left.entry.now out.old }
+    ensures { wrote result out.new ≡ chroma_block_entry bits n mode corner above.now left.now out.old }
 {
     prediction::chroma(bits, n, mode, corner, above, left, out)
 }
@@ -163,7 +164,7 @@ pub extern "C" fn salvrunde_luma_block(
     left: &[u8],
     out: &mut [u8],
 ) -> u32
-    ensures { wrote result out.new ≡ luma_block_entry bits n mode corner above.now left.entry.now out.old }
+    ensures { wrote result out.new ≡ luma_block_entry bits n mode corner above.now left.now out.old }
 {
     luma::luma(bits, n, mode, corner, above, left, out)
 }
@@ -209,7 +210,7 @@ pub extern "C" fn salvrunde_choose_early(
 }
 
 // Decodes the next blocks of a still, as many as are granted, in the plane's own bytes: exactly 2 · width · height of the plane, 4
-// · width · height of the residuals, 6 a block of the plan. `done` is the progress record. The first 8 bytes of `result` get the
+// · width · height of the residuals, 6 a block of the plan. `done` is the progress record. The first 8 bytes of `res` get the
 // block that a refusal is about and the next record, or the record as given where the call is refused; a shorter buffer is left
 // alone. Numbers 1, 4, 5, 8, 14, then 2, 3, 6, 9 of each block, 10, 11.
 #[unsafe(no_mangle)]
@@ -246,7 +247,7 @@ pub extern "C" fn salvrunde_checksum(
     plane: &[u8],
     out: &mut [u8],
 ) -> u32
-    ensures { wrote result out.new ≡ checksum_entry (row_range bits width height first end) sum plane.entry.now out.old }
+    ensures { wrote result out.new ≡ checksum_entry (row_range bits width height first end) sum plane.now out.old }
 {
     let range = RowRange {
         bits,

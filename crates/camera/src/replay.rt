@@ -64,7 +64,7 @@ fn rebuild_row(
     requires { RowIn (length (samples_of plane.old)) (length pred.now) (length (residuals_of residuals.now)) n
         base from at × (length plane.old % 2 ≡ 0) }
     ensures { samples_of plane.new ≡ run (λ (c : ℕ). clip_to largest (pos (get_or pred.now
-        (from + c) 0) +ℤ get_or (residuals_of residuals.now) (at + c) (pos 0))) base n (samples_of plane.entry.now) }
+        (from + c) 0) +ℤ get_or (residuals_of residuals.now) (at + c) (pos 0))) base n (samples_of plane.old) }
 {
     let mut c = 0;
     while c < n {
@@ -149,7 +149,7 @@ fn predict_block(
     fractions: &mut [u32],
 )
     requires { Ready s b (length (samples_of plane.now)) (tables refs.old indices.old fractions.old) × ((b.side * b.side ≤ length pred.old) × (length plane.now % 2 ≡ 0)) }
-    ensures { pred.new ≡ block (predicted_at s b (samples_of plane.now)) b.side pred.entry.now }
+    ensures { pred.new ≡ block (predicted_at s b (samples_of plane.now)) b.side pred.old }
 {
     let g = gather::get_reference_samples(plane, block::geometry(s, b));
     predict::predict_luma_tb_slices(
@@ -329,7 +329,7 @@ fn replay_blocks(
 // A call that is served: the next blocks, with scratch of its own.
 fn serve(done: u32, s: Still, plan: &[u8], residuals: &[u8], plane: &mut [u8], grant: u32) -> u32
     requires { Sound s (records_of plan.now) (length (samples_of plane.old)) (length (residuals_of residuals.now)) scratch_tables × ((done ≤ length plan.now / 6) × (length plane.old % 2 ≡ 0)) }
-    ensures { (result ≡ done + doing_of (records_of plan.now).count done grant) × (samples_of plane.exit.now ≡ units (replay_unit s (records_of plan.now).block (residuals_of residuals.now))
+    ensures { (result ≡ done + doing_of (records_of plan.now).count done grant) × (samples_of plane.new ≡ units (replay_unit s (records_of plan.now).block (residuals_of residuals.now))
         done (doing_of (records_of plan.now).count done grant) (samples_of plane.old)) }
 {
     let mut refs = [0u16; 193];

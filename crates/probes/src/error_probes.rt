@@ -37,7 +37,7 @@ pub extern "C" fn salvrunde_probe_count_errors(
     sides: &[u32],
     modes: &[u32],
 ) -> CountAnswer
-    ensures { result ≡ count_answer (count_pair (report_with bits width height ctu pairs blocks.now samples.entry.now squares.now) a.now b.now (lent_plan rows cols sides modes)) }
+    ensures { result ≡ count_answer (count_pair (report_with bits width height ctu pairs blocks.now samples.now squares.now) a.now b.now (lent_plan rows cols sides modes)) }
 {
     let r = Report {
         bits,

@@ -1,6 +1,7 @@
 // Entries at native types for the runs of the rules of fmt, order, smoothing and gathering against the Rust, and of the checksum against
 // the standard: each calls a door and hands its answer over as plain numbers. Rests on the doors' contracts.
 #![tactic(auto)]
+
 pub mod error_probes;
 pub mod predict_probes;
 pub mod walk_probes;
