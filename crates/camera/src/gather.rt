@@ -24,7 +24,7 @@ use order::Reach;
 use refs::{ChromaRefGeometry, Layout, LumaRefGeometry, Spot};
 
 // An edge of a block: where its entry 0 stands in the plane, how far apart its entries do, how many are there, and what the others have.
-#[derive(Drop)]
+#[derive(Clone, Copy)]
 struct Border {
     at: usize,
     step: usize,
