@@ -20,7 +20,8 @@ fn main() {
     }
     println!("cargo:rustc-check-cfg=cfg(entry, values(any()))");
     let mut text = String::new();
-    for name in ["probes", "camera"] {
+    // the structs stand in the libraries, the entries in the archives' own crates
+    for name in ["probes", "camera", "probes_c", "camera_c"] {
         let folder = format!("../../crates/{name}/src");
         println!("cargo:rerun-if-changed={folder}");
         for file in fs::read_dir(folder).unwrap() {
@@ -80,7 +81,7 @@ fn against(here: &BTreeMap<String, Entry>, folder: &str) {
     println!("cargo:rustc-link-search=native={folder}");
     println!("cargo:rustc-link-lib=static=other");
     println!("cargo:rerun-if-changed={folder}/libother.a");
-    let there = entries(&fs::read_to_string(format!("{folder}/entries.rt")).unwrap());
+    let there = entries(&fs::read_to_string(format!("{folder}/entries.rt.txt")).unwrap());
     let (mut declared, mut both, mut apart) = (String::new(), String::new(), String::new());
     for (name, entry) in here {
         match there.get(name) {
