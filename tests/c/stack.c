@@ -1,6 +1,6 @@
 /* How much stack each of the firmware's entries takes, on x86-64, with the archive as it is shipped: paints the stack below, calls, and looks how
  * far down the paint is gone. Substitution, which no entry of the firmware reaches, is measured as the tests' archive has it. Needs start.c and no
- * C library, so that the kit's compiler builds it on any processor and its emulator runs it. */
+ * C library. */
 #include <stddef.h>
 #include <stdint.h>
 

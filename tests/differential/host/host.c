@@ -1,7 +1,6 @@
 /* A host of the archive: reads calls from standard input, makes them, and writes the answers to standard output.
  *
- * The archive is for x86-64. The host is built for x86-64 too and runs under the toolchain's emulator elsewhere, so that
- * the same archive is tried on every machine. It needs no C library.
+ * It needs no C library, as the archive does not, so that the archive is tried as it is shipped.
  *
  * Everything is in 64-bit words, little-endian. A frame is its length in words, then its calls. A call is
  *   number of the entry, count of arguments, mask of the arguments that are buffers, mask of those that are handed back,
