@@ -8,7 +8,7 @@ ghost use Rattle.residual.specs.Residual.{residual_no, residuals_after, reconstr
 ghost use Rattle.h265.specs.Setting.{luma_at, first_edition_strong};
 ghost use Rattle.h265.specs.Prediction.{pred_samples};
 ghost use Rattle.predict.specs.Contents.{chroma_at};
-ghost use Rattle.predict.specs.Lent.{len, with_tables, with_scratch, lent_neighbours, Predicts, Untouched};
+ghost use Rattle.predict.specs.Lent.{len, mut_len, with_tables, with_scratch, lent_neighbours, Predicts, Untouched};
 ghost use Rattle.choose.specs.Choose.{mode_sum, choose_no, Chooses, lends, ScratchKept};
 ghost use Rattle.probes.specs.Probes.{chosen_of};
 
@@ -21,7 +21,7 @@ pub extern "C" fn salvrunde_probe_predict_planar_into(
     n: usize,
     pred: &mut [u16],
 ) -> u32
-    ensures { (result ≡ flat_no n (len above) (len left) (len pred))
+    ensures { (result ≡ flat_no n (len above) (len left) (mut_len pred))
         × Predicts result n (planar n (lent_neighbours 0 above left)) pred }
 {
     probes::predict_probes::salvrunde_probe_predict_planar_into(above, left, n, pred)
@@ -35,7 +35,7 @@ pub extern "C" fn salvrunde_probe_predict_dc_into(
     filter_boundary: bool,
     pred: &mut [u16],
 ) -> u32
-    ensures { (result ≡ flat_no n (len above) (len left) (len pred))
+    ensures { (result ≡ flat_no n (len above) (len left) (mut_len pred))
         × Predicts result n (dc filter_boundary n (lent_neighbours 0 above left)) pred }
 {
     probes::predict_probes::salvrunde_probe_predict_dc_into(above, left, n, filter_boundary, pred)
@@ -55,7 +55,7 @@ pub extern "C" fn salvrunde_probe_predict_angular_slices(
     indices: &mut [u32],
     fractions: &mut [u32],
 ) -> u32
-    ensures { (result ≡ angular_no bits n mode (with_tables (len above) (len left) (len pred) refs indices fractions))
+    ensures { (result ≡ angular_no bits n mode (with_tables (len above) (len left) (mut_len pred) refs indices fractions))
         × (Predicts result n (angular bits filter_boundary n mode (lent_neighbours corner above left)) pred
         × ((result ≡ 0 → ⊥) → Untouched refs indices fractions)) }
 {
@@ -95,7 +95,7 @@ pub extern "C" fn salvrunde_probe_reconstruct_into(
     bits: u32,
     out: &mut [u16],
 ) -> u32
-    ensures { (result ≡ reconstruct_no bits n (len pred) residual.now (len out))
+    ensures { (result ≡ reconstruct_no bits n (len pred) residual.now (mut_len out))
         × (out.new ≡ reconstructed bits n pred.now residual.now out.old) }
 {
     probes::predict_probes::salvrunde_probe_reconstruct_into(pred, residual, n, bits, out)
@@ -114,7 +114,7 @@ pub extern "C" fn salvrunde_probe_predict_chroma_tb_slices(
     indices: &mut [u32],
     fractions: &mut [u32],
 ) -> u32
-    ensures { (result ≡ predict_no bits n mode (with_tables (len above) (len left) (len pred) refs indices fractions))
+    ensures { (result ≡ predict_no bits n mode (with_tables (len above) (len left) (mut_len pred) refs indices fractions))
         × (Predicts result n (pred_samples (chroma_at bits) first_edition_strong n mode (lent_neighbours corner above left)) pred
         × ((result ≡ 0 → ⊥) → Untouched refs indices fractions)) }
 {
@@ -136,7 +136,7 @@ pub extern "C" fn salvrunde_probe_predict_luma_tb_slices(
     indices: &mut [u32],
     fractions: &mut [u32],
 ) -> u32
-    ensures { (result ≡ predict_no bits n mode (with_tables 65 65 (len pred) refs indices fractions))
+    ensures { (result ≡ predict_no bits n mode (with_tables 65 65 (mut_len pred) refs indices fractions))
         × (Predicts result n (pred_samples (luma_at bits) first_edition_strong n mode (lent_neighbours corner above left)) pred
         × ((result ≡ 0 → ⊥) → Untouched refs indices fractions)) }
 {
@@ -156,7 +156,7 @@ pub extern "C" fn salvrunde_probe_predict_angular_scratch(
     bits: u32,
     pred: &mut [u16],
 ) -> u32
-    ensures { (result ≡ angular_no bits n mode (with_scratch (len above) (len left) (len pred)))
+    ensures { (result ≡ angular_no bits n mode (with_scratch (len above) (len left) (mut_len pred)))
         × Predicts result n (angular bits filter_boundary n mode (lent_neighbours corner above left)) pred }
 {
     probes::predict_probes::salvrunde_probe_predict_angular_scratch(
@@ -181,7 +181,7 @@ pub extern "C" fn salvrunde_probe_predict_chroma_tb_scratch(
     bits: u32,
     pred: &mut [u16],
 ) -> u32
-    ensures { (result ≡ predict_no bits n mode (with_scratch (len above) (len left) (len pred)))
+    ensures { (result ≡ predict_no bits n mode (with_scratch (len above) (len left) (mut_len pred)))
         × Predicts result n (pred_samples (chroma_at bits) first_edition_strong n mode (lent_neighbours corner above left)) pred }
 {
     probes::predict_probes::salvrunde_probe_predict_chroma_tb_scratch(
@@ -199,7 +199,7 @@ pub extern "C" fn salvrunde_probe_predict_luma_tb_scratch(
     bits: u32,
     pred: &mut [u16],
 ) -> u32
-    ensures { (result ≡ predict_no bits n mode (with_scratch 65 65 (len pred)))
+    ensures { (result ≡ predict_no bits n mode (with_scratch 65 65 (mut_len pred)))
         × Predicts result n (pred_samples (luma_at bits) first_edition_strong n mode (lent_neighbours corner above left)) pred }
 {
     probes::predict_probes::salvrunde_probe_predict_luma_tb_scratch(
