@@ -4,12 +4,17 @@
 // The list is made by `tests/differential/run list`. A line is eleven words of eight hex digits: the kind of the call, what
 // it is given, what it is to answer, and zeros. A line that opens with # and eight spaces is a comment, as long as the others.
 #![tactic(auto)]
-ghost use Rattle.std.specs.Prelude.{◌+◌, ◌≤◌};
+
+ghost use Rattle.std.specs.Prelude.{◌+◌, ◌≤◌, ◌<◌, IfOk, length, take};
+ghost use Rattle.std.specs.Io.{ReadsAtMost};
+ghost use Rattle.std.specs.Io.KnownBytes.{Consumes, IsAtEnd};
 
 use fmt::depth::{BitDepth, DepthFrom};
 use fmt::{ChromaFormat, FormatFrom, LumaCol, LumaRow};
 use listing::Count;
 use order::{LumaNeighbour, Picture};
+use std::io;
+use std::io::Read;
 
 // A line's word of a number, counted from 0.
 fn word(list: &[u8], line: u16, number: u8) -> u32 {
@@ -127,22 +132,36 @@ fn replay(list: &[u8], kind: u32) -> Count {
     count
 }
 
-fn report(name: &[u8], list: &[u8], kind: u32) {
-    let count = replay(list, kind);
-    io::write_all(1, name);
-    io::write_all(1, b": ");
-    io::print_decimal(1, count.calls);
-    io::write_all(1, b" calls, ");
-    io::print_decimal(1, count.differ);
-    io::write_all(1, b" differ\n");
+// Reads until the buffer is full or the input ends, and tells how many bytes.
+fn read_full<R: Read>(input: &mut R, buffer: &mut [u8]) -> io::Result<usize>
+    ensures bound { ReadsAtMost result buffer.new }
+    ensures octets { IfOk result (λ n. Consumes (R.remaining input.old) (R.remaining input.new) (take n buffer.new)) }
+    ensures end { IfOk result (λ n. n < length buffer.new → IsAtEnd (R.remaining input.new)) }
+{
+    let mut done = 0;
+    while done < buffer.len() {
+        let n = input.read(&mut buffer[done..])?;
+        if n == 0 {
+            break;
+        }
+        done += n;
+    }
+    Ok(done)
 }
 
-fn main() {
-    let mut buffer = io::large_buffer();
-    let n = io::read_full(0, &mut buffer);
+fn report(rt: &impl Print, name: &str, list: &[u8], kind: u32) -> io::Result<()> {
+    let count = replay(list, kind);
+    let calls = count.calls;
+    let differ = count.differ;
+    println!(rt; "{name}: {calls} calls, {differ} differ")
+}
+
+fn main(rt: HostRuntime) -> io::Result<()> {
+    let mut buffer = [0u8; 65536];
+    let n = read_full(&mut rt.stdin(), &mut buffer)?;
     let list = &buffer[..n];
-    report(b"depth", list, 1);
-    report(b"format", list, 2);
-    report(b"order", list, 3);
-    report(b"availability", list, 4);
+    report(&rt, "depth", list, 1)?;
+    report(&rt, "format", list, 2)?;
+    report(&rt, "order", list, 3)?;
+    report(&rt, "availability", list, 4)
 }
