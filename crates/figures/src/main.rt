@@ -1,6 +1,7 @@
 // Prints document 01's figures P1 to P10 as the doors give them; the file stdout has 01's numbers. Each function that makes a call
 // has for its contract what the table of specs/Figures has for it. Rests on the doors' contracts.
 #![tactic(auto)]
+
 ghost use Rattle.std.specs.Prelude.{◌≡◌};
 ghost use Rattle.figures.specs.figure_table.Figures.{counting, opening, planar_block, dc_block, angular_block, order_at, smooths_at};
 ghost use Rattle.figures.specs.figure_table.Figures.{bent, entry31, ordinary31, strong_of, restored_to, smoothed_two};
@@ -8,6 +9,7 @@ ghost use Rattle.figures.specs.figure_table.Figures.{bent, entry31, ordinary31, 
 use fmt::{LumaCol, LumaRow};
 use order::Picture;
 use predict::{angular, planar_dc};
+use std::io;
 
 // The blocks of 4 by 4 that the predictors leave.
 fn planar_block(above: [u16; 65], left: [u16; 65]) -> [u16; 16]
@@ -138,76 +140,75 @@ fn restored(sample: u16, residual: i32) -> u16
     out[0]
 }
 
-fn name(text: &[u8]) {
-    io::write_all(1, text);
+fn name(rt: &impl Print, text: &str) -> io::Result<()> {
+    print!(rt; "{text}")
 }
 
-fn say_wide(figure: u32) {
-    io::write_all(1, b" ");
-    io::print_decimal(1, figure as u64);
+fn say_wide(rt: &impl Print, figure: u32) -> io::Result<()> {
+    print!(rt; " {figure}")
 }
 
-fn say(figure: u16) {
-    say_wide(figure as u32);
+fn say(rt: &impl Print, figure: u16) -> io::Result<()> {
+    say_wide(rt, figure as u32)
 }
 
-fn end() {
-    io::write_all(1, b"\n");
+fn end(rt: &impl Print) -> io::Result<()> {
+    println!(rt; "")
 }
 
-fn p1() {
+fn p1(rt: &impl Print) -> io::Result<()> {
     let b = planar_block([10u16; 65], [20u16; 65]);
-    name(b"P1");
-    say(b[0]);
-    say(b[3]);
-    say(b[12]);
-    end();
+    name(rt, "P1")?;
+    say(rt, b[0])?;
+    say(rt, b[3])?;
+    say(rt, b[12])?;
+    end(rt)
 }
 
-fn p2() {
+fn p2(rt: &impl Print) -> io::Result<()> {
     let b = dc_block(false, [10u16; 65], [20u16; 65]);
     let e = dc_block(true, [10u16; 65], [20u16; 65]);
-    name(b"P2");
-    say(b[0]);
-    say(e[0]);
-    say(e[1]);
-    say(e[4]);
-    end();
+    name(rt, "P2")?;
+    say(rt, b[0])?;
+    say(rt, e[0])?;
+    say(rt, e[1])?;
+    say(rt, e[4])?;
+    end(rt)
 }
 
-fn p3() {
+fn p3(rt: &impl Print) -> io::Result<()> {
     let high = angular_block(26, true, 100, [200u16; 65], [250u16; 65]);
     let low = angular_block(26, true, 100, [200u16; 65], [99u16; 65]);
-    name(b"P3");
-    say(high[0]);
-    say(low[0]);
-    end();
+    name(rt, "P3")?;
+    say(rt, high[0])?;
+    say(rt, low[0])?;
+    end(rt)
 }
 
-fn p4() {
+fn p4(rt: &impl Print) -> io::Result<()> {
     let b = angular_block(34, false, 0, counting_row(), [0u16; 65]);
-    name(b"P4");
-    say(b[0]);
-    say(b[1]);
-    say(b[2]);
-    say(b[3]);
-    say(b[12]);
-    say(b[13]);
-    say(b[14]);
-    say(b[15]);
-    end();
+    name(rt, "P4")?;
+    say(rt, b[0])?;
+    say(rt, b[1])?;
+    say(rt, b[2])?;
+    say(rt, b[3])?;
+    say(rt, b[12])?;
+    say(rt, b[13])?;
+    say(rt, b[14])?;
+    say(rt, b[15])?;
+    end(rt)
 }
 
-fn p5() {
+fn p5(rt: &impl Print) -> io::Result<()> {
     let b = angular_block(18, false, 77, opening_row(60), opening_row(50));
-    name(b"P5");
-    say(b[0]);
-    say(b[4]);
-    say(b[1]);
-    end();
+    name(rt, "P5")?;
+    say(rt, b[0])?;
+    say(rt, b[4])?;
+    say(rt, b[1])?;
+    end(rt)
 }
 
-fn p6() {
+fn p6(rt: &impl Print) -> io::Result<()> {
     let sixteen = Picture {
         width: 32,
         height: 24,
@@ -220,64 +221,64 @@ fn p6() {
         ctu: 64,
         unit: 4,
     };
-    name(b"P6");
-    say_wide(order_at(sixteen, 0, 8));
-    say_wide(order_at(sixteen, 8, 0));
-    say_wide(order_at(sixteen, 0, 16));
-    say_wide(order_at(sixteen, 16, 0));
-    say_wide(order_at(sixty_four, 4, 8));
-    end();
+    name(rt, "P6")?;
+    say_wide(rt, order_at(sixteen, 0, 8))?;
+    say_wide(rt, order_at(sixteen, 8, 0))?;
+    say_wide(rt, order_at(sixteen, 0, 16))?;
+    say_wide(rt, order_at(sixteen, 16, 0))?;
+    say_wide(rt, order_at(sixty_four, 4, 8))?;
+    end(rt)
 }
 
-fn p7() {
-    name(b"P7");
-    say(smooths(8, 2));
-    say(smooths(8, 3));
-    say(smooths(16, 8));
-    say(smooths(16, 9));
-    say(smooths(32, 11));
-    say(smooths(32, 10));
-    end();
+fn p7(rt: &impl Print) -> io::Result<()> {
+    name(rt, "P7")?;
+    say(rt, smooths(8, 2))?;
+    say(rt, smooths(8, 3))?;
+    say(rt, smooths(16, 8))?;
+    say(rt, smooths(16, 9))?;
+    say(rt, smooths(32, 11))?;
+    say(rt, smooths(32, 10))?;
+    end(rt)
 }
 
-fn p8() {
-    name(b"P8");
-    say(strong(107));
-    say(entry_31(107));
-    say(strong(108));
-    end();
+fn p8(rt: &impl Print) -> io::Result<()> {
+    name(rt, "P8")?;
+    say(rt, strong(107))?;
+    say(rt, entry_31(107))?;
+    say(rt, strong(108))?;
+    end(rt)
 }
 
-fn p9() {
-    name(b"P9");
-    say(restored(250, 10));
-    say(restored(5, -9));
-    end();
+fn p9(rt: &impl Print) -> io::Result<()> {
+    name(rt, "P9")?;
+    say(rt, restored(250, 10))?;
+    say(rt, restored(5, -9))?;
+    end(rt)
 }
 
-fn say_two(figures: [u16; 2]) {
-    say(figures[0]);
-    say(figures[1]);
+fn say_two(rt: &impl Print, figures: [u16; 2]) -> io::Result<()> {
+    say(rt, figures[0])?;
+    say(rt, figures[1])
 }
 
-fn p10() {
-    name(b"P10");
-    say_two(smoothed_two(4));
-    say_two(smoothed_two(8));
-    say_two(smoothed_two(16));
-    say_two(smoothed_two(32));
-    end();
+fn p10(rt: &impl Print) -> io::Result<()> {
+    name(rt, "P10")?;
+    say_two(rt, smoothed_two(4))?;
+    say_two(rt, smoothed_two(8))?;
+    say_two(rt, smoothed_two(16))?;
+    say_two(rt, smoothed_two(32))?;
+    end(rt)
 }
 
-fn main() {
-    p1();
-    p2();
-    p3();
-    p4();
-    p5();
-    p6();
-    p7();
-    p8();
-    p9();
-    p10();
+fn main(rt: HostRuntime) -> io::Result<()> {
+    p1(&rt)?;
+    p2(&rt)?;
+    p3(&rt)?;
+    p4(&rt)?;
+    p5(&rt)?;
+    p6(&rt)?;
+    p7(&rt)?;
+    p8(&rt)?;
+    p9(&rt)?;
+    p10(&rt)
 }

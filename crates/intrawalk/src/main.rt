@@ -1,29 +1,47 @@
 // intrawalk: prints what `report` makes of standard input. Rests on report's contract for the text.
 #![tactic(auto)]
-ghost use Rattle.io.specs.Counts.{IsPrefixLen};
+
+ghost use Rattle.std.specs.Prelude.{◌≡◌, ◌≤◌, ◌<◌, ◌×◌, IfOk, length, take};
+ghost use Rattle.std.specs.Io.{ReadsAtMost};
+ghost use Rattle.std.specs.Io.KnownBytes.{Consumes, IsAtEnd};
+
+use std::io;
+use std::io::Read;
+
+// Reads until the buffer is full or the input ends, and tells how many bytes.
+fn read_full<R: Read>(input: &mut R, buffer: &mut [u8]) -> io::Result<usize>
+    ensures bound { ReadsAtMost result buffer.new }
+    ensures octets { IfOk result (λ n. Consumes (R.remaining input.old) (R.remaining input.new) (take n buffer.new)) }
+    ensures end { IfOk result (λ n. n < length buffer.new → IsAtEnd (R.remaining input.new)) }
+{
+    let mut done = 0;
+    while done < buffer.len() {
+        let n = input.read(&mut buffer[done..])?;
+        if n == 0 {
+            break;
+        }
+        done += n;
+    }
+    Ok(done)
+}
 
 // Reads all of standard input, as far as there is room, and tells how many bytes. Where a read fails before the input ends, it is
 // as if nothing had been read.
-fn read_input(buffer: &mut [u8]) -> usize
-    ensures { IsPrefixLen result buffer.new }
+fn read_input<R: Read>(input: &mut R, buffer: &mut [u8]) -> usize
+    ensures { (result ≤ length buffer.new) × (result ≡ length (take result buffer.new)) }
 {
-    let n = io::read_full(0, &mut *buffer);
-    if n == buffer.len() {
-        return n;
+    match read_full(input, &mut *buffer) {
+        Ok(n) => n,
+        Err(_) => 0,
     }
-    let mut past = [0u8; 1];
-    if libc::read(0, &mut past) == 0 {
-        return n;
-    }
-    0
 }
 
 // One byte more than the limit is read: so an input that is too long is told from one that is not.
-fn main() {
+fn main(rt: HostRuntime) -> io::Result<()> {
     let mut buffer = [0u8; 65537];
-    let n = read_input(&mut buffer);
+    let n = read_input(&mut rt.stdin(), &mut buffer);
     let printout = report::report(&buffer[..n]);
     let text = printout.text;
     let length = printout.length;
-    io::write_all(1, &text[..length]);
+    rt.write_all(&text[..length])
 }

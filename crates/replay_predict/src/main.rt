@@ -10,12 +10,16 @@
 // samples of either end. The corner has the seed's own, the row above the numbers that follow, the row on the left and the
 // second block those that follow `other` of the seed.
 #![tactic(auto)]
-ghost use Rattle.std.specs.Prelude.{◌+◌, ◌≤◌, ◌<◌};
+
+ghost use Rattle.std.specs.Prelude.{◌+◌, ◌≤◌, ◌<◌, ◌≡◌, true, Ok};
+ghost use Rattle.std.specs.Io.KnownBytes.{Consumes};
 
 use domain::rows::Rows;
 use listing::Count;
 use predict::scratch::AngularScratch;
 use predict::{angular, planar_dc};
+use std::io;
+use std::io::{ErrorKind, Read};
 
 // What a line gives a call, and the number and the value that it wants.
 #[derive(Clone, Copy)]
@@ -274,33 +278,49 @@ fn agrees(line: &[u8], kind: u32) -> bool {
     }
 }
 
-// The count with one line more, of which so many bytes were read.
-fn with(count: Count, line: [u8; 387], read: usize) -> Count {
-    if (read != 387) | (line[0] == 35) {
+// The count with one line more.
+fn with(count: Count, line: [u8; 387]) -> Count {
+    if line[0] == 35 {
         return count;
     }
     count.with(agrees(&line, listing::word(&line, 0)))
 }
 
+// Reads the next line, and tells whether there was a whole one.
+fn read_line<R: Read>(input: &mut R, line: &mut [u8]) -> io::Result<bool>
+    ensures { result ≡ Ok true → Consumes (R.remaining input.old) (R.remaining input.new) line.new }
+{
+    match input.read_exact(line) {
+        Ok(()) => Ok(true),
+        Err(e) => {
+            if e.kind() == ErrorKind::UnexpectedEof {
+                Ok(false)
+            } else {
+                Err(e)
+            }
+        }
+    }
+}
+
 // Reads the list line by line, 4096 at most.
-fn replay() -> Count {
+fn replay<R: Read>(input: &mut R) -> io::Result<Count> {
     let mut count = Count {
         calls: 0,
         differ: 0,
     };
-    for i in 0..4096usize {
+    for _ in 0..4096usize {
         let mut line = [0u8; 387];
-        let read = io::read_full(0, &mut line);
-        count = with(count, line, read);
+        if !read_line(input, &mut line)? {
+            break;
+        }
+        count = with(count, line);
     }
-    count
+    Ok(count)
 }
 
-fn main() {
-    let count = replay();
-    io::write_all(1, b"predict: ");
-    io::print_decimal(1, count.calls);
-    io::write_all(1, b" calls, ");
-    io::print_decimal(1, count.differ);
-    io::write_all(1, b" differ\n");
+fn main(rt: HostRuntime) -> io::Result<()> {
+    let count = replay(&mut rt.stdin())?;
+    let calls = count.calls;
+    let differ = count.differ;
+    println!(rt; "predict: {calls} calls, {differ} differ")
 }

@@ -14,7 +14,9 @@
 // from the current place's two numbers as seeds, with the unit as odds in sixteen; the entries that the sides name are there
 // too, and the corner where the CTU is 1.
 #![tactic(auto)]
-ghost use Rattle.std.specs.Prelude.{◌≤◌, ◌<◌, length, ◌≡◌};
+
+ghost use Rattle.std.specs.Prelude.{◌≤◌, ◌<◌, length, ◌≡◌, true, Ok};
+ghost use Rattle.std.specs.Io.KnownBytes.{Consumes};
 
 use domain::rows::Rows;
 use fmt::{ChromaCol, ChromaRow, LumaCol, LumaRow};
@@ -22,6 +24,8 @@ use listing::Count;
 use order::Picture;
 use refs::substitution::Flags;
 use refs::{ChromaRefGeometry, LumaRefGeometry, substitution};
+use std::io;
+use std::io::{ErrorKind, Read};
 
 // What a line gives a call, which entries it compares, and the number and the corner that it wants.
 #[derive(Clone, Copy)]
@@ -102,7 +106,7 @@ fn row_same(line: &[u8], row: [u16; 65], place: u32) -> bool {
 }
 
 // Whether an answer's number, corner and row are those of the line.
-fn rows_same(line: &[u8], call: Call, no: u32, rows: Rows) -> bool {
+fn rows_same(line: &[u8], call: Call, no: u32, rows: &Rows) -> bool {
     let above = rows.above;
     let left = rows.left;
     let number = (no == call.no) & ((rows.corner as u32) == call.corner);
@@ -124,7 +128,7 @@ fn substitution_same(line: &[u8], call: Call) -> bool {
         left: flags_of(call.cur_col, call.unit, call.height as usize),
     };
     let answer = substitution::substitute_refs(rows, flags, call.n, call.bits);
-    rows_same(line, call, answer.no, answer.rows)
+    rows_same(line, call, answer.no, &answer.rows)
 }
 
 fn luma_same(line: &[u8], call: Call, plane: &[u16]) -> bool {
@@ -142,7 +146,7 @@ fn luma_same(line: &[u8], call: Call, plane: &[u16]) -> bool {
         n: call.n,
     };
     let answer = refs::get_reference_samples(plane, geo);
-    rows_same(line, call, answer.no, answer.rows)
+    rows_same(line, call, answer.no, &answer.rows)
 }
 
 fn chroma_same(line: &[u8], call: Call, cb: &[u16], cr: &[u16]) -> bool {
@@ -161,9 +165,9 @@ fn chroma_same(line: &[u8], call: Call, cb: &[u16], cr: &[u16]) -> bool {
     };
     let answer = refs::get_reference_samples_chroma_pair(cb, cr, geo);
     if call.which < 2 {
-        return rows_same(line, call, answer.no, answer.planes[0]);
+        return rows_same(line, call, answer.no, &answer.planes[0]);
     }
-    rows_same(line, call, answer.no, answer.planes[1])
+    rows_same(line, call, answer.no, &answer.planes[1])
 }
 
 // Whether a door gives what the line has. Kinds 1 to 3; others never do.
@@ -182,33 +186,49 @@ fn agrees(line: &[u8], kind: u32) -> bool {
     }
 }
 
-// The count with one line more, of which so many bytes were read.
-fn with(count: Count, line: [u8; 459], read: usize) -> Count {
-    if (read != 459) | (line[0] == 35) {
+// The count with one line more.
+fn with(count: Count, line: [u8; 459]) -> Count {
+    if line[0] == 35 {
         return count;
     }
     count.with(agrees(&line, listing::word(&line, 0)))
 }
 
+// Reads the next line, and tells whether there was a whole one.
+fn read_line<R: Read>(input: &mut R, line: &mut [u8]) -> io::Result<bool>
+    ensures { result ≡ Ok true → Consumes (R.remaining input.old) (R.remaining input.new) line.new }
+{
+    match input.read_exact(line) {
+        Ok(()) => Ok(true),
+        Err(e) => {
+            if e.kind() == ErrorKind::UnexpectedEof {
+                Ok(false)
+            } else {
+                Err(e)
+            }
+        }
+    }
+}
+
 // Reads the list line by line, 4096 at most.
-fn replay() -> Count {
+fn replay<R: Read>(input: &mut R) -> io::Result<Count> {
     let mut count = Count {
         calls: 0,
         differ: 0,
     };
-    for i in 0..4096usize {
+    for _ in 0..4096usize {
         let mut line = [0u8; 459];
-        let read = io::read_full(0, &mut line);
-        count = with(count, line, read);
+        if !read_line(input, &mut line)? {
+            break;
+        }
+        count = with(count, line);
     }
-    count
+    Ok(count)
 }
 
-fn main() {
-    let count = replay();
-    io::write_all(1, b"refs: ");
-    io::print_decimal(1, count.calls);
-    io::write_all(1, b" calls, ");
-    io::print_decimal(1, count.differ);
-    io::write_all(1, b" differ\n");
+fn main(rt: HostRuntime) -> io::Result<()> {
+    let count = replay(&mut rt.stdin())?;
+    let calls = count.calls;
+    let differ = count.differ;
+    println!(rt; "refs: {calls} calls, {differ} differ")
 }
