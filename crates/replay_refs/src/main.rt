@@ -106,7 +106,7 @@ fn row_same(line: &[u8], row: [u16; 65], place: u32) -> bool {
 }
 
 // Whether an answer's number, corner and row are those of the line.
-fn rows_same(line: &[u8], call: Call, no: u32, rows: &Rows) -> bool {
+fn rows_same(line: &[u8], call: Call, no: u32, rows: Rows) -> bool {
     let above = rows.above;
     let left = rows.left;
     let number = (no == call.no) & ((rows.corner as u32) == call.corner);
@@ -128,7 +128,7 @@ fn substitution_same(line: &[u8], call: Call) -> bool {
         left: flags_of(call.cur_col, call.unit, call.height as usize),
     };
     let answer = substitution::substitute_refs(rows, flags, call.n, call.bits);
-    rows_same(line, call, answer.no, &answer.rows)
+    rows_same(line, call, answer.no, answer.rows)
 }
 
 fn luma_same(line: &[u8], call: Call, plane: &[u16]) -> bool {
@@ -146,7 +146,7 @@ fn luma_same(line: &[u8], call: Call, plane: &[u16]) -> bool {
         n: call.n,
     };
     let answer = refs::get_reference_samples(plane, geo);
-    rows_same(line, call, answer.no, &answer.rows)
+    rows_same(line, call, answer.no, answer.rows)
 }
 
 fn chroma_same(line: &[u8], call: Call, cb: &[u16], cr: &[u16]) -> bool {
@@ -165,9 +165,9 @@ fn chroma_same(line: &[u8], call: Call, cb: &[u16], cr: &[u16]) -> bool {
     };
     let answer = refs::get_reference_samples_chroma_pair(cb, cr, geo);
     if call.which < 2 {
-        return rows_same(line, call, answer.no, &answer.planes[0]);
+        return rows_same(line, call, answer.no, answer.planes[0]);
     }
-    rows_same(line, call, answer.no, &answer.planes[1])
+    rows_same(line, call, answer.no, answer.planes[1])
 }
 
 // Whether a door gives what the line has. Kinds 1 to 3; others never do.
