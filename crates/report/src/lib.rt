@@ -1,6 +1,7 @@
 // What intrawalk prints of its input (document 01, 'The program'): the whole text, from the bytes alone.
 // Rests on the contracts of walk and replay, of the sums and of the lines.
 #![tactic(auto)]
+
 pub mod file;
 mod sums;
 pub mod text;
@@ -56,7 +57,7 @@ fn lay_lines(
 ) -> usize
     requires { Listed (plan_of rows.now cols.now sides.now modes.now) (count residuals.now) × (65536 ≤
         count out.old) }
-    ensures { Laid 0 (lines (plan_of rows.now cols.now sides.now modes.entry.now).block residuals.now (count rows.now)) out.old out.new result
+    ensures { Laid 0 (lines (plan_of rows.now cols.now sides.now modes.now).block residuals.now (count rows.now)) out.old out.new result
         53760 }
 {
     let mut end = 0;
@@ -117,7 +118,7 @@ fn replay_all(
     plane: &mut [u16],
 )
     requires { count rows.now ≤ 512 }
-    ensures { plane.new ≡ replay_after still (plan_of rows.now cols.now sides.entry.now modes.now) scratch_tables 0 (count rows.now) residuals.now plane.old }
+    ensures { plane.new ≡ replay_after still (plan_of rows.now cols.now sides.now modes.now) scratch_tables 0 (count rows.now) residuals.now plane.old }
 {
     let mut refs = [0u16; 193];
     let mut indices = [0u32; 32];
