@@ -1,5 +1,5 @@
 -- Document 01, 'The program': the input's trailer, its two regions and number 12, and the source and the plan in it. Assumes nothing.
-use Rattle.std.specs.Prelude.{ℕ, ◌+◌, ◌-◌, ◌*◌, Bool, ◌&&◌, List, [], ◌∷◌, leb, length, get_or, replicate}
+use Rattle.std.specs.Prelude.{ℕ, ◌+◌, ◌-◌, ◌*◌, Bool, ◌&&◌, List, leb, length, get_or, replicate}
 use Rattle.laws.specs.Fill.{fill}
 use Rattle.laws.specs.Bytes.{le_at}
 use Rattle.plan.specs.tiling.Plan.{Plan, plan_of}

@@ -1,6 +1,5 @@
 -- `file::read_samples` meets its contract. The loop keeps an equation with `fill`.
 use borrow.Author.Rules.{rules}
-use Prim.Native.Nat.{◌-◌}
 use mathlib.Core.Path.{refl}
 use Rattle.laws.specs.FillLaws.{fill_none, fill_more}
 use Rattle.report.proofs.file.read_samples.Goals as goal

@@ -1,6 +1,5 @@
 -- `file::read_twos` meets its contract. The loop keeps an equation with `fill`.
 use borrow.Author.Rules.{rules}
-use Prim.Native.Nat.{◌-◌}
 use Rattle.laws.specs.FillLaws.{fill_none, fill_more}
 use Rattle.report.proofs.file.read_twos.Goals as goal
 

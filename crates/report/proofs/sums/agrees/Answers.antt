@@ -1,6 +1,5 @@
 -- `sums::agrees` meets its contract. The loop's invariant: the flag says whether the samples passed are the same.
 use borrow.Author.Rules.{rules}
-use Prim.Native.Nat.{◌-◌}
 use Rattle.report.specs.sums.Laws.{agree_none, agree_more}
 use Rattle.report.proofs.sums.agrees.Goals as goal
 

@@ -1,6 +1,5 @@
 -- `text::lay` meets its contract. The loop keeps the copy of so many bytes.
 use borrow.Author.Rules.{rules}
-use Prim.Native.Nat.{◌-◌}
 use Rattle.report.specs.text.Laws.{paste_more, pasted}
 use Rattle.report.proofs.text.lay.Goals as goal
 
