@@ -1,7 +1,7 @@
 // intrawalk: prints what `report` makes of standard input. Rests on report's contract for the text.
 #![tactic(auto)]
 
-ghost use Rattle.std.specs.Prelude.{◌≡◌, ◌≤◌, ◌<◌, ◌×◌, IfOk, length, take};
+ghost use Rattle.std.specs.Prelude.{◌≡◌, ◌≤◌, ◌<◌, IfOk, length, take};
 ghost use Rattle.std.specs.Io.{ReadsAtMost};
 ghost use Rattle.std.specs.Io.KnownBytes.{Consumes, IsAtEnd};
 
@@ -28,7 +28,9 @@ fn read_full<R: Read>(input: &mut R, buffer: &mut [u8]) -> io::Result<usize>
 // Reads all of standard input, as far as there is room, and tells how many bytes. Where a read fails before the input ends, it is
 // as if nothing had been read.
 fn read_input<R: Read>(input: &mut R, buffer: &mut [u8]) -> usize
-    ensures { (result ≤ length buffer.new) × (result ≡ length (take result buffer.new)) }
+    ensures bound { (result ≤ length buffer.new) × (result ≡ length (take result buffer.new)) }
+    ensures octets { 0 < result → Consumes (R.remaining input.old) (R.remaining input.new) (take result buffer.new) }
+    ensures end { 0 < result → result < length buffer.new → IsAtEnd (R.remaining input.new) }
 {
     match read_full(input, &mut *buffer) {
         Ok(n) => n,
