@@ -6,8 +6,7 @@ pub mod Rebuilt
 pub mod Walked
 -- Ready: what the work on a block asks.
 pub mod Ready
--- Laws of each; Stored: what the walk's residuals are.
+-- Laws of each (the walk's are proofs/WalkedLaws); Stored: what the walk's residuals are.
 pub mod PredictedLaws
 pub mod RebuiltLaws
-pub mod WalkedLaws
 pub mod Stored

@@ -17,7 +17,8 @@ use Rattle.walk.specs.block.Predicted.{sample_at, predicted_at}
 use Rattle.walk.specs.block.Rebuilt.{replay_unit}
 use Rattle.walk.specs.block.Walked.{World, walk_unit}
 use Rattle.walk.specs.block.RebuiltLaws.{rebuilt_length}
-use Rattle.walk.specs.lossless.Picture.{Sample, OfS, Whole, look, predict, residual, less, local, rebuild_out, replays, sourced, walks_plan}
+use Rattle.walk.specs.lossless.Picture.{Sample, OfS, Whole, look, predict, residual, less, local, rebuild_out, replays, sourced}
+use Rattle.walk.proofs.Walks.{walks_plan}
 use Rattle.walk.specs.lossless.Replay.{units_kept, replay_same, replay_source, walks}
 use Rattle.promises.specs.demand3.Calls.{Task, Ask, ask, Roomy, granted, Each, Held, Served, ReplaysServed, blocks, count}
 use Rattle.promises.specs.demand3.Calls.{residual_at, fresh, calls, walk_call, replay_verdict_at, replay_call}

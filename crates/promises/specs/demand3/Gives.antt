@@ -17,7 +17,8 @@ use Rattle.walk.specs.block.Rebuilt.{replay_unit}
 use Rattle.walk.specs.block.Walked.{World, stored, walked, walk_unit}
 use Rattle.walk.specs.calls.Door.{replay_after, walk_after}
 use Rattle.walk.specs.Door.{stepped_by}
-use Rattle.walk.specs.lossless.Picture.{rebuild_out, store_out, replays, sourced, walks_plan}
+use Rattle.walk.specs.lossless.Picture.{rebuild_out, store_out, replays, sourced}
+use Rattle.walk.proofs.Walks.{walks_plan}
 use Rattle.walk.specs.lossless.Replay.{units_kept}
 use Rattle.promises.specs.demand3.Calls.{Task, Ask, Held, held, blocks, count, residual_at, walk_verdict_at, walk_call}
 use Rattle.promises.specs.demand3.Calls.{replay_verdict_at, replay_call}

@@ -1,7 +1,7 @@
 -- `walk::call_of` meets its contract: refused, or served.
 use mathlib.Core.Path.{◌∙◌}
 use native.Mathlib.Omega.{arith}
-use Rattle.walk.specs.calls.Steps.{upto_few}
+use Rattle.walk.proofs.CallLaws.{upto_few}
 use Rattle.walk.specs.Listed.{bare, refused_call, granted_call}
 use Rattle.walk.proofs.call_of.Goals as goal
 

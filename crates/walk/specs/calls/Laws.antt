@@ -1,12 +1,11 @@
 -- What the verdict on a call tells, that a refused call leaves all as it was, and what a call comes to: what its loop asks holds,
 -- and it leaves what the door says. Rests on the laws of the plan and of a still's checks, and on how far a call goes.
-use Rattle.std.specs.Prelude.{◌≡◌, refl, true, ◌&&◌, List, ℕ, ◌+◌, ◌-◌, ◌*◌, ◌≤◌, ◌<◌, eqb, length, ℤ}
+use Rattle.std.specs.Prelude.{◌≡◌, refl, true, ◌&&◌, List, ℕ, ◌-◌, ◌*◌, ◌≤◌, ◌<◌, eqb, length, ℤ}
 use Rattle.std.proofs.Math.Path.{sym, ap}
 use Rattle.std.proofs.Common.{◌∙◌, subst, arith}
 use Rattle.std.proofs.Math.Decide.{ℕ_discrete}
 use borrow.Author.Tests.{eqb-true, ne_eqb}
-use Rattle.laws.specs.Chain.{units}
-use Rattle.laws.specs.Choose.{served, if_no, passed, both_true, worked, unserved}
+use Rattle.laws.specs.Choose.{if_no, passed, both_true, unserved}
 use Rattle.domain.specs.Domain.{depth_ok}
 use Rattle.domain.specs.Facts.{size_small, depth_of}
 use Rattle.order.specs.Order.{picture_ok}
@@ -24,13 +23,12 @@ use Rattle.walk.specs.checks.Checks.{largest_in, is_whole, Tables, is_roomy, set
 use Rattle.walk.specs.checks.Checks.{residual_checks, replay_fits, replay_no, source_checks, walk_fits, walk_no}
 use Rattle.walk.specs.checks.Laws.{good_call, settle_zero}
 use Rattle.walk.specs.declared.calls.Step.{Step}
-use Rattle.walk.specs.calls.Steps.{doing_of, step_of, refused_step, granted_step}
+use Rattle.walk.specs.calls.Steps.{step_of, refused_step}
 use Rattle.walk.specs.block.Ready.{Ready, Lies}
-use Rattle.walk.specs.block.Rebuilt.{replay_unit}
 use Rattle.walk.specs.calls.Places.{place_in, count_up}
-use Rattle.walk.specs.block.Walked.{World, walk_unit}
+use Rattle.walk.specs.block.Walked.{World}
 use Rattle.walk.specs.calls.Door.{verdict_of, replay_verdict, replay_after, walk_verdict, walk_after}
-use Rattle.walk.specs.calls.Ready.{Sound, ReplayReady, WalkReady}
+use Rattle.walk.specs.calls.Ready.{Sound}
 
 -- the blocks of an accepted plan have the picture's samples, and are not many
 module _ (f : Frame) (plan : Plan) (h : Accepted f plan.block plan.count) where
@@ -157,31 +155,10 @@ module _ (s : Still) (plan : Plan) (t : Tables) (done grant : ℕ) where
   unfolding walk_after
   walk_refused source w h = sym (unserved _ _ w h)
 
--- how far a call goes: one that has a block to do is served
+-- how far a call goes
 module _ (v : Verdict) (count done grant upto : ℕ) (is : upto ≡ (step_of v count done grant).upto) where
-  served_upto : v.no ≡ 0 → upto ≡ done + doing_of count done grant
-  served_upto z = is ∙ sym (ap (λ (x : Step). x.upto) (granted_step v count done grant z {did = doing_of count done grant} refl))
-
   pub refused_upto : (v.no ≡ 0 → ⊥) → upto ≡ 0
   refused_upto d = is ∙ sym (ap (λ (x : Step). x.upto) (refused_step v count done grant d))
-
-  upto_asks : 0 < upto → (v.no ≡ 0) × (upto ≡ done + doing_of count done grant)
-  upto_asks l = go (ℕ_discrete v.no 0)
-    where
-      go : Dec (v.no ≡ 0) → (v.no ≡ 0) × (upto ≡ done + doing_of count done grant)
-      go (yes z) = (z, served_upto z)
-      go (no d) = absurd (omega (arith, l, refused_upto d))
-
-  upto_leaves : {W : Type 0} (unit : ℕ → W → W) (w e : W) → e ≡ units unit done (upto - done) w → e
-      ≡ served v.no (units unit done (doing_of count done grant) w) w
-  unfolding units
-  upto_leaves {W} unit w e u = go (ℕ_discrete v.no 0)
-    where
-      go : Dec (v.no ≡ 0) → e ≡ served v.no (units unit done (doing_of count done grant) w) w
-      go (yes z) = let m : upto - done ≡ doing_of count done grant = omega (arith, served_upto z) in u
-          ∙ ap (λ (n : ℕ). units unit done n w) m ∙ worked v.no _ w z
-      go (no d) = let m : upto - done ≡ 0 = omega (arith, refused_upto d) in u ∙ ap (λ (n : ℕ). units unit done n w) m
-          ∙ unserved v.no _ w d
 
 -- replay: its verdict, what its loop may ask, and what it leaves
 module _ (s : Still) (plan : Plan) (t : Tables) (done : ℕ) (v : List ℤ) (d : List ℕ) where
@@ -192,19 +169,6 @@ module _ (s : Still) (plan : Plan) (t : Tables) (done : ℕ) (v : List ℤ) (d :
       (λ z.
       let g = good_call s (replay_fits s plan.whole t (length d) (length v)) (residual_checks (largest_in s) v) z in
       (g.0, (both_true _ _ (both_true _ _ (both_true _ _ g.1).0).0).0))
-
-  module _ (grant upto : ℕ) (is : upto ≡ (step_of (replay_verdict s plan t done (length d) v) plan.count done grant).upto) where
-    pub replay_asks : ReplayReady s plan t (length d) (length v) upto
-    replay_asks l =
-        let a = upto_asks (replay_verdict s plan t done (length d) v) plan.count done grant upto is l in
-        let b = replay_sound s plan t done (length d) v a.0 in
-        (b.0, omega (arith, a.1, b.1))
-
-    pub replay_leaves : (e : List ℕ) → e ≡ units (replay_unit s plan.block v) done (upto - done) d → e
-        ≡ replay_after s plan t done grant v d
-    unfolding replay_after
-    replay_leaves e u = upto_leaves (replay_verdict s plan t done (length d) v) plan.count done grant upto is
-        (replay_unit s plan.block v) d e u
 
 -- the same of the walk
 module _ (s : Still) (plan : Plan) (t : Tables) (done : ℕ) (source : List ℕ) (w : World) where
@@ -218,16 +182,3 @@ module _ (s : Still) (plan : Plan) (t : Tables) (done : ℕ) (source : List ℕ)
       let g = good_call s (walk_fits s plan.whole t (length source) (length w.work) (length w.residuals))
       (source_checks (largest_in s) source) z in
       (g.0, (both_true _ _ (both_true _ _ (both_true _ _ (both_true _ _ g.1).0).0).0).0))
-
-  module _ (grant upto : ℕ) (is : upto ≡ (step_of (walk_verdict s plan t done source w) plan.count done grant).upto) where
-    pub walk_asks : WalkReady s plan t (length source) (length w.work) (length w.residuals) upto
-    walk_asks l =
-        let a = upto_asks (walk_verdict s plan t done source w) plan.count done grant upto is l in
-        let b = walk_sound s plan t done source w a.0 in
-        (b.0, (b.1.0, omega (arith, a.1, b.1.1)))
-
-    pub walk_leaves : (e : World) → e ≡ units (walk_unit s plan.block source) done (upto - done) w → e
-        ≡ walk_after s plan t done grant source w
-    unfolding walk_after
-    walk_leaves e u = upto_leaves (walk_verdict s plan t done source w) plan.count done grant upto is (walk_unit s plan.block source)
-        w e u

@@ -1,6 +1,6 @@
 -- Document 01, 'Plan, walk, replay': which blocks a call does, by its verdict, the blocks done before it and its grant. Assumes nothing.
-use Rattle.std.specs.Prelude.{◌≡◌, refl, ℕ, min, ◌+◌, ◌-◌, ◌≤◌}
-use Rattle.std.proofs.Common.{sym, ◌∙◌, arith}
+use Rattle.std.specs.Prelude.{◌≡◌, ℕ, min, ◌+◌, ◌-◌}
+use Rattle.std.proofs.Common.{◌∙◌}
 use Rattle.std.proofs.Math.Path.{ap}
 use Rattle.laws.specs.Choose.{served, worked, unserved}
 use Rattle.plan.specs.declared.tiling.Verdict.{Verdict}
@@ -26,8 +26,3 @@ module _ (v : Verdict) (count done grant : ℕ) where
       ≡ step_of v count done grant
   unfolding step_of
   granted_step z e = ap (λ (k : ℕ). record { no = 0; block = 0; did = k; upto = done + k }) e ∙ worked v.no _ _ z
-
-  -- a call goes up to no more blocks than there are
-  pub upto_few : v.no ≡ 0 → done ≤ count → {t : Step} → t ≡ step_of v count done grant → t.upto ≤ count
-  upto_few z few {t} e = let q : t.upto ≡ done + doing_of count done grant = ap (λ (x : Step). x.upto)
-      (e ∙ sym (granted_step z {did = doing_of count done grant} refl)) in omega (arith, q)

@@ -1,9 +1,9 @@
 -- Walk and replay of a plan over flat planes are walks and replays in Replay's sense: a block's prediction looks at earlier blocks
 -- alone, and blocks and their residuals are stored apart. Rests on Bridge, on the gather's reading no missing sample, and on what a
 -- good plan is.
-use Rattle.std.specs.Prelude.{◌≡◌, refl, true, ◌&&◌, List, ltb, length, ℤ, pos, ◌+ℤ◌, ◌-ℤ◌}
+use Rattle.std.specs.Prelude.{◌≡◌, true, ◌&&◌, List, ltb, length, ℤ, pos, ◌+ℤ◌, ◌-ℤ◌}
 use Rattle.std.proofs.Math.Path.{sym, ap}
-use Rattle.std.proofs.Common.{ap₂, ◌∙◌, ltb-true}
+use Rattle.std.proofs.Common.{◌∙◌, ltb-true}
 use Prim.Native.Nat.{ℕ, suc, ◌+◌, ◌-◌, ◌*◌, ◌/◌, ◌%◌, ◌≤◌, ◌<◌}
 use Rattle.std.proofs.Math.Nat.{min-eq_left}
 use native.Mathlib.Omega.{arith}
@@ -26,18 +26,17 @@ use Rattle.refs.specs.Gather.{sample_of}
 use Rattle.refs.specs.standard.Unread.{luma_unread}
 use Rattle.plan.specs.declared.tiling.Block.{Block}
 use Rattle.plan.specs.tiling.Tiling.{Of, cell_at, place}
-use Rattle.plan.specs.tiling.Cover.{apart, earlier, area}
+use Rattle.plan.specs.tiling.Cover.{apart, earlier}
 use Rattle.plan.specs.tiling.Verdict.{Accepted}
 use Rattle.walk.specs.declared.checks.Still.{Still}
 use Rattle.walk.specs.checks.Checks.{largest_in}
 use Rattle.walk.specs.block.Predicted.{sample_at, predicted_at}
 use Rattle.walk.specs.block.Rebuilt.{rebuilt, replay_unit}
-use Rattle.walk.specs.block.Walked.{stored, World, walked, walk_unit}
+use Rattle.walk.specs.block.Walked.{stored}
 use Rattle.walk.specs.block.Bridge.{geometry_of, bridge}
 use Rattle.walk.specs.calls.Places.{place_up}
 use Rattle.walk.specs.block.RebuiltLaws.{rebuilt_length}
-use Rattle.walk.specs.block.Stored.{stored_length, stored_at}
-use Rattle.walk.specs.lossless.Replay.{Replays, Sourced, Walks}
+use Rattle.walk.specs.lossless.Replay.{Replays, Sourced}
 
 -- a sample's place in the picture
 pub record Sample (s : Still) : Type 0 where
@@ -83,7 +82,7 @@ digits w {r} {c} {r'} {c'} l l' e =
 
 module _ (s : Still) (plan : ℕ → Block) where
   -- a residual's place lies in its block's part
-  within : (k : ℕ) (t : Sample s) → OfS s plan k t
+  pub within : (k : ℕ) (t : Sample s) → OfS s plan k t
       → place plan k + (t.row - (plan k).row) * (plan k).side + (t.col - (plan k).col) < place plan (suc k)
   unfolding place
   within k t o = omega (
@@ -158,16 +157,6 @@ module _ (s : Still) (plan : ℕ → Block) (count : ℕ) (ok : Accepted s.frame
     pub sourced : Whole s source → ((t : Sample s) → look s source t ≤ largest_in s) → Sourced (Whole s) (look s) (added s) less source
     sourced h r = record { source_ok = h; back = λ t p. less_added (largest_in s) (look s source t) p (r t) }
 
-    store_in : (k : ℕ) (w : List ℕ) (v : List ℤ) → k < count → Whole s v → (t : Sample s) → OfS s plan k t
-        → residual s plan (stored s source (plan k) (place plan k) w v) k t ≡ less (look s source t) (predict s plan k w t)
-    store_in k w v l long t o =
-        let b = plan k in
-        let y : b.row + (t.row - b.row) ≡ t.row = omega arith in
-        let x : b.col + (t.col - b.col) ≡ t.col = omega arith in
-        stored_at s source b (place plan k) w v (t.row - b.row) (t.col - b.col) (omega arith) (omega arith)
-        (omega (arith, within s plan k t o, place_up plan (suc k) count l, area ok.picture plan count ok.plan_good))
-        ∙ ap₂ (λ (r c : ℕ). less (sample_at s source r c) (predict s plan k w t)) y x
-
     pub store_out : (k : ℕ) (w : List ℕ) (v : List ℤ) (i : ℕ) (t : Sample s) → (i ≡ k → ⊥) → OfS s plan i t
         → residual s plan (stored s source (plan k) (place plan k) w v) i t ≡ residual s plan v i t
     unfolding stored place
@@ -180,16 +169,3 @@ module _ (s : Still) (plan : ℕ → Block) (count : ℕ) (ok : Accepted s.frame
         go (no d) r c hr hc e =
             let after : suc k ≤ i = omega (arith, m) in
             omega (arith, e, place_up plan (suc k) i after, digits_lt {q = r} {m = (plan k).side} {r = c} {c = (plan k).side} hr hc)
-
-    pub walks_plan : Walks (Whole s) (look s) (residual s plan) count (OfS s plan) (predict s plan) less source
-        (λ k v w. replay_unit s plan v k w) (Whole s)
-        (λ k w v. stored s source (plan k) (place plan k) w v) (λ (x : World). x.work) (λ (x : World). x.residuals)
-        (walk_unit s plan source)
-    unfolding walked
-    walks_plan = record {
-      store_ok = λ k w v h. stored_length s source (plan k) (place plan k) w v ∙ h;
-      store_in = λ k w v l h. store_in k w v l;
-      store_out = λ k w v l. store_out k w v;
-      unit_work = λ k x. refl;
-      unit_resid = λ k x. refl;
-    }

@@ -3,7 +3,7 @@
 use Rattle.plan.specs.tiling.Plan.{listed}
 use Rattle.walk.specs.calls.Laws.{found_small}
 use Rattle.walk.specs.Lent.{scratch_tables}
-use Rattle.walk.specs.Listed.{replay_asks, replay_ends}
+use Rattle.walk.proofs.Listed.{replay_asks, replay_ends}
 use Rattle.walk.proofs.Progress.replay.Goals as goal
 
 pub replay_call-call-requires : goal.replay_call-call-requires

@@ -7,7 +7,8 @@ use Rattle.plan.specs.tiling.Plan.{plan_of}
 use Rattle.walk.specs.checks.Checks.{replay_no, settle}
 use Rattle.walk.specs.checks.Laws.{settle_zero}
 use Rattle.walk.specs.calls.Laws.{found_small}
-use Rattle.walk.specs.Listed.{bare, call_of, replay_asks, replay_ends}
+use Rattle.walk.specs.Listed.{bare, call_of}
+use Rattle.walk.proofs.Listed.{replay_asks, replay_ends}
 use Rattle.walk.proofs.Progress.replay_numbers.Goals as goal
 
 pub call_of-call-requires : goal.call_of-call-requires

@@ -3,7 +3,7 @@
 use Rattle.plan.specs.tiling.Plan.{listed}
 use Rattle.walk.specs.calls.Laws.{found_small}
 use Rattle.walk.specs.Lent.{scratch_tables, world}
-use Rattle.walk.specs.Listed.{walk_asks, walk_ends}
+use Rattle.walk.proofs.Listed.{walk_asks, walk_ends}
 use Rattle.walk.proofs.Progress.walk.Goals as goal
 
 pub walk_call-call-requires : goal.walk_call-call-requires

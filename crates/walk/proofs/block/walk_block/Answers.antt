@@ -6,7 +6,7 @@ use Rattle.fmt.specs.depth.Laws.{largest_of_is}
 use Rattle.walk.specs.Lent.{tables}
 use Rattle.walk.specs.block.PredictedLaws.{square}
 use Rattle.walk.specs.block.RebuiltLaws.{rows_in, holds_it}
-use Rattle.walk.specs.block.WalkedLaws.{walked_is}
+use Rattle.walk.proofs.WalkedLaws.{walked_is}
 use borrow.Author.Rules.{rules}
 use Rattle.walk.proofs.block.walk_block.Goals as goal
 

@@ -1,0 +1,6 @@
+-- CallLaws: how far a call goes, what its loop asks and what it leaves. Listed: what a call comes to, by its answer. WalkedLaws: what joins the
+-- functions that walk a block. Walks: the walk of a plan over flat planes stores the source less the prediction.
+mod CallLaws
+mod Listed
+mod WalkedLaws
+pub mod Walks
