@@ -1,6 +1,7 @@
 // The checksum of a decoded picture, H.265 Annex D, plane by plane and row by row (document 02, Wish 7). Rests on the domain's tests,
 // the figures of a depth and the test of a plane's samples.
 #![tactic(auto)]
+
 pub mod on_bytes;
 
 ghost use Rattle.std.specs.Prelude.{◌≡◌, ℕ, ◌+◌, ◌-◌, ◌*◌, ◌<◌, ◌≤◌, ◌&&◌, length, ◌==◌, nat_le, slice_index};

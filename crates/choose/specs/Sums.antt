@@ -2,17 +2,17 @@
 -- laws and the standard's rule.
 use Rattle.std.specs.Prelude.{◌≡◌, refl, Bool, false, not, ◌&&◌, ◌||◌, List, ℕ, ◌+◌, ◌*◌, ◌-◌, ◌≤◌, ◌<◌, ltb, eqb, length, get_or}
 use Rattle.std.proofs.Math.Path.{sym}
-use Rattle.std.proofs.Common.{ap₂, ◌∙◌, arith}
+use Rattle.std.proofs.Common.{ap₂, ◌∙◌}
 use Rattle.std.proofs.Math.Bool.{true}
 use Rattle.std.proofs.lemmas.Bool.{false≢true}
 use Rattle.laws.specs.Fill.{block}
 use Rattle.laws.specs.FillLaws.{length_rows, rows_at}
-use Rattle.laws.specs.Sum.{total, total_same, total_turned}
+use Rattle.laws.specs.Sum.{total_same, total_turned}
 use Rattle.domain.specs.Facts.{Size, size_small}
 use Rattle.h265.specs.Notation.{Neighbours, from_rows}
 use Rattle.h265.specs.Setting.{luma_at, first_edition_strong}
 use Rattle.h265.specs.Filtering.{min_dist_ver_hor, filter_flag, filtered}
-use Rattle.h265.specs.Prediction.{filters, prepared, pred_samples}
+use Rattle.h265.specs.Prediction.{filters, prepared}
 use Rattle.h265.specs.Mean.{Agree}
 use Rattle.predict.specs.angular.Unsigned.{mirror}
 use Rattle.predict.specs.modes.Modes.{predicted_by_mode, is_by_mode, by_mode_alone}

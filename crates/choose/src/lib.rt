@@ -3,6 +3,7 @@
 // A horizontal mode is predicted mirrored, as the vertical one that it mirrors, against the source with its rows as columns: rows are
 // written quicker than columns.
 #![tactic(auto)]
+
 ghost use Rattle.std.specs.Prelude.{◌≡◌, true, ℕ, ◌+◌, ◌*◌, ◌≤◌, ◌<◌, length};
 ghost use Rattle.laws.specs.Fill.{run, block};
 ghost use Rattle.laws.specs.Sum.{total};

@@ -1,6 +1,7 @@
 // Document 01's domain: which depths, sizes, modes, sides, CTUs and units there are, each told by one test.
 // Every door asks these and no other. Rests on the laws alone.
 #![tactic(auto)]
+
 pub mod helpers;
 pub mod rows;
 

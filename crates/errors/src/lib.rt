@@ -1,6 +1,7 @@
 // An exact report of how far coded stills are from their sources, mode by mode (document 02, Wish 14). Rests on the domain's tests, the
 // figures of a depth, the test of a plane's samples and the plan check.
 #![tactic(auto)]
+
 pub mod on_bytes;
 pub mod record;
 

@@ -1,6 +1,7 @@
 // Chroma format: the rules of fmt.rs about it that the port takes, the door from a number, and the kinds of places. Depth is in
 // module depth. Assumes nothing.
 #![tactic(auto)]
+
 pub mod depth;
 
 ghost use Rattle.std.specs.Prelude.{◌≡◌, ◌*◌, ◌/◌, ◌≤◌};

@@ -1,6 +1,7 @@
 // Reads the numbers of a fixed list: words of eight hex digits, with one byte after each. And what every program that replays such a
 // list does with them: draws samples from a seed, looks for a line's entries in what was written, counts. Rests on nothing else.
 #![tactic(auto)]
+
 ghost use Rattle.std.specs.Prelude.{◌≡◌, ◌+◌, ◌*◌, ◌≤◌, ◌<◌, get_or};
 ghost use Rattle.listing.specs.Hex.{hex_digit, digit_at, octet_at, half_at, word_at};
 ghost use Rattle.listing.specs.Drawn.{next_of, other_seed, drawn_sample, drawn, drawn_row, same_from, more, counted};

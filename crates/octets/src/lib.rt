@@ -1,6 +1,7 @@
 // Samples and residuals as bytes, the lowest byte first: one number at a time, so that a caller reads and stores its own bytes.
 // Rests on nothing.
 #![tactic(auto)]
+
 pub mod pairs;
 
 ghost use Rattle.std.specs.Prelude.{◌≡◌, ℕ, ◌+◌, ◌*◌, ◌/◌, ◌%◌, ◌<◌, eqb, leb, length, get_or};

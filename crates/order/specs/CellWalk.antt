@@ -1,6 +1,6 @@
 -- The order of 6.5.2 over cells, by halving: the form that the proofs go by, and its laws. Assumes nothing.
 -- A cell is named by its row y and its column x; w CTUs stand in a row, and a CTU is halved k times down to a cell.
-use Rattle.std.specs.Prelude.{◌≡◌, ℕ, zero, suc, ◌+◌, ◌-◌, ◌*◌, ◌/◌, ◌%◌, ◌^◌, ◌≤◌, ◌<◌}
+use Rattle.std.specs.Prelude.{◌≡◌, ℕ, zero, suc, ◌+◌, ◌*◌, ◌/◌, ◌%◌, ◌^◌, ◌≤◌, ◌<◌}
 use Rattle.std.proofs.Math.Path.{refl, ◌≡⟨◌⟩◌, ◌∎}
 use Rattle.std.proofs.Common.{sym, ap, ap₂, ◌∙◌, pow-suc, zero-add, suc-add, mul-div_cancel, mul-le-mul_right, pow_pos}
 use Rattle.std.proofs.Math.Nat.{pow-succ', pow-zero, div-one, div-div-eq-div-mul, div-eq_of_lt-le}

@@ -1,6 +1,7 @@
 // Decode order of a picture's cells (H.265 6.5.2) and which luma neighbours are available (document 01, module 2).
 // Rests on the domain's tests, on what a cell's number is made of and on the kinds of places.
 #![tactic(auto)]
+
 pub mod cells;
 
 ghost use Rattle.std.specs.Prelude.{◌≡◌, ◌+◌, ◌-◌, ◌*◌, ◌/◌, ◌%◌, ◌^◌, ◌≤◌, ◌<◌, min, eqb, pos};

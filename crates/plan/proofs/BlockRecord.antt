@@ -1,10 +1,8 @@
 -- A block record in memory: its value, its size, and where block i of a lent list of them stands. Walks by hand over a `&[Block]`, here and in crate walk,
 -- name nothing else of the record's fields, so that a further field of `Block` changes this page and none of them. Assumes nothing.
-use mathlib.Core.Path.{◌≡◌}
-use Prim.Native.Nat.{ℕ, ◌+◌, ◌*◌, ◌<◌, ◌^◌}
+use Prim.Native.Nat.{ℕ, ◌*◌, ◌<◌, ◌^◌}
 use native.Mathlib.Omega.{arith}
 use mir.Val.{Val}
-use denote.Index.{place_is}
 use denote.Slice.{Room}
 use denote.Struct.Laws as LL
 use Rattle.plan.specs.declared.tiling.Block.{Block}

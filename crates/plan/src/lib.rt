@@ -1,6 +1,7 @@
 // Plans: which blocks, in which order, cover a still (document 01, 'Plan, walk, replay'). A plan is lent as four slices of numbers,
 // as block records, or as bytes. Rests on the steps of a verdict.
 #![tactic(auto)]
+
 mod block_check;
 mod next_cell;
 pub mod records;

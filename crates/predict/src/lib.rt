@@ -1,6 +1,7 @@
 // A block's prediction in any mode, H.265 8.4.4.2.1: chroma from its references as they are, luma from references that are
 // smoothed by the rule. Rests on the choice by mode and on the rows that it is given.
 #![tactic(auto)]
+
 mod angles;
 pub mod angular;
 mod boundary;

@@ -1,6 +1,7 @@
 // Reference samples: the luma gather and the chroma pair gather (document 01, modules 3 and 4).
 // Rests on the contracts of order (which neighbours are there) and on substitution; a sample's value never says whether it is there.
 #![tactic(auto)]
+
 pub mod substitution;
 
 ghost use Rattle.std.specs.Prelude.{◌≡◌, ℕ, ◌+◌, ◌-◌, ◌*◌, ◌≤◌, ◌<◌, length};

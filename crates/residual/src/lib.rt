@@ -1,6 +1,7 @@
 // Residual and reconstruction. Rests on the standard's clip, the domain's tests, the depths, the arithmetic of one residual
 // (deltas) and the helpers.
 #![tactic(auto)]
+
 ghost use Rattle.std.specs.Prelude.{◌≡◌, ℕ, ◌+◌, ◌*◌, ◌<◌, ◌≤◌, true, length, get_or, replicate, pos, ◌+ℤ◌, slice_index, slice_index_or, unsigned_abs};
 ghost use Rattle.laws.specs.Fill.{fill, run};
 ghost use Rattle.h265.specs.Notation.{clip_to};

@@ -1,6 +1,7 @@
 // Smoothing of a block's references, H.265 8.4.4.2.3. Rests on the standard's definitions, the domain's tests, the rows and the
 // arithmetic of one reference (filters).
 #![tactic(auto)]
+
 ghost use Rattle.std.specs.Prelude.{◌≡◌, true, ℕ, ◌≤◌, length, get_or};
 ghost use Rattle.h265.specs.Notation.{from_rows};
 ghost use Rattle.h265.specs.Filtering.{bi_int_flag, strong_at};

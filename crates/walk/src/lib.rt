@@ -1,6 +1,7 @@
 // Walk and replay of a luma still, block by block, in any number of calls (document 01, 'Plan, walk, replay').
 // Rests on the contracts of a still's checks, of the plan check and of the work on one block alone.
 #![tactic(auto)]
+
 pub mod block;
 mod block_rows;
 pub mod calls;

@@ -1,7 +1,7 @@
 -- What a choice on bytes that is not refused for its lengths has, and that the samples that were read give the choice of the bytes.
 -- Rests on the choice's numbers, and on what reaches a predicted sample.
 use Rattle.std.specs.Prelude.{◌≡◌, refl, true, false, List, [], ◌∷◌, leb, length, get_or, take, replicate}
-use Rattle.std.proofs.Common.{sym, ap, subst, ◌∙◌, arith}
+use Rattle.std.proofs.Common.{sym, ap, ◌∙◌, arith}
 use Rattle.std.proofs.Math.Path.{ap₂}
 use Rattle.std.proofs.Math.Bool.{Bool, cond}
 use Prim.Native.Nat.{ℕ, zero, suc, ◌+◌, ◌-◌, ◌*◌, ◌^◌, ◌≤◌, ◌<◌}
@@ -18,18 +18,16 @@ use Rattle.octets.specs.Bytes.{samples_of, pair_into}
 use Rattle.octets.specs.Laws.{length_samples, pair_stored}
 use Rattle.octets.specs.pairs.Into.{read_into}
 use Rattle.octets.specs.pairs.Laws.{read_done}
-use Rattle.domain.specs.Domain.{depth_ok, size_ok, smoothing_row}
+use Rattle.domain.specs.Domain.{depth_ok, size_ok}
 use Rattle.domain.specs.Facts.{Size, size_of, size_small}
 use Rattle.h265.specs.Notation.{from_rows}
 use Rattle.h265.specs.Setting.{luma_at, first_edition_strong}
-use Rattle.h265.specs.Prediction.{pred_samples}
 use Rattle.predict.specs.refusals.Refusals.{lengths, square}
 use Rattle.predict.specs.modes.Modes.{pred_alone}
 use Rattle.choose.specs.declared.Chosen.{Chosen}
 use Rattle.choose.specs.Choose.{apart, differences, mode_sum, choose_no, Chooses}
 use Rattle.camera.specs.Written.{wrote}
 use Rattle.camera.specs.replay.VerdictLaws.{put_word}
-use Rattle.camera.specs.prediction.Entries.{neighbours_in}
 use Rattle.camera.specs.prediction.Blocks.{read_agree}
 use Rattle.camera.specs.choice.Entry.{choice_room, block_ok, samples_no, choice_lent_no, choice_no, choice_sums, ChoosesInto}
 

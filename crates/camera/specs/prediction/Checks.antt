@@ -1,5 +1,5 @@
 -- What a prediction on bytes has that is not refused. Rests on the numbers.
-use Rattle.std.specs.Prelude.{◌≡◌, refl, Bool, true, ◌&&◌, ℕ, ◌*◌, ◌≤◌, leb}
+use Rattle.std.specs.Prelude.{◌≡◌, Bool, true, ◌&&◌, ℕ, ◌*◌, ◌≤◌, leb}
 use Rattle.std.proofs.Common.{arith, leb-true}
 use Rattle.laws.specs.Choose.{passed, both_true}
 use Rattle.domain.specs.Domain.{depth_ok, size_ok, mode_ok, predictor_row}

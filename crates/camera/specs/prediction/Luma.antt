@@ -1,6 +1,6 @@
 -- A luma block that was made of rows in bytes. Rests on the blocks of the other entries, and on what reaches a predicted sample.
 use Rattle.std.specs.Prelude.{◌≡◌, refl, List, ℕ, ◌*◌, ◌/◌, ◌≤◌, length, replicate}
-use Rattle.std.proofs.Common.{sym, ap, ◌∙◌, arith, le-leb}
+use Rattle.std.proofs.Common.{arith, le-leb}
 use Rattle.laws.specs.Fill.{block}
 use Rattle.laws.specs.FillLaws.{rows_same}
 use Rattle.octets.specs.pairs.Into.{read_into}

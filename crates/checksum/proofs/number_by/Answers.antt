@@ -33,20 +33,20 @@ returns-then-not-ok c = rw (
 
 pub returns-then-is_inside : goal.returns-then-is_inside
 unfolding checksum_no_by
-returns-then-is_inside c =     rw (
-      sym c.depth_ok.ensures ∙ c.if-not-depth_ok.false,
-      sym c.sides_ok.ensures ∙ c.if-not-sides_ok.false,
-      c.if-not-fit.false,
-      c.if-not-ok.false,
-      sym c.is_inside.ensures ∙ c.if-is_inside.true,
-    )
+returns-then-is_inside c = rw (
+  sym c.depth_ok.ensures ∙ c.if-not-depth_ok.false,
+  sym c.sides_ok.ensures ∙ c.if-not-sides_ok.false,
+  c.if-not-fit.false,
+  c.if-not-ok.false,
+  sym c.is_inside.ensures ∙ c.if-is_inside.true,
+)
 
 pub returns-else-is_inside : goal.returns-else-is_inside
 unfolding checksum_no_by
-returns-else-is_inside c =     rw (
-      sym c.depth_ok.ensures ∙ c.if-not-depth_ok.false,
-      sym c.sides_ok.ensures ∙ c.if-not-sides_ok.false,
-      c.if-not-fit.false,
-      c.if-not-ok.false,
-      sym c.is_inside.ensures ∙ c.if-is_inside.false,
-    )
+returns-else-is_inside c = rw (
+  sym c.depth_ok.ensures ∙ c.if-not-depth_ok.false,
+  sym c.sides_ok.ensures ∙ c.if-not-sides_ok.false,
+  c.if-not-fit.false,
+  c.if-not-ok.false,
+  sym c.is_inside.ensures ∙ c.if-is_inside.false,
+)

@@ -1,23 +1,23 @@
 -- The rows one after the other. Assumes nothing.
-use Rattle.std.proofs.Common.{◌+◌, ◌-◌, mod-lt, arith}
+use Rattle.std.proofs.Common.{◌+◌, mod-lt, arith}
 use Rattle.checksum.specs.Checksum.{sample_in_plane}
 use Rattle.checksum.specs.Served.{fine, row_in}
 use Rattle.checksum.specs.Laws.{rows_none, rows_more}
 use Rattle.checksum.proofs.rows_sum.Goals as goal
 
 pub loop-y-init : goal.loop-y-init
-loop-y-init c =     (omega arith, ((fine _ _ _ c.requires).forward, (omega (arith, c.ranges.sum), rows_none _ _ _ _ _)))
+loop-y-init c = (omega arith, ((fine _ _ _ c.requires).forward, (omega (arith, c.ranges.sum), rows_none _ _ _ _ _)))
 
 pub overflow_cast-y-in-loop-y : goal.overflow_cast-y-in-loop-y
-overflow_cast-y-in-loop-y c =     let f = fine _ _ _ c.requires in
+overflow_cast-y-in-loop-y c = let f = fine _ _ _ c.requires in
     omega (arith, c.loop-y-test.true, f.inside, f.low)
 
 pub row_sum-more-requires : goal.row_sum-more-requires
-row_sum-more-requires c =     let e = c.requires in
+row_sum-more-requires c = let e = c.requires in
     (row_in _ _ _ e c.loop-y.y c.loop-y-test.true, (fine _ _ _ e).narrow)
 
 pub loop-y-preserved : goal.loop-y-preserved
-loop-y-preserved c =     let a = c.args in
+loop-y-preserved c = let a = c.args in
     let l = c.loop-y in (
       omega arith,
       (

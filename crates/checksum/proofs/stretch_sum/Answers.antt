@@ -1,5 +1,5 @@
 -- What a stretch adds: the loop's sum is the total of the columns passed. Assumes nothing.
-use Rattle.std.proofs.Common.{◌≡◌, ℕ, ◌+◌, ◌-◌, get_or, ap, ◌∙◌, ap₂, arith}
+use Rattle.std.proofs.Common.{◌≡◌, ℕ, ◌+◌, get_or, ap, ◌∙◌, ap₂, arith}
 use Rattle.laws.specs.Sum.{total_none, total_more}
 use Rattle.checksum.specs.Laws.{sample_adds}
 use Rattle.checksum.proofs.stretch_sum.Goals as goal
@@ -8,7 +8,7 @@ pub loop-i-init : goal.loop-i-init
 loop-i-init c = (omega arith, (omega arith, total_none _))
 
 pub loop-i-preserved : goal.loop-i-preserved
-loop-i-preserved c =     let a = c.args in
+loop-i-preserved c = let a = c.args in
     let l = c.loop-i in
     let e : a.at + a.x + l.i ≡ a.at + (a.x + l.i) = omega arith in (
       omega arith,

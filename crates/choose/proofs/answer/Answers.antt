@@ -22,11 +22,11 @@ none : (c : Else-no-ne0) → let a = c.args in choose_no a.bits a.n a.source.now
 none c = sym c.choose_no-no.ensures ∙ c.if-no-ne0.false
 
 pub turn-requires : goal.turn-requires
-turn-requires c =     let r = ready _ _ _ (lent_by (goal.at.turn-requires c).Start) (none (goal.at.turn-requires c).Else-no-ne0) in
+turn-requires c = let r = ready _ _ _ (lent_by (goal.at.turn-requires c).Start) (none (goal.at.turn-requires c).Else-no-ne0) in
     let n = c.args.n in
     ((size_small n (side-of r.0)).1, (r.1, omega (arith, square n (side-of r.0))))
 
 pub search-requires : goal.search-requires
-search-requires c =     let a = c.args in
+search-requires c = let a = c.args in
     let r = ready _ _ _ (lent_by (goal.at.search-requires c).Start) (none (goal.at.search-requires c).Else-no-ne0) in
     (r.0, is_turned a.n a.source.now (replicate 1024 0) r.1 (omega (arith, square a.n (side-of r.0))) c.turn.ensures)

@@ -44,8 +44,8 @@ returns-then-not-lends_enough c = rw (depth (goal.at.returns-then-not-lends_enou
 
 pub returns-then-not-samples_ok : goal.returns-then-not-samples_ok
 unfolding choose_no
-returns-then-not-samples_ok c =     rw (depth (goal.at.returns-then-not-samples_ok c).Else-not-depth_ok, size (goal.at.returns-then-not-samples_ok c).Else-not-size_ok, enough (goal.at.returns-then-not-samples_ok c).Else-not-lends_enough, sym (samples (goal.at.returns-then-not-samples_ok c).After-samples_ok) ∙ c.if-not-samples_ok.true)
+returns-then-not-samples_ok c = rw (depth (goal.at.returns-then-not-samples_ok c).Else-not-depth_ok, size (goal.at.returns-then-not-samples_ok c).Else-not-size_ok, enough (goal.at.returns-then-not-samples_ok c).Else-not-lends_enough, sym (samples (goal.at.returns-then-not-samples_ok c).After-samples_ok) ∙ c.if-not-samples_ok.true)
 
 pub returns : goal.returns
 unfolding choose_no
-returns c =     rw (depth (goal.at.returns c).Else-not-depth_ok, size (goal.at.returns c).Else-not-size_ok, enough (goal.at.returns c).Else-not-lends_enough, sym (samples (goal.at.returns c).After-samples_ok) ∙ c.if-not-samples_ok.false)
+returns c = rw (depth (goal.at.returns c).Else-not-depth_ok, size (goal.at.returns c).Else-not-size_ok, enough (goal.at.returns c).Else-not-lends_enough, sym (samples (goal.at.returns c).After-samples_ok) ∙ c.if-not-samples_ok.false)

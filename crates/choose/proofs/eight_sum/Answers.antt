@@ -13,11 +13,11 @@ last c =
     last_size n c.requires.0 (λ e. let q : n ≡ 4 = e in omega arith) (λ e. let q : n ≡ 8 = e in omega arith) c.in_default.in_default-own.rest.1
 
 pub returns-in-16 : goal.returns-in-16
-returns-in-16 c =     let a = c.args in
+returns-in-16 c = let a = c.args in
     let e = c.run_sum.ensures in
     rw c.in-16.is (e.0 ∙ run_rows 16 a.first a.source.now a.pred.now 8 refl, omega (arith, e.1))
 
 pub returns-in_default : goal.returns-in_default
-returns-in_default c =     let a = c.args in
+returns-in_default c = let a = c.args in
     let e = c.run_sum-in_default.ensures in
     rw (last (goal.at.returns-in_default c).In_default) (e.0 ∙ run_rows 32 a.first a.source.now a.pred.now 8 refl, omega (arith, e.1))

@@ -17,7 +17,7 @@ horizontal c =
     (leb-true 2 m t.0, ltb-true m 18 t.1)
 
 pub returns-then-mode : goal.returns-then-mode
-returns-then-mode c =     let a = c.args in
+returns-then-mode c = let a = c.args in
     let p = c.requires in
     let h = horizontal (goal.at.returns-then-mode c).Then-mode in
     up_to_same _ _ (mirrored_sum a.bits a.n a.mode (from_rows a.corner a.above.now a.left.now) a.source.now a.turned.now

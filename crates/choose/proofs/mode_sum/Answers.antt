@@ -7,7 +7,7 @@ use Rattle.choose.specs.Early.{up_to_same}
 use Rattle.choose.proofs.mode_sum.Goals as goal
 
 pub returns-then-smooths : goal.returns-then-smooths
-returns-then-smooths c =     let a = c.args in
+returns-then-smooths c = let a = c.args in
     let p = c.requires in
     let flag = sym c.smooths.ensures ∙ c.if-smooths.true in
     up_to_same _ _ (sum_smoothed a.bits a.n a.mode (side-of p.0) p.1.0 (from_rows a.corner a.above.now a.left.now)
@@ -15,7 +15,7 @@ returns-then-smooths c =     let a = c.args in
     c.mirrored.ensures
 
 pub returns : goal.returns
-returns c =     let a = c.args in
+returns c = let a = c.args in
     let p = c.requires in
     up_to_same _ _ (sum_as_is a.bits a.n a.mode (side-of p.0) p.1.0 (from_rows a.corner a.above.now a.left.now) a.source.now
     (sym c.smooths.ensures ∙ c.if-smooths.false))

@@ -13,20 +13,20 @@ use Rattle.choose.specs.Sums.{never_smoothed}
 use Rattle.choose.proofs.search.Goals as goal
 
 pub least-requires : goal.least-requires
-least-requires c =     let p = c.requires in (
-      p.0,
-      (
-        p.1,
-        record {
-          above_long = p.0.long.above;
-          left_long = p.0.long.above;
-          smooth = λ m e. absurd (never_smoothed c.args.n m c.if-n-eq4.true e);
-        },
-      ),
-    )
+least-requires c = let p = c.requires in (
+  p.0,
+  (
+    p.1,
+    record {
+      above_long = p.0.long.above;
+      left_long = p.0.long.above;
+      smooth = λ m e. absurd (never_smoothed c.args.n m c.if-n-eq4.true e);
+    },
+  ),
+)
 
 pub least-requires-2 : goal.least-requires-2
-least-requires-2 c =     let p = c.requires in
+least-requires-2 c = let p = c.requires in
     let a = c.args in (
       p.0,
       (

@@ -10,7 +10,7 @@ use Rattle.choose.specs.Sums.{made_sum}
 use Rattle.choose.proofs.tried.Goals as goal
 
 pub returns : goal.returns
-returns c =     let a = c.args in
+returns c = let a = c.args in
     let source = source_at a.n a.source.now in
     let samples = predicted_by_mode a.bits true true a.n a.mode (from_rows a.corner a.above.now a.left.now) in
     c.block_sum.ensures

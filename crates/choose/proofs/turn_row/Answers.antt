@@ -1,6 +1,5 @@
 -- `choose::turn_row` meets its contract. The loop makes a run, one entry a turn. Assumes nothing.
 use mathlib.Core.Path.{refl}
-use Prim.Native.Nat.{◌-◌}
 use Rattle.laws.specs.FillLaws.{run_none, run_more}
 use borrow.Author.Rules.{rules}
 use Rattle.choose.proofs.turn_row.Goals as goal

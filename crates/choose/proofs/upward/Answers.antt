@@ -29,10 +29,10 @@ ended c h =
     none_left c.loop-first.first (ltb s limit) (lt-ltb s limit h) c.loop-first-test.false
 
 pub loop-first-init : goal.loop-first-init
-loop-first-init c =     ((omega arith, by_eights c.requires), (refl, (omega arith, tail_none _ _)))
+loop-first-init c = ((omega arith, by_eights c.requires), (refl, (omega arith, tail_none _ _)))
 
 pub loop-first-preserved : goal.loop-first-preserved
-loop-first-preserved c =     let a = c.args in
+loop-first-preserved c = let a = c.args in
     let u = c.requires in
     let l = c.loop-first in
     let first = l.first - 8 in
@@ -58,7 +58,7 @@ loop-first-preserved c =     let a = c.args in
     )
 
 pub returns : goal.returns
-returns c =     let a = c.args in
+returns c = let a = c.args in
     let u = c.requires in
     let l = c.loop-first in
     let laid = c.vertical_refs.ensures.1 ∙ sym (worked _ _ _ (c.vertical_refs.ensures.0 ∙ refs_serve u)) in

@@ -1,5 +1,4 @@
 -- The blocks one after the other: each mode's figures are raised by those of the blocks passed. Rests on the turns of the loop.
-use Prim.Native.Nat.{◌-◌}
 use borrow.Author.Tests.{eqb-true}
 use borrow.Author.Rules.{rules}
 use Rattle.laws.specs.Choose.{both_true}
@@ -15,17 +14,17 @@ pub loop-k-init : goal.loop-k-init
 loop-k-init c = passing_none c.requires (figured (goal.at.loop-k-init c).After-squares-1)
 
 pub block_squares-more-requires : goal.block_squares-more-requires
-block_squares-more-requires c =     let e = c.requires in
+block_squares-more-requires c = let e = c.requires in
     let f = both_true _ _ e.fits in
     pair_of e c.loop-k.k _ c.block_at-t.ensures c.loop-k-test.true
     (eqb-true _ _ f.0)
     (eqb-true _ _ f.1)
 
 pub add_block-requires : goal.add_block-requires
-add_block-requires c =     turn_fits c.requires (figured (goal.at.add_block-requires c).After-squares-1)
+add_block-requires c = turn_fits c.requires (figured (goal.at.add_block-requires c).After-squares-1)
     c.loop-k.invariant c.loop-k-test.true _ c.block_at-t.ensures _ c.block_squares-more.ensures
 
 pub loop-k-preserved : goal.loop-k-preserved
-loop-k-preserved c =     turn_added c.requires (figured (goal.at.loop-k-preserved c).After-squares-1)
+loop-k-preserved c = turn_added c.requires (figured (goal.at.loop-k-preserved c).After-squares-1)
     c.loop-k.invariant c.loop-k-test.true _ c.block_at-t.ensures _ c.block_squares-more.ensures
     c.add_block.ensures

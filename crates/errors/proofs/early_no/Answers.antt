@@ -9,7 +9,7 @@ use Rattle.errors.specs.Served.{by_top}
 use Rattle.errors.proofs.early_no.Goals as goal
 
 pub returns : goal.returns
-returns c =     let a = c.args in
+returns c = let a = c.args in
     c.pair_no.ensures
     ∙ ap (λ (n : ℕ). pair_no a.r (a.whole && (eqb (length a.a.now) n && eqb (length a.b.now) n))
     (c.samples_ok.result && c.samples_ok-2.result)) c.area-size.ensures

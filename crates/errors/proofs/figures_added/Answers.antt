@@ -1,6 +1,5 @@
 -- The figures one after the other. Assumes nothing.
 use mathlib.Core.Path.{refl}
-use Prim.Native.Nat.{◌-◌}
 use native.Mathlib.Omega.{arith}
 use Rattle.laws.specs.FillLaws.{fill_none, fill_more}
 use Rattle.errors.proofs.figures_added.Goals as goal

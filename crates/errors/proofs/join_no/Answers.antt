@@ -3,7 +3,7 @@ use mathlib.Core.Path.{sym, ◌∙◌}
 use Prim.Native.Nat.{◌+◌}
 use borrow.Author.Tests.{le-leb, lt-leb}
 use Rattle.laws.specs.Choose.{both_same}
-use Rattle.errors.specs.Errors.{same_settings, join_no}
+use Rattle.errors.specs.Errors.{join_no}
 use Rattle.errors.proofs.join_no.Goals as goal
 
 pub returns-then-not-depth_ok : goal.returns-then-not-depth_ok
@@ -19,7 +19,7 @@ returns-then-not-good-same_settings c = rw (
 
 pub returns-then-r-s-gt65536 : goal.returns-then-r-s-gt65536
 unfolding join_no
-returns-then-r-s-gt65536 c =     let a = c.args in
+returns-then-r-s-gt65536 c = let a = c.args in
     rw (
       sym c.depth_ok.ensures ∙ c.if-not-depth_ok.false,
       sym (both_same c.picture_ok-good.ensures c.same_settings.ensures) ∙ c.if-not-good-same_settings.false,
@@ -28,7 +28,7 @@ returns-then-r-s-gt65536 c =     let a = c.args in
 
 pub returns-then-keeps_limits : goal.returns-then-keeps_limits
 unfolding join_no
-returns-then-keeps_limits c =     let a = c.args in
+returns-then-keeps_limits c = let a = c.args in
     rw (
       sym c.depth_ok.ensures ∙ c.if-not-depth_ok.false,
       sym (both_same c.picture_ok-good.ensures c.same_settings.ensures) ∙ c.if-not-good-same_settings.false,
@@ -38,7 +38,7 @@ returns-then-keeps_limits c =     let a = c.args in
 
 pub returns-else-keeps_limits : goal.returns-else-keeps_limits
 unfolding join_no
-returns-else-keeps_limits c =     let a = c.args in
+returns-else-keeps_limits c = let a = c.args in
     rw (
       sym c.depth_ok.ensures ∙ c.if-not-depth_ok.false,
       sym (both_same c.picture_ok-good.ensures c.same_settings.ensures) ∙ c.if-not-good-same_settings.false,

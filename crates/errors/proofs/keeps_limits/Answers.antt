@@ -17,7 +17,7 @@ top-squared c =
 
 pub returns : goal.returns
 unfolding keeps_limits
-returns c =     let r = c.args.r in
+returns c = let r = c.args.r in
     both_same
     (both_same
     (c.at_most.ensures ∙ ap (λ (v : ℕ). at_most (v / 16) r.blocks) (so_far (goal.at.returns c).After-area))

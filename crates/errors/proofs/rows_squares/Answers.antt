@@ -1,6 +1,6 @@
 -- The squares of a block's rows: the loop's sum is the total of the rows passed. Assumes nothing.
 use mathlib.Core.Path.{◌∙◌, ap}
-use Prim.Native.Nat.{ℕ, ◌+◌, ◌-◌, ◌*◌}
+use Prim.Native.Nat.{ℕ, ◌+◌, ◌*◌}
 use native.Mathlib.Nat.{add_assoc}
 use native.Mathlib.Omega.{arith}
 use lib.ListN.{get_or}
@@ -13,7 +13,7 @@ pub loop-r-init : goal.loop-r-init
 loop-r-init c = (omega arith, (omega arith, total_none _))
 
 pub loop-r-preserved : goal.loop-r-preserved
-loop-r-preserved c =     let a = c.args in
+loop-r-preserved c = let a = c.args in
     let p = c.requires in
     let l = c.loop-r in
     let row : ℕ = (a.t.row + l.r) * a.width in
@@ -27,7 +27,7 @@ loop-r-preserved c =     let a = c.args in
     )
 
 pub returns : goal.returns
-returns c =     let a = c.args in
+returns c = let a = c.args in
     let p = c.requires in
     let l = c.loop-r in
     let rows : (ℕ → ℕ → ℕ) = λ n k. total (λ y. total (λ x. error_at a.a.now a.b.now a.width (a.t.row + y) (a.t.col + x)) n) k in

@@ -11,12 +11,12 @@ returns-then-early-ne0 c = sym (rw (ne_eqb c.args.early 0 c.if-early-ne0.true))
 
 pub returns-then-found-ne0 : goal.returns-then-found-ne0
 unfolding settle_full
-returns-then-found-ne0 c =     let a = c.args in
+returns-then-found-ne0 c = let a = c.args in
     sym (rw (eq-eqb a.early 0 c.if-early-ne0.false, ne_eqb a.found.no 0 c.if-found-ne0.true))
 
 pub returns-then-r-ge65536 : goal.returns-then-r-ge65536
 unfolding settle_full
-returns-then-r-ge65536 c =     let a = c.args in
+returns-then-r-ge65536 c = let a = c.args in
     sym (rw (
       eq-eqb a.early 0 c.if-early-ne0.false,
       eq-eqb a.found.no 0 c.if-found-ne0.false,
@@ -25,7 +25,7 @@ returns-then-r-ge65536 c =     let a = c.args in
 
 pub returns-then-keeps_limits : goal.returns-then-keeps_limits
 unfolding settle_full
-returns-then-keeps_limits c =     let a = c.args in
+returns-then-keeps_limits c = let a = c.args in
     sym (rw (
       eq-eqb a.early 0 c.if-early-ne0.false,
       eq-eqb a.found.no 0 c.if-found-ne0.false,
@@ -35,7 +35,7 @@ returns-then-keeps_limits c =     let a = c.args in
 
 pub returns-else-keeps_limits : goal.returns-else-keeps_limits
 unfolding settle_full
-returns-else-keeps_limits c =     let a = c.args in
+returns-else-keeps_limits c = let a = c.args in
     sym (rw (
       eq-eqb a.early 0 c.if-early-ne0.false,
       eq-eqb a.found.no 0 c.if-found-ne0.false,

@@ -5,4 +5,4 @@ use Rattle.errors.specs.Served.{opened}
 use Rattle.errors.proofs.start_count.Goals as goal
 
 pub settled-v-requires : goal.settled-v-requires
-settled-v-requires c z =     let o = opened _ _ _ (sym c.early_no-early.ensures ∙ z) in (o.depth, picture_good _ o.picture)
+settled-v-requires c z = let o = opened _ _ _ (sym c.early_no-early.ensures ∙ z) in (o.depth, picture_good _ o.picture)

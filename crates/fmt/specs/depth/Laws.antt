@@ -6,9 +6,8 @@ use Rattle.domain.specs.Domain.{depth_ok}
 use Rattle.domain.specs.Facts.{Depth as IsDepth, at_depth}
 use Rattle.fmt.specs.declared.depth.BitDepth.{BitDepth}
 use Rattle.fmt.specs.declared.depth.BitDepth.TheVariants.{Eight, Ten, Twelve}
-use Rattle.fmt.specs.declared.depth.DepthFrom.{DepthFrom}
 use Rattle.fmt.specs.declared.depth.DepthFrom.TheVariants.{Depth, Refused}
-use Rattle.fmt.specs.depth.Depth.{bits_of, max_val, neutral, depth_from, figure_in, largest_of, neutral_of}
+use Rattle.fmt.specs.depth.Depth.{bits_of, max_val, neutral, figure_in, largest_of, neutral_of}
 
 pub max_val_is : (d : BitDepth) → max_val d ≡ 2 ^ bits_of d - 1
 max_val_is Eight = refl

@@ -1,5 +1,4 @@
 -- `listing::same_run` meets its contract: the entries passed are the line's.
-use Prim.Native.Nat.{◌-◌}
 use native.Mathlib.Omega.{arith}
 use Rattle.listing.specs.Laws.{same_none, same_more}
 use Rattle.listing.proofs.same_run.Goals as goal

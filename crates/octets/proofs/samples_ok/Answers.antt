@@ -1,6 +1,6 @@
 -- The loop's flag says whether the samples passed are in range. Assumes nothing.
 use mathlib.Core.Path.{ap}
-use Prim.Native.Nat.{ℕ, ◌-◌}
+use Prim.Native.Nat.{ℕ}
 use native.Mathlib.Omega.{arith}
 use lib.Dec.{leb}
 use Rattle.laws.specs.Every.{pass_none, pass_more, pass_done}
@@ -15,7 +15,7 @@ pub loop-i-smaller : goal.loop-i-smaller
 loop-i-smaller c = omega (arith, length_samples c.args.plane.now)
 
 pub loop-i-preserved : goal.loop-i-preserved
-loop-i-preserved c =     let a = c.args in
+loop-i-preserved c = let a = c.args in
     let l = c.loop-i in (
       omega (arith, length_samples a.plane.now),
       pass_more (λ (v : ℕ). leb v a.largest) 0 (samples_of a.plane.now) l.i l.invariant.1
@@ -23,7 +23,7 @@ loop-i-preserved c =     let a = c.args in
     )
 
 pub returns : goal.returns
-returns c =     let a = c.args in
+returns c = let a = c.args in
     let l = c.loop-i in
     pass_done (λ (v : ℕ). leb v a.largest) 0 (samples_of a.plane.now) l.i l.invariant.0
     (omega (arith, length_samples a.plane.now, c.loop-i-test.false)) l.invariant.1

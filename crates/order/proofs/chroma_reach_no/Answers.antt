@@ -17,12 +17,12 @@ returns-then-not-picture_ok-has_chroma c = if_yes (size_ok c.args.b.n) _ 2 4 (sy
 
 pub returns-then-not-chroma_block_ok-current_ok : goal.returns-then-not-chroma_block_ok-current_ok
 unfolding chroma_reach_no
-returns-then-not-chroma_block_ok-current_ok c =     if_yes (size_ok c.args.b.n) _ 2 6 (sym c.size_ok.ensures ∙ c.if-not-size_ok.false)
+returns-then-not-chroma_block_ok-current_ok c = if_yes (size_ok c.args.b.n) _ 2 6 (sym c.size_ok.ensures ∙ c.if-not-size_ok.false)
     (if_yes (picture_ok c.args.b.picture && has_chroma c.args.b.format) _ 4 6 (sym (both_same c.picture_ok.ensures c.has_chroma.ensures) ∙ c.if-not-picture_ok-has_chroma.false)
     (if_no (chroma_place_ok c.args.b) 0 6 6 (sym (both_same c.chroma_block_ok.ensures c.current_ok.ensures) ∙ c.if-not-chroma_block_ok-current_ok.true) refl))
 
 pub returns : goal.returns
 unfolding chroma_reach_no
-returns c =     if_yes (size_ok c.args.b.n) _ 2 0 (sym c.size_ok.ensures ∙ c.if-not-size_ok.false)
+returns c = if_yes (size_ok c.args.b.n) _ 2 0 (sym c.size_ok.ensures ∙ c.if-not-size_ok.false)
     (if_yes (picture_ok c.args.b.picture && has_chroma c.args.b.format) _ 4 0 (sym (both_same c.picture_ok.ensures c.has_chroma.ensures) ∙ c.if-not-picture_ok-has_chroma.false)
     (if_yes (chroma_place_ok c.args.b) 0 6 0 (sym (both_same c.chroma_block_ok.ensures c.current_ok.ensures) ∙ c.if-not-chroma_block_ok-current_ok.false) refl))

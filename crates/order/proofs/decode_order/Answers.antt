@@ -14,11 +14,11 @@ pub shifts_of-s-requires : goal.shifts_of-s-requires
 shifts_of-s-requires c = (good_of _ _ _ (sym c.order_no-no.ensures ∙ c.if-no-ne0.false)).0
 
 pub number-value-requires : goal.number-value-requires
-number-value-requires c =     let g = good_of _ _ _ (sym c.order_no-no.ensures ∙ c.if-no-ne0.false) in
+number-value-requires c = let g = good_of _ _ _ (sym c.order_no-no.ensures ∙ c.if-no-ne0.false) in
     (small_of g.0 _ c.shifts_of-s.ensures, omega (arith, g.0.tall.high), omega (arith, g.0.wide.high))
 
 pub overflow_cast-result : goal.overflow_cast-result
-overflow_cast-result c =     let g = good_of _ _ _ (sym c.order_no-no.ensures ∙ c.if-no-ne0.false) in
+overflow_cast-result c = let g = good_of _ _ _ (sym c.order_no-no.ensures ∙ c.if-no-ne0.false) in
     record { fits = omega (arith, number_of c.args.picture _ _ c.args.r.0 c.args.c.0 c.shifts_of-s.ensures c.number-value.ensures, number_small g.0 g.1.0 g.1.1) }
 
 pub returns : goal.returns

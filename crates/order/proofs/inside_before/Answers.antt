@@ -14,12 +14,12 @@ unfolding before
 returns-then-not-inside c = rw (sym c.inside.ensures ∙ c.if-not-inside.true)
 
 pub number-requires : goal.number-requires
-number-requires c =     let a = c.args in
+number-requires c = let a = c.args in
     let g = c.requires in
     let h = both_true (ltb a.row a.p.height) (ltb a.col a.p.width) (sym c.inside.ensures ∙ c.if-not-inside.false) in
     (small_of g _ c.shifts_of.ensures, omega (arith, g.tall.high, ltb-true a.row a.p.height h.0), omega (arith, g.wide.high, ltb-true a.col a.p.width h.1))
 
 pub returns : goal.returns
 unfolding before
-returns c =     let a = c.args in
+returns c = let a = c.args in
     rw (sym c.inside.ensures ∙ c.if-not-inside.false) (ap (λ (v : ℕ). ltb v a.limit) (number_of a.p _ _ a.row a.col c.shifts_of.ensures c.number.ensures))

@@ -17,14 +17,14 @@ pub shifts_of-requires : goal.shifts_of-requires
 shifts_of-requires c = (good_of _ _ _ (sym c.order_no-no.ensures ∙ c.if-no-ne0.false)).0
 
 pub number-cur-requires : goal.number-cur-requires
-number-cur-requires c =     let g = good_of _ _ _ (sym c.order_no-no.ensures ∙ c.if-no-ne0.false) in
+number-cur-requires c = let g = good_of _ _ _ (sym c.order_no-no.ensures ∙ c.if-no-ne0.false) in
     (small_of g.0 _ c.shifts_of.ensures, omega (arith, g.0.tall.high), omega (arith, g.0.wide.high))
 
 pub comes_before-requires : goal.comes_before-requires
 comes_before-requires c = (good_of _ _ _ (sym c.order_no-no.ensures ∙ c.if-no-ne0.false)).0
 
 pub returns : goal.returns
-returns c =     let a = c.args in
+returns c = let a = c.args in
     avail_is a.picture a.neighbour a.block_row a.block_col _ _ _ _ (sym c.order_no-no.ensures ∙ c.if-no-ne0.false)
     (number_of c.args.picture _ _ c.args.block_row.0 c.args.block_col.0 c.shifts_of.ensures c.number-cur.ensures)
     (to_z-of_z w64 a.neighbour.row (record { sfits = c.struct_told-1.given.0.1 }))

@@ -1,6 +1,6 @@
 -- `order::leads` meets its contract: all samples before i hold, a group more each turn.
 use mathlib.Core.Path.{sym, ap, ◌∙◌}
-use Prim.Native.Nat.{ℕ, ◌-◌}
+use Prim.Native.Nat.{ℕ}
 use lib.Dec.{ltb}
 use borrow.Author.Tests.{lt-ltb, le-ltb}
 use Rattle.order.specs.Walk.{walked_more, walk_stops, walk_ends}

@@ -22,7 +22,7 @@ returns-in-32 c = rw c.in-32.is
 
 pub returns-in_default : goal.returns-in_default
 unfolding halvings
-returns-in_default c =     let x = c.args.side in
+returns-in_default c = let x = c.args.side in
     let r = c.in_default.in_default-own.rest in
     let e : x ≡ 64 = ⊎_elim (λ h. ⊎_elim (λ k. absurd (r.0.1 k)) (λ k. ⊎_elim (λ l. absurd (r.1 l)) (λ l. l) k) h) (λ h. ⊎_elim (λ k. absurd (r.0.0.0.1 k)) (λ k. absurd (r.0.0.1 k)) h) c.requires in
     rw e

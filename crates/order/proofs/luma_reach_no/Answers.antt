@@ -16,12 +16,12 @@ returns-then-not-picture_ok c = if_yes (size_ok c.args.b.n) _ 2 4 (sym c.size_ok
 
 pub returns-then-not-placed-n : goal.returns-then-not-placed-n
 unfolding luma_reach_no
-returns-then-not-placed-n c =     if_yes (size_ok c.args.b.n) _ 2 6 (sym c.size_ok.ensures ∙ c.if-not-size_ok.false)
+returns-then-not-placed-n c = if_yes (size_ok c.args.b.n) _ 2 6 (sym c.size_ok.ensures ∙ c.if-not-size_ok.false)
     (if_yes (picture_ok c.args.b.picture) _ 4 6 (sym c.picture_ok.ensures ∙ c.if-not-picture_ok.false)
     (if_no (luma_place_ok c.args.b) 0 6 6 (sym (both_same (both_same (both_same c.in_plane-placed.ensures refl) c.unit_ok.ensures) refl) ∙ c.if-not-placed-n.true) refl))
 
 pub returns : goal.returns
 unfolding luma_reach_no
-returns c =     if_yes (size_ok c.args.b.n) _ 2 0 (sym c.size_ok.ensures ∙ c.if-not-size_ok.false)
+returns c = if_yes (size_ok c.args.b.n) _ 2 0 (sym c.size_ok.ensures ∙ c.if-not-size_ok.false)
     (if_yes (picture_ok c.args.b.picture) _ 4 0 (sym c.picture_ok.ensures ∙ c.if-not-picture_ok.false)
     (if_yes (luma_place_ok c.args.b) 0 6 0 (sym (both_same (both_same (both_same c.in_plane-placed.ensures refl) c.unit_ok.ensures) refl) ∙ c.if-not-placed-n.false) refl))

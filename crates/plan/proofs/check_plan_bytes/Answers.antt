@@ -1,6 +1,5 @@
 -- `plan::check_plan_bytes` meets its contract: each turn is a step of the check. Rests on `check_step`.
 use mathlib.Core.Path.{◌∙◌, sym, subst}
-use Prim.Native.Nat.{◌-◌}
 use borrow.Author.Rules.{rules}
 use Rattle.plan.specs.verdict.Standing.{Standing, standing_none, standing_more, standing_end}
 use Rattle.plan.proofs.check_plan_bytes.Goals as goal

@@ -1,6 +1,5 @@
 -- `plan::check_plan_numbers` meets its contract: each turn is a step of the check. Rests on `check_step`.
 use mathlib.Core.Path.{◌∙◌, sym, ap, subst}
-use Prim.Native.Nat.{◌-◌}
 use borrow.Author.Rules.{rules}
 use Rattle.plan.specs.verdict.Standing.{check_start, Standing, standing_none, standing_more, standing_end}
 use Rattle.plan.proofs.check_plan_numbers.Goals as goal

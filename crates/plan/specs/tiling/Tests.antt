@@ -2,7 +2,7 @@
 use Rattle.std.specs.Prelude.{◌≡◌, refl, Bool, true, false, ℕ, ◌+◌, ◌%◌, ◌≤◌, ◌<◌, leb, eqb}
 use Rattle.std.proofs.Common.{sym, ap, ◌∙◌, true≢false, inl, ⊎_elim, leb-true, leb-false, eqb-true, le-leb, eq-eqb}
 use Rattle.std.proofs.Math.Bool.{cond}
-use Rattle.std.proofs.lemmas.Bool.{eqb-false, lt-leb}
+use Rattle.std.proofs.lemmas.Bool.{eqb-false}
 use Rattle.laws.specs.Choose.{both_true, if_yes, if_no}
 use Rattle.domain.specs.Domain.{size_ok, mode_ok, side_ok, ctu_ok}
 use Rattle.domain.specs.Facts.{Size, Side, Ctu, size_of, at_size}

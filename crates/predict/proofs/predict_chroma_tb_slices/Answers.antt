@@ -18,7 +18,7 @@ pub by_mode-requires : goal.by_mode-requires
 by_mode-requires c = given _ _ _ (lent_by (goal.at.by_mode-requires c).Start) (sym c.predict_no-no.ensures ∙ c.if-no-eq0.true)
 
 pub returns-then-no-eq0 : goal.returns-then-no-eq0
-returns-then-no-eq0 c =     let a = c.args in
+returns-then-no-eq0 c = let a = c.args in
     let z = c.if-no-eq0.true in
     let g = given a.bits a.n a.mode (lent_by (goal.at.returns-then-no-eq0 c).Start) (sym c.predict_no-no.ensures ∙ z) in
     (c.predict_no-no.ensures, (c.by_mode.ensures ∙ chroma-block a.bits a.n a.mode (side g.block) a.pred.now (from_rows a.corner a.above.now a.left.now) ∙ worked _ _ _ z, λ q. absurd (q z)))

@@ -23,7 +23,7 @@ lent_by s =
     lengths 65 65 (length a.pred.now) (length a.refs.now) (length a.indices.now) (length a.fractions.now)
 
 pub by_mode-requires : goal.by_mode-requires
-by_mode-requires c =     let g = given _ _ _ (lent_by (goal.at.by_mode-requires c).Start) (sym c.predict_no-no.ensures ∙ c.if-no-eq0.true) in
+by_mode-requires c = let g = given _ _ _ (lent_by (goal.at.by_mode-requires c).Start) (sym c.predict_no-no.ensures ∙ c.if-no-eq0.true) in
     let used = c.prepared_rows-used.result in
     let up : length used.above ≡ 65 = search rules in
     let down : length used.left ≡ 65 = search rules in
@@ -31,7 +31,7 @@ by_mode-requires c =     let g = given _ _ _ (lent_by (goal.at.by_mode-requires 
     record { block = g.block; above_long = omega arith; left_long = omega arith; room = g.room; refs_long = g.refs_long }
 
 pub returns-then-no-eq0 : goal.returns-then-no-eq0
-returns-then-no-eq0 c =     let a = c.args in
+returns-then-no-eq0 c = let a = c.args in
     let z = c.if-no-eq0.true in
     let g = given a.bits a.n a.mode (lent_by (goal.at.returns-then-no-eq0 c).Start) (sym c.predict_no-no.ensures ∙ z) in (
       c.predict_no-no.ensures,

@@ -13,7 +13,7 @@ use Rattle.laws.specs.Choose.{passed, both_true}
 use Rattle.laws.specs.Diff.{order}
 use Rattle.domain.specs.Domain.{size_ok, mode_ok, predictor_row}
 use Rattle.domain.specs.Facts.{Size, size_of, size_small}
-use Rattle.h265.specs.Notation.{Neighbours, from_rows}
+use Rattle.h265.specs.Notation.{from_rows}
 use Rattle.h265.specs.Angular.{angular}
 use Rattle.predict.specs.refusals.Refusals.{refs_no, rows_no}
 use Rattle.predict.specs.angular.Unsigned.{angles, inverses, ref_at, vertical_at, angular_at}

@@ -2,12 +2,11 @@
 use Rattle.std.specs.Prelude.{◌≡◌, refl, List, ℕ, ◌≤◌}
 use Rattle.std.proofs.Common.{sym, ap, ◌∙◌, arith}
 use Rattle.laws.specs.Least.{FirstLeast}
-use Rattle.h265.specs.Notation.{Neighbours, from_rows}
+use Rattle.h265.specs.Notation.{Neighbours}
 use Rattle.h265.specs.Setting.{luma_at, first_edition_strong}
 use Rattle.h265.specs.Prediction.{predicted}
 use Rattle.h265.specs.Mean.{Agree}
 use Rattle.domain.specs.Facts.{Size}
-use Rattle.domain.specs.declared.rows.Gathered.{Gathered}
 use Rattle.refs.specs.declared.LumaRefGeometry.{LumaRefGeometry}
 use Rattle.predict.specs.modes.Modes.{pred_alone}
 use Rattle.choose.specs.Choose.{differences, source_at, mode_sum, Chooses}

@@ -5,7 +5,7 @@ use Rattle.std.proofs.Common.{◌∙◌, subst, arith, SFits, eq-eqb, le-leb, le
 use mathlib.Core.List.{List, [], ◌∷◌, map}
 use Rattle.std.proofs.Math.Decide.{ℕ_discrete}
 use Rattle.std.specs.Int.{w32}
-use Rattle.laws.specs.Choose.{served, passed, worked, unserved, both_same, both_true}
+use Rattle.laws.specs.Choose.{passed, worked, unserved, both_same, both_true}
 use Rattle.laws.specs.Every.{every}
 use Rattle.octets.specs.Bytes.{samples_of, bytes_of, residuals_of}
 use Rattle.octets.specs.Laws.{length_samples, length_bytes, bytes_back}

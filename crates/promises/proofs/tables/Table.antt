@@ -5,7 +5,7 @@ use Rattle.refs.specs.declared.LumaRefGeometry.{LumaRefGeometry}
 use Rattle.refs.specs.Door.{luma_block, luma_number, luma_length, luma_no, get_reference_samples}
 use Rattle.camera.specs.gather.Door.{luma_bytes_no, luma_bytes_door}
 use Rattle.predict.specs.refusals.Refusals.{Lengths, is_enough, angular_no, predict_no}
-use Rattle.promises.specs.tables.Exact.{◌or◌, Exact, Tells, exact_none, exact_row}
+use Rattle.promises.specs.tables.Exact.{Exact, Tells, exact_none, exact_row}
 use Rattle.promises.specs.tables.Exact.{same}
 use Rattle.promises.specs.tables.Table.{Short, depth, size, picture, scratch, luma-place, luma_table, angular_table, predict_table, angular_number, predict_number, rows_short}
 

@@ -28,7 +28,7 @@ use Rattle.walk.specs.block.Stored.{stored_length}
 use Rattle.walk.specs.lossless.Picture.{Whole}
 use Rattle.walk.specs.lossless.Replay.{units_kept}
 use Rattle.promises.specs.demand3.Calls.{Task, Ask, Roomy, Held, blocks, count, walk_verdict_at, walk_call, replay_verdict_at, replay_call}
-use Rattle.promises.specs.demand3.Chains.{next, Steps}
+use Rattle.promises.specs.demand3.Chains.{Steps}
 
 -- the verdict, where the checks before the blocks, the plan's and the record's all hold
 module _ (s : Still) (plan : Plan) where

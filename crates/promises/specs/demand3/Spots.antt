@@ -1,6 +1,6 @@
 -- Samples and residuals named by their block: where sample (r, c) of block i lies, and which block a residual belongs to. Rests on what a
 -- good plan is.
-use Rattle.std.specs.Prelude.{◌≡◌, refl, List, [], ◌∷◌, ℤ, pos, nat_abs, ◌-ℤ◌, length, get_or}
+use Rattle.std.specs.Prelude.{◌≡◌, List, ℤ, pos, nat_abs, ◌-ℤ◌, length, get_or}
 use Rattle.std.proofs.Common.{sym, ap, ap₂, ◌∙◌, ⊎_elim, mod-lt, div-add-mod', div-lt_iff_lt-mul, ext_get_or}
 use Prim.Native.Nat.{ℕ, zero, suc, ◌+◌, ◌-◌, ◌*◌, ◌/◌, ◌%◌, ◌≤◌, ◌<◌}
 use native.Mathlib.Omega.{arith}

@@ -1,6 +1,6 @@
 -- Document 02, Wish 1: the table of numbers at the chooser and at its entry for C, where number 5 counts bytes. Rests on Exact and on the
 -- doors' tables.  choose::choose_mode   choose_mode   salvrunde_choose   choose
-use Rattle.std.specs.Prelude.{◌≡◌, refl, List, [], ◌∷◌, ℕ, ◌-◌, ◌*◌, ◌^◌, ◌<◌, length, take}
+use Rattle.std.specs.Prelude.{refl, List, [], ◌∷◌, ℕ, ◌-◌, ◌*◌, ◌^◌, ◌<◌, length, take}
 use Rattle.domain.specs.Facts.{Depth, Size}
 use Rattle.predict.specs.refusals.Refusals.{Lengths}
 use Rattle.choose.specs.Choose.{lends_enough, choose_no}

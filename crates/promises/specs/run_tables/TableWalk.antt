@@ -5,7 +5,7 @@
 -- plan::check_plan_numbers                         check_plan_numbers plan::check_plan_bytes
 -- check_plan_bytes checks::opening_no, checks::settled              opening, settled Progress::walk, Progress::walk_numbers
 -- walk Progress::replay, Progress::replay_numbers       replay
-use Rattle.std.specs.Prelude.{◌≡◌, Bool, true, List, [], ◌∷◌, ◌⊎◌, ℕ, zero, suc, ◌*◌, ◌<◌, leb, eqb, ℤ, pos, nat_abs, length, get_or}
+use Rattle.std.specs.Prelude.{◌≡◌, Bool, true, List, [], ◌∷◌, ℕ, zero, suc, ◌*◌, ◌<◌, leb, eqb, ℤ, pos, nat_abs, length, get_or}
 use Rattle.std.proofs.Math.Path.{refl}
 use Rattle.std.proofs.Common.{sym, ◌∙◌, true≢false, inl, inr, ⊎_elim, not-suc-le-zero, le_of_suc-le-suc, arith}
 use Rattle.std.proofs.Math.Bool.{cond}

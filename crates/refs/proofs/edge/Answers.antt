@@ -1,6 +1,5 @@
 -- The entries of an edge that are there. Assumes nothing.
 use mathlib.Core.Path.{refl}
-use Prim.Native.Nat.{◌-◌}
 use native.Mathlib.Omega.{arith}
 use borrow.Author.Rules.{rules}
 use Rattle.laws.specs.FillLaws.{fill_none, fill_more}

@@ -14,7 +14,7 @@ use Rattle.refs.proofs.get_reference_samples_chroma_pair.Goals as goal
 
 pub returns-then-no-ne0 : goal.returns-then-no-ne0
 unfolding get_reference_samples_chroma_pair chroma_no
-returns-then-no-ne0 c =     let a = c.args in
+returns-then-no-ne0 c = let a = c.args in
     let e = c.chroma_layout-l.ensures in
     let cb = a.plane_cb.now in
     let cr = a.plane_cr.now in
@@ -23,7 +23,7 @@ returns-then-no-ne0 c =     let a = c.args in
 
 pub chroma_pair-requires : goal.chroma_pair-requires
 unfolding chroma_no
-chroma_pair-requires c =     let a = c.args in
+chroma_pair-requires c = let a = c.args in
     let e = c.chroma_layout-l.ensures in
     let cb = a.plane_cb.now in
     let cr = a.plane_cr.now in
@@ -32,7 +32,7 @@ chroma_pair-requires c =     let a = c.args in
 
 pub returns : goal.returns
 unfolding get_reference_samples_chroma_pair chroma_no
-returns c =     let a = c.args in
+returns c = let a = c.args in
     let e = c.chroma_layout-l.ensures in
     let cb = a.plane_cb.now in
     let cr = a.plane_cr.now in

@@ -1,6 +1,5 @@
 -- The entries that are not there take one value. Assumes nothing.
 use mathlib.Core.Path.{refl}
-use Prim.Native.Nat.{◌-◌}
 use native.Mathlib.Omega.{arith}
 use borrow.Author.Rules.{rules}
 use Rattle.laws.specs.FillLaws.{run_none, run_more}

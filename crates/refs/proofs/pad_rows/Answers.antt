@@ -6,7 +6,7 @@ use Rattle.refs.proofs.pad_rows.Goals as goal
 
 pub returns : goal.returns
 unfolding pad_rows
-returns c =     let a = c.args in
+returns c = let a = c.args in
     let long : length a.two.now ≡ 2 = c.requires.1 in
     two_set a.two.now _ _ _ long
     ∙ from_parts (pad_rows a.r (with_corner a.seen a.two.now) a.n)

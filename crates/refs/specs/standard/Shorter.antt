@@ -1,7 +1,7 @@
 -- A line of places against the shorter line without its first and its last place, by the search and the filling of H.265 8.4.4.2.2.
 -- Where an end place is marked only if the place next to it is, both lines settle to the same values on the places that they share,
 -- and the value of a place that is not marked is never looked at. Assumes nothing.
-use Rattle.std.specs.Prelude.{◌≡◌, refl, Bool, true, cond, ◌⊎◌, ltb}
+use Rattle.std.specs.Prelude.{◌≡◌, refl, Bool, true, cond, ltb}
 use Rattle.std.proofs.Math.Path.{sym}
 use Rattle.std.proofs.Common.{ap, ◌∙◌, arith, lt-ltb, le-ltb}
 use Rattle.std.proofs.Math.Bool.{false}

@@ -1,6 +1,6 @@
 -- Document 01, module 3: substitution over a line of entries 0 to 2n of both rows. The first entry that is there and the filling are
 -- those of H.265 8.4.4.2.2, over two places more. Assumes nothing.
-use Rattle.std.specs.Prelude.{ℕ, ◌+◌, ◌-◌, ◌*◌, Bool, false, cond, leb, ltb, eqb, get_or, replicate}
+use Rattle.std.specs.Prelude.{ℕ, ◌+◌, ◌-◌, ◌*◌, Bool, false, cond, leb, ltb, eqb, get_or}
 use Rattle.domain.specs.rows.Neighbours.{level_rows}
 use Rattle.laws.specs.Fill.{fill}
 use Rattle.h265.specs.Substitution.{first_marked, settled}

@@ -17,5 +17,5 @@ residuals-requires c = let a = c.args in runs_fit a.n (length a.orig.now) (lengt
 
 pub returns : goal.returns
 unfolding residuals_after
-returns c =     let z = sym c.residual_no-no.ensures ∙ c.if-no-ne0.false in
+returns c = let z = sym c.residual_no-no.ensures ∙ c.if-no-ne0.false in
     (sym z, (rw c.runs_of.ensures.0 at c.residuals.ensures) ∙ worked _ _ _ z)

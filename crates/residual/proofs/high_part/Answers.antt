@@ -5,5 +5,5 @@ use Rattle.residual.proofs.high_part.Goals as goal
 
 pub returns : goal.returns
 unfolding high_part
-returns c =     let u = rw (to_z-of_z {w = w32} c.ranges.r) at c.raised.ensures in
+returns c = let u = rw (to_z-of_z {w = w32} c.ranges.r) at c.raised.ensures in
     rw (c.wrapping_add_u32.ensures.value, u)

@@ -1,6 +1,6 @@
 -- `residual::high_parts` meets its contract. The loop's invariant: as long as nothing is found, the residuals passed are in range.
 -- Assumes nothing.
-use Rattle.std.proofs.Common.{◌-◌, get_or, pos, sym, ◌∙◌, rules}
+use Rattle.std.proofs.Common.{get_or, pos, sym, ◌∙◌, rules}
 use Rattle.laws.specs.Signed.{held}
 use Rattle.residual.specs.Narrow.{narrow_in_range}
 use Rattle.residual.specs.Laws.{none_in, one_more, both_none}
@@ -10,7 +10,7 @@ pub loop-i-init : goal.loop-i-init
 loop-i-init c = (search rules, λ e. sym (none_in _))
 
 pub loop-i-preserved : goal.loop-i-preserved
-loop-i-preserved c =     let l = c.loop-i in
+loop-i-preserved c = let l = c.loop-i in
     let rs = c.args.residual.now in (
       search rules,
       λ e.

@@ -1,5 +1,5 @@
 -- `residual::rebuilt_run` meets its contract. The loop's invariant: the entries passed are the rebuilt samples. Assumes nothing.
-use Rattle.std.proofs.Common.{◌+◌, ◌-◌, ◌≤◌, get_or, pos, nat_abs, arith, rules}
+use Rattle.std.proofs.Common.{◌+◌, ◌≤◌, get_or, pos, nat_abs, arith, rules}
 use Rattle.laws.specs.FillLaws.{fill_none, fill_more}
 use Rattle.laws.specs.Signed.{small_back}
 use Rattle.residual.proofs.rebuilt_run.Goals as goal

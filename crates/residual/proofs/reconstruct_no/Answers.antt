@@ -11,7 +11,7 @@ returns-then-not-depth_ok c = rw (sym c.depth_ok.ensures ∙ c.if-not-depth_ok.t
 
 pub returns-then-no-ne0 : goal.returns-then-no-ne0
 unfolding reconstruct_no
-returns-then-no-ne0 c =     let a = c.args in
+returns-then-no-ne0 c = let a = c.args in
     let more = (8 unless all_in_range a.residual.now (a.n * a.n)) ∷ [] in
     let len = length a.residual.now in
     let e = c.residual_no-no.ensures in
@@ -21,13 +21,13 @@ pub runs_of-requires : goal.runs_of-requires
 runs_of-requires c = size_fits _ _ _ _ (sym c.residual_no-no.ensures ∙ c.if-no-ne0.false)
 
 pub runs_in_range-requires : goal.runs_in_range-requires
-runs_in_range-requires c =     let a = c.args in
+runs_in_range-requires c = let a = c.args in
     let f = runs_fit a.n a.pred (length a.residual.now) a.out (sym c.residual_no-no.ensures ∙ c.if-no-ne0.false) c.runs_of.result c.runs_of.ensures.0 c.runs_of.ensures.1 in
     (f.second, f.few)
 
 pub returns-then-not-runs_in_range : goal.returns-then-not-runs_in_range
 unfolding reconstruct_no
-returns-then-not-runs_in_range c =     let a = c.args in
+returns-then-not-runs_in_range c = let a = c.args in
     let more = (8 unless all_in_range a.residual.now (a.n * a.n)) ∷ [] in
     let len = length a.residual.now in
     let z = sym c.residual_no-no.ensures ∙ c.if-no-ne0.false in
@@ -36,7 +36,7 @@ returns-then-not-runs_in_range c =     let a = c.args in
 
 pub returns : goal.returns
 unfolding reconstruct_no
-returns c =     let a = c.args in
+returns c = let a = c.args in
     let more = (8 unless all_in_range a.residual.now (a.n * a.n)) ∷ [] in
     let len = length a.residual.now in
     let z = sym c.residual_no-no.ensures ∙ c.if-no-ne0.false in

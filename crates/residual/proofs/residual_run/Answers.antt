@@ -1,5 +1,5 @@
 -- `residual::residual_run` meets its contract. The loop's invariant: the entries passed are the differences. Assumes nothing.
-use Rattle.std.proofs.Common.{◌-◌, ◌∙◌, rules}
+use Rattle.std.proofs.Common.{◌∙◌, rules}
 use Rattle.laws.specs.Signed.{held}
 use Rattle.laws.specs.FillLaws.{fill_none, fill_more}
 use Rattle.residual.proofs.residual_run.Goals as goal

@@ -1,5 +1,5 @@
 -- `residual::store_residuals` meets its contract. The loop's invariant: the entries passed are stored. Assumes nothing.
-use Rattle.std.proofs.Common.{◌-◌, rules}
+use Rattle.std.proofs.Common.{rules}
 use Rattle.laws.specs.Signed.{held}
 use Rattle.laws.specs.FillLaws.{run_none, run_more}
 use Rattle.residual.proofs.store_residuals.Goals as goal

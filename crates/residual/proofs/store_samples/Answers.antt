@@ -1,5 +1,5 @@
 -- `residual::store_samples` meets its contract. The loop's invariant: the entries passed are stored. Assumes nothing.
-use Rattle.std.proofs.Common.{◌-◌, refl, rules}
+use Rattle.std.proofs.Common.{refl, rules}
 use Rattle.laws.specs.FillLaws.{run_none, run_more}
 use Rattle.residual.proofs.store_samples.Goals as goal
 

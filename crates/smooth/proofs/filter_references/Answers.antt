@@ -6,7 +6,7 @@ use Rattle.smooth.specs.Steps.{filter_served}
 use Rattle.smooth.proofs.filter_references.Goals as goal
 
 pub returns-then-no-eq0 : goal.returns-then-no-eq0
-returns-then-no-eq0 c =     let a = c.args in
+returns-then-no-eq0 c = let a = c.args in
     filter_served a.n a.corner a.above.now a.left.now (sym c.filter_no-no.ensures ∙ c.if-no-eq0.true) c.weak_row-a.ensures c.weak_row-l.ensures
 
 pub returns : goal.returns

@@ -9,5 +9,5 @@ use Rattle.smooth.proofs.is_strong.Goals as goal
 
 pub returns : goal.returns
 unfolding bi_int_flag
-returns c =     let e : depth_ok c.args.bits ≡ true = at_depth (λ (k : ℕ). depth_ok k ≡ true) refl refl refl c.args.bits c.requires.0 in
+returns c = let e : depth_ok c.args.bits ≡ true = at_depth (λ (k : ℕ). depth_ok k ≡ true) refl refl refl c.args.bits c.requires.0 in
     rw (c.is_straight-down.ensures, c.is_straight-up.ensures, e)

@@ -12,17 +12,17 @@ use Rattle.smooth.specs.Steps.{weak_entry, weak_first, weak_mid, weak_end}
 use Rattle.smooth.proofs.weak_row.Goals as goal
 
 pub loop-x-init : goal.loop-x-init
-loop-x-init c =     let a = c.args in
+loop-x-init c = let a = c.args in
     (search rules, (search rules, (search rules, fill_more _ _ (fill_none _ _) (c.tap.ensures ∙ weak_first a.n a.corner a.row.now (search rules)))))
 
 pub loop-x-preserved : goal.loop-x-preserved
-loop-x-preserved c =     let a = c.args in
+loop-x-preserved c = let a = c.args in
     let l = c.loop-x in
     (search rules, (search rules, (search rules, fill_more _ _ l.invariant.1.1.1 (c.tap-in-loop-x.ensures ∙ weak_mid a.n a.corner a.row.now l.x (search rules) (search rules)))))
 
 pub returns : goal.returns
 unfolding row_of
-returns c =     let a = c.args in
+returns c = let a = c.args in
     let i = c.loop-x.invariant in
     let F : ℕ → ℕ = weak_entry a.n a.corner a.row.now in
     let d = fill_done F _ i.1.0 c.loop-x-test.false i.1.1.1 in

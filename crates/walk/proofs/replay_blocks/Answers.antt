@@ -1,6 +1,6 @@
 -- `walk::replay_blocks` meets its contract. The loop's invariant: the blocks from `from` on that are passed are done, `at` is the place of the next, and the tables are as
 -- they were if there is no block. Rests on `replay_turn`.
-use Prim.Native.Nat.{ℕ, ◌-◌, ◌<◌}
+use Prim.Native.Nat.{ℕ, ◌<◌}
 use mathlib.Core.Path.{refl, ap₂, ◌∙◌}
 use mathlib.Core.Bool.{cond}
 use lib.Dec.{leb}
@@ -23,7 +23,7 @@ pub loop-k-init : goal.loop-k-init
 loop-k-init c = (search rules, (refl, (refl, (refl, (refl, (place_none _, (turn_none _ _ _, λ _. (refl, (refl, refl)))))))))
 
 pub replay_turn-at-requires : goal.replay_turn-at-requires
-replay_turn-at-requires c =     let l = c.loop-k in
+replay_turn-at-requires c = let l = c.loop-k in
     let i = l.invariant in
     let p = (c.requires (omega (arith, c.loop-k-test.true))).0 in
     let b = c.block_at-b.ensures in
@@ -32,7 +32,7 @@ replay_turn-at-requires c =     let l = c.loop-k in
     (ready _ _ _ _ _ p l.k l.at _ k e b _ _ _ _ i.1.0 i.1.1.0 i.1.1.1.0 i.1.1.1.1.0, lies _ _ _ _ _ p l.k l.at _ k e b)
 
 pub loop-k-preserved : goal.loop-k-preserved
-loop-k-preserved c =     let l = c.loop-k in
+loop-k-preserved c = let l = c.loop-k in
     let i = l.invariant in
     let a = c.args in
     let b = c.block_at-b.ensures in

@@ -1,8 +1,7 @@
 -- `walk::replay_listed` meets its contract. The loop's invariant: the blocks from `from` on that are passed are done, `at` is the place of
 -- the next, and the scratch is as it was if there is no block. Rests on `replay_turn`.
-use Rattle.std.proofs.Common.{ℕ, ◌-◌, ◌<◌, refl, ap, ◌∙◌, cond, length, arith, rules}
+use Rattle.std.proofs.Common.{ℕ, ◌<◌, refl, ap, ◌∙◌, cond, length, arith, rules}
 use Rattle.std.specs.Prelude.{leb}
-use Rattle.plan.specs.declared.tiling.Block.{Block}
 use Rattle.plan.specs.tiling.Plan.{listed}
 use Rattle.walk.specs.block.Rebuilt.{rebuilt, replay_unit}
 use Rattle.walk.specs.calls.Places.{place_none, place_more}
@@ -33,7 +32,16 @@ loop-k-preserved c =
     let a = c.args in
     let e = i.1.1.0 in
     let t = c.replay_turn-at.ensures in
-    let under = c.loop-k-test.true in
-    (search rules, (search rules, (t.0 ∙ place_more _ l.k l.at _ e refl,
-    (turn_more (replay_unit a.s (listed a.plan.now).block a.residuals.now) a.from l.k a.plane.now l.plane _ i.1.1.1.0 (t.1 ∙ ap (λ (n : ℕ). cond (leb a.from l.k) (rebuilt a.s ((listed a.plan.now).block l.k) n a.residuals.now l.plane) l.plane) e),
-    λ z. absurd (omega (arith, z, under))))))
+    let under = c.loop-k-test.true in (
+      search rules,
+      (
+        search rules,
+        (
+          t.0 ∙ place_more _ l.k l.at _ e refl,
+          (
+            turn_more (replay_unit a.s (listed a.plan.now).block a.residuals.now) a.from l.k a.plane.now l.plane _ i.1.1.1.0 (t.1 ∙ ap (λ (n : ℕ). cond (leb a.from l.k) (rebuilt a.s ((listed a.plan.now).block l.k) n a.residuals.now l.plane) l.plane) e),
+            λ z. absurd (omega (arith, z, under)),
+          ),
+        ),
+      ),
+    )

@@ -1,6 +1,6 @@
 -- `walk::walk_blocks` meets its contract. The loop's invariant: the blocks from `from` on that are passed are done, `at` is the place of the next, and the tables are as
 -- they were if there is no block. Rests on `walk_turn`.
-use Prim.Native.Nat.{ℕ, ◌-◌, ◌<◌}
+use Prim.Native.Nat.{ℕ, ◌<◌}
 use mathlib.Core.Path.{refl, sym, ap₂, ◌∙◌}
 use mathlib.Core.Bool.{cond}
 use lib.Dec.{leb}
@@ -23,7 +23,7 @@ pub loop-k-init : goal.loop-k-init
 loop-k-init c = (search rules, (refl, (refl, (refl, (refl, (refl, (place_none _, (turn_none _ _ _, λ _. (refl, (refl, refl))))))))))
 
 pub walk_turn-at-requires : goal.walk_turn-at-requires
-walk_turn-at-requires c =     let l = c.loop-k in
+walk_turn-at-requires c = let l = c.loop-k in
     let i = l.invariant in
     let p = c.requires (omega (arith, c.loop-k-test.true)) in
     let b = c.block_at-b.ensures in
@@ -35,7 +35,7 @@ walk_turn-at-requires c =     let l = c.loop-k in
     )
 
 pub loop-k-preserved : goal.loop-k-preserved
-loop-k-preserved c =     let l = c.loop-k in
+loop-k-preserved c = let l = c.loop-k in
     let i = l.invariant in
     let a = c.args in
     let b = c.block_at-b.ensures in

@@ -5,5 +5,5 @@ use Rattle.walk.specs.checks.Laws.{settle_zero}
 use Rattle.walk.proofs.walk_call.Goals as goal
 
 pub call_of-requires : goal.call_of-requires
-call_of-requires c z =     let a = settle_zero _ _ _ _ (sym (ap (λ (v : Verdict). v.no) c.settled.ensures) ∙ z) in
+call_of-requires c z = let a = settle_zero _ _ _ _ (sym (ap (λ (v : Verdict). v.no) c.settled.ensures) ∙ z) in
     (a.1, c.requires a.0)

@@ -1,8 +1,7 @@
 -- `walk::walk_listed` meets its contract. The loop's invariant: the blocks from `from` on that are passed are done, `at` is the place of the
 -- next, and the scratch is as it was if there is no block. Rests on `walk_turn`.
-use Rattle.std.proofs.Common.{ℕ, ◌-◌, ◌<◌, refl, sym, ap, ◌∙◌, cond, length, arith, rules}
+use Rattle.std.proofs.Common.{ℕ, ◌<◌, refl, sym, ap, ◌∙◌, cond, length, arith, rules}
 use Rattle.std.specs.Prelude.{leb}
-use Rattle.plan.specs.declared.tiling.Block.{Block}
 use Rattle.plan.specs.tiling.Plan.{listed}
 use Rattle.walk.specs.block.Walked.{World, walked, walk_unit}
 use Rattle.walk.specs.calls.Places.{place_none, place_more}
@@ -39,7 +38,19 @@ loop-k-preserved c =
     let t = c.walk_turn-at.ensures in
     let under = c.loop-k-test.true in
     let w : World = world l.work l.residuals in
-    let done = t.1 ∙ ap (λ (n : ℕ). cond (leb a.from l.k) (walked a.s a.source.now ((listed a.plan.now).block l.k) n w) w) e in
-    (search rules, (search rules, (search rules, (t.0 ∙ place_more _ l.k l.at _ e refl,
-    (turn_more (walk_unit a.s (listed a.plan.now).block a.source.now) a.from l.k (world a.work.now a.residuals.now) w _ i.1.1.1.1.0 done,
-    λ z. absurd (omega (arith, z, under)))))))
+    let done = t.1 ∙ ap (λ (n : ℕ). cond (leb a.from l.k) (walked a.s a.source.now ((listed a.plan.now).block l.k) n w) w) e in (
+      search rules,
+      (
+        search rules,
+        (
+          search rules,
+          (
+            t.0 ∙ place_more _ l.k l.at _ e refl,
+            (
+              turn_more (walk_unit a.s (listed a.plan.now).block a.source.now) a.from l.k (world a.work.now a.residuals.now) w _ i.1.1.1.1.0 done,
+              λ z. absurd (omega (arith, z, under)),
+            ),
+          ),
+        ),
+      ),
+    )

@@ -11,7 +11,7 @@ invariant-loop-k l =
     (l.k ≤ l.upto) × ((length l.work ≡ length l.initial.work) × ((length l.residuals ≡ length l.initial.residuals)
     × ((l.at ≡ place (listed l.plan).block l.k)
     × ((world l.work l.residuals
-      ≡ units (walk_unit l.s (listed l.plan).block l.source) l.from (l.k - l.from) (world l.initial.work l.initial.residuals))
+    ≡ units (walk_unit l.s (listed l.plan).block l.source) l.from (l.k - l.from) (world l.initial.work l.initial.residuals))
     × (l.upto ≡ 0 → l.scratch ≡ l.initial.scratch)))))
 
 abbrev pub decreases-loop-k : goal.decreases-loop-k

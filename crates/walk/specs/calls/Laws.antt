@@ -1,6 +1,6 @@
 -- What the verdict on a call tells, that a refused call leaves all as it was, and what a call comes to: what its loop asks holds,
 -- and it leaves what the door says. Rests on the laws of the plan and of a still's checks, and on how far a call goes.
-use Rattle.std.specs.Prelude.{◌≡◌, refl, true, ◌&&◌, List, ℕ, ◌-◌, ◌*◌, ◌≤◌, ◌<◌, eqb, length, ℤ}
+use Rattle.std.specs.Prelude.{◌≡◌, refl, true, ◌&&◌, List, ℕ, ◌*◌, ◌≤◌, ◌<◌, eqb, length, ℤ}
 use Rattle.std.proofs.Math.Path.{sym, ap}
 use Rattle.std.proofs.Common.{◌∙◌, subst, arith}
 use Rattle.std.proofs.Math.Decide.{ℕ_discrete}

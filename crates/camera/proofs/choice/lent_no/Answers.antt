@@ -23,12 +23,12 @@ returns-then-not-size_ok c = if_yes _ _ _ _ (depth (goal.at.returns-then-not-siz
 
 pub returns-then-not-above-left : goal.returns-then-not-above-left
 unfolding choice_lent_no
-returns-then-not-above-left c =     let a = c.args in
+returns-then-not-above-left c = let a = c.args in
     let room = choice_room a.n a.above a.left a.source a.out in
     if_yes _ _ _ _ (depth (goal.at.returns-then-not-above-left c).Else-not-depth_ok) (if_yes _ _ _ _ (size (goal.at.returns-then-not-above-left c).Else-not-size_ok) (if_no room _ _ _ (c.if-not-above-left.true) refl))
 
 pub returns : goal.returns
 unfolding choice_lent_no
-returns c =     let a = c.args in
+returns c = let a = c.args in
     let room = choice_room a.n a.above a.left a.source a.out in
     if_yes _ _ _ _ (depth (goal.at.returns c).Else-not-depth_ok) (if_yes _ _ _ _ (size (goal.at.returns c).Else-not-size_ok) (if_yes room _ _ _ (c.if-not-above-left.false) refl))

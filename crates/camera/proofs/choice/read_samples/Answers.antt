@@ -1,5 +1,4 @@
 -- The loop's invariant: as many samples are read as were passed. Rests on `sample_in`.
-use Prim.Native.Nat.{◌-◌}
 use borrow.Author.Rules.{rules}
 use Rattle.laws.specs.FillLaws.{fill_none, fill_more}
 use Rattle.camera.proofs.choice.read_samples.Goals as goal

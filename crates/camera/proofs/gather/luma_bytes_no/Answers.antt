@@ -10,6 +10,6 @@ use Rattle.camera.proofs.gather.luma_bytes_no.Goals as goal
 
 pub returns : goal.returns
 unfolding luma_bytes_no
-returns c =     let a = c.args in
+returns c = let a = c.args in
     luma-number (eqb a.len (2 * luma_length a.geo)) a.geo c.requires
     (c.whole_in-whole.ensures ∙ ap (λ (q : Layout). eqb a.len (2 * q.length)) c.requires) c.gather_no.ensures

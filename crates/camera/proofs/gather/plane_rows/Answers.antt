@@ -16,4 +16,4 @@ pub read_edge-requires-2 : goal.read_edge-requires-2
 read_edge-requires-2 c = ((around_kept (samples_of c.args.plane.now) c.args.s c.args.r c.args.n c.look_around-a.ensures c.requires).1, omega arith)
 
 pub returns : goal.returns
-returns c =     around_read (samples_of c.args.plane.now) c.args.s c.args.r c.args.n c.look_around-a.ensures c.args.neutral (c.if-not-r.false) c.requires c.read_edge.ensures c.read_edge-2.ensures refl
+returns c = around_read (samples_of c.args.plane.now) c.args.s c.args.r c.args.n c.look_around-a.ensures c.args.neutral (c.if-not-r.false) c.requires c.read_edge.ensures c.read_edge-2.ensures refl

@@ -1,6 +1,5 @@
 -- Two loops: what is there, then what the others have. Assumes nothing.
 use mathlib.Core.Path.{refl}
-use Prim.Native.Nat.{◌-◌}
 use native.Mathlib.Omega.{arith}
 use Rattle.laws.specs.FillLaws.{fill_none, fill_more}
 use Rattle.octets.specs.Laws.{length_samples}

@@ -1,6 +1,6 @@
 -- The loop's invariant: the value is stored as often as was passed. Assumes nothing.
 use mathlib.Core.Path.{refl, ◌∙◌}
-use Prim.Native.Nat.{ℕ, ◌-◌}
+use Prim.Native.Nat.{ℕ}
 use borrow.Author.Rules.{rules}
 use Rattle.laws.specs.FillLaws.{run_none}
 use Rattle.camera.specs.gather.Bytes.{sample_more}

@@ -1,6 +1,5 @@
 -- The loop's invariant: the entries passed are stored. Assumes nothing.
 use mathlib.Core.Path.{◌∙◌}
-use Prim.Native.Nat.{◌-◌}
 use native.Mathlib.Omega.{arith}
 use borrow.Author.Rules.{rules}
 use Rattle.laws.specs.FillLaws.{run_none}
@@ -20,5 +19,5 @@ pub overflow_add-from : goal.overflow_add-from
 overflow_add-from c = omega (arith, length_samples c.args.plane.now, c.requires.1 c.loop-i.i c.loop-i-test.true)
 
 pub loop-i-preserved : goal.loop-i-preserved
-loop-i-preserved c =     let a = c.args in
+loop-i-preserved c = let a = c.args in
     (search rules, (search rules, c.put.ensures ∙ sample_more (on_edge (samples_of a.plane.now) a.e.at a.e.step) a.at c.loop-i.i a.out.now c.loop-i.invariant.1.1 c.sample_in.ensures))

@@ -26,7 +26,7 @@ pub overflow_cast-mode : goal.overflow_cast-mode
 overflow_cast-mode c = omega (arith, highest (served (goal.at.overflow_cast-mode c).Then-no-eq0).0)
 
 pub rows_block-requires : goal.rows_block-requires
-rows_block-requires c =     let s = served (goal.at.rows_block-requires c).Then-no-eq0 in
+rows_block-requires c = let s = served (goal.at.rows_block-requires c).Then-no-eq0 in
     let room : c.args.n * c.args.n ≤ 1024 = square _ (side s.0) in
     (s.0, (s.1.0.above_long, (s.1.0.left_long, room)))
 
@@ -35,7 +35,7 @@ store_block-requires c = side (served (goal.at.store_block-requires c).Then-no-e
 
 pub returns-then-no-eq0 : goal.returns-then-no-eq0
 unfolding luma_block_entry
-returns-then-no-eq0 c =     let a = c.args in
+returns-then-no-eq0 c = let a = c.args in
     let s = served (goal.at.returns-then-no-eq0 c).Then-no-eq0 in
     let h = half_block a.n (side s.0) in
     done _ _ _ c.mode_entry_no-no.ensures c.if-no-eq0.true

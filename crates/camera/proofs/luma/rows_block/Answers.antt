@@ -5,7 +5,7 @@ use Rattle.camera.specs.prediction.Luma.{luma_serves, luma_read}
 use Rattle.camera.proofs.luma.rows_block.Goals as goal
 
 pub returns : goal.returns
-returns c =     let a = c.args in
+returns c = let a = c.args in
     let f = c.requires in
     let p = c.predict_luma_tb_slices.ensures in
     did _ _ _ (p.0 ∙ luma_serves f.0 f.1.1.1) p.1.0

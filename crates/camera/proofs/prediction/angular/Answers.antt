@@ -26,7 +26,7 @@ predict_bytes-requires c = let s = served (goal.at.predict_bytes-requires c).The
 
 pub returns-then-no-eq0 : goal.returns-then-no-eq0
 unfolding angular_entry
-returns-then-no-eq0 c =     let a = c.args in
+returns-then-no-eq0 c = let a = c.args in
     done _ _ _ c.mode_entry_no-no.ensures c.if-no-eq0.true (c.predict_bytes.ensures ∙ angular_asked a.n a.above.now a.left.now a.out.now a.bits a.mode a.corner _
     (leb-true 2 a.mode (both_true (leb 2 a.mode) (mode_ok a.mode) (served (goal.at.returns-then-no-eq0 c).Then-no-eq0).1.1).0))
 

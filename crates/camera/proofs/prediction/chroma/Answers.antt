@@ -23,7 +23,7 @@ predict_bytes-requires c = let s = served (goal.at.predict_bytes-requires c).The
 
 pub returns-then-no-eq0 : goal.returns-then-no-eq0
 unfolding chroma_block_entry
-returns-then-no-eq0 c =     let a = c.args in
+returns-then-no-eq0 c = let a = c.args in
     done _ _ _ c.mode_entry_no-no.ensures c.if-no-eq0.true (c.predict_bytes.ensures ∙ chroma_asked a.n a.above.now a.left.now a.out.now a.bits a.mode a.corner)
 
 pub returns-else-no-eq0 : goal.returns-else-no-eq0

@@ -11,7 +11,7 @@ predict_bytes-requires c = flat_fit _ _ _ _ (sym c.flat_entry_no-no.ensures ∙ 
 
 pub returns-then-no-eq0 : goal.returns-then-no-eq0
 unfolding dc_entry
-returns-then-no-eq0 c =     let a = c.args in
+returns-then-no-eq0 c = let a = c.args in
     done _ _ _ c.flat_entry_no-no.ensures c.if-no-eq0.true (c.predict_bytes.ensures ∙ dc_asked a.n a.above.now a.left.now a.out.now 8 0 _)
 
 pub returns-else-no-eq0 : goal.returns-else-no-eq0

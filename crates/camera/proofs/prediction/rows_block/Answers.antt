@@ -4,7 +4,7 @@ use Rattle.camera.specs.prediction.Blocks.{read_block}
 use Rattle.camera.proofs.prediction.rows_block.Goals as goal
 
 pub returns : goal.returns
-returns c =     let a = c.args in
+returns c = let a = c.args in
     let f = c.requires in
     c.mode_block.ensures
     ∙ read_block a.bits a.n a.mode a.corner a.edge a.above.now a.left.now a.pred.now f.0 f.1.0 f.1.1.0 c.read_row.ensures c.read_row-2.ensures

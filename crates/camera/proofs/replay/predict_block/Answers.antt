@@ -12,7 +12,7 @@ use Rattle.walk.specs.block.PredictedLaws.{predicted_is}
 use Rattle.camera.proofs.replay.predict_block.Goals as goal
 
 pub returns : goal.returns
-returns c =     let a = c.args in
+returns c = let a = c.args in
     let h = c.requires in
     let p = c.predict_luma_tb_slices.ensures in
     let f = c.get_reference_samples-g.ensures ∙ ap (luma_bytes_door a.plane.now) c.geometry.ensures ∙ luma_spelt a.plane.now (geometry_of a.s a.b) (length a.plane.now / 2) (omega (arith, h.1.1)) in

@@ -1,5 +1,5 @@
 -- `replay::rebuild_row` meets its contract. The loop's invariant: the samples passed are stored. Rests on `restored` and `put_sample`.
-use Prim.Native.Nat.{ℕ, ◌+◌, ◌-◌, ◌%◌, ◌<◌}
+use Prim.Native.Nat.{ℕ, ◌+◌, ◌%◌, ◌<◌}
 use mathlib.Core.Path.{refl, ap, ◌∙◌}
 use lib.ListN.{length}
 use native.Mathlib.Omega.{arith}
@@ -25,11 +25,11 @@ pub overflow_add-base : goal.overflow_add-base
 overflow_add-base c = omega (arith, length_samples c.args.plane.now, c.requires.0.plane_in)
 
 pub put_sample-requires : goal.put_sample-requires
-put_sample-requires c =     let l = c.loop-c in
+put_sample-requires c = let l = c.loop-c in
     let e = l.invariant.1.0 in
     (omega (arith, samples_alike l.plane c.args.plane.now e, c.requires.0.plane_in), ap (λ (k : ℕ). k % 2) e ∙ c.requires.1)
 
 pub loop-c-preserved : goal.loop-c-preserved
-loop-c-preserved c =     let l = c.loop-c in
+loop-c-preserved c = let l = c.loop-c in
     let r = c.residual_at-r in
     (search rules, (search rules, c.put_sample.ensures ∙ run_more _ _ _ l.invariant.1.1 (restored_at _ _ _ _ _ c.restored.ensures refl (held r.result r.type_inv ∙ r.ensures))))

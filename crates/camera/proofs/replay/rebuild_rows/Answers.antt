@@ -1,5 +1,5 @@
 -- `replay::rebuild_rows` meets its contract. The loop's invariant: the rows passed are stored. Rests on `rebuild_row`.
-use Prim.Native.Nat.{ℕ, ◌+◌, ◌*◌, ◌-◌, ◌%◌}
+use Prim.Native.Nat.{ℕ, ◌+◌, ◌*◌, ◌%◌}
 use mathlib.Core.Path.{ap, ◌∙◌}
 use lib.ListN.{length}
 use native.Mathlib.Omega.{arith}
@@ -20,26 +20,26 @@ pub loop-r-init : goal.loop-r-init
 loop-r-init c = (search rules, (search rules, paint_none _ _ _ _ _))
 
 pub overflow_mul-r : goal.overflow_mul-r
-overflow_mul-r c =     let t = turn (goal.at.overflow_mul-r c).In-loop-r in
+overflow_mul-r c = let t = turn (goal.at.overflow_mul-r c).In-loop-r in
     let a = c.args in
     record { fits = omega (arith, t.plane_in, t.pred_in, t.resid_in, length_samples a.plane.now, length_residuals a.residuals.now) }
 
 pub overflow_add-base : goal.overflow_add-base
-overflow_add-base c =     let t = turn (goal.at.overflow_add-base c).In-loop-r in
+overflow_add-base c = let t = turn (goal.at.overflow_add-base c).In-loop-r in
     let a = c.args in
     record { fits = omega (arith, t.plane_in, t.pred_in, t.resid_in, length_samples a.plane.now, length_residuals a.residuals.now) }
 
 pub overflow_add-at : goal.overflow_add-at
-overflow_add-at c =     let t = turn (goal.at.overflow_add-at c).In-loop-r in
+overflow_add-at c = let t = turn (goal.at.overflow_add-at c).In-loop-r in
     let a = c.args in
     record { fits = omega (arith, t.plane_in, t.pred_in, t.resid_in, length_samples a.plane.now, length_residuals a.residuals.now) }
 
 pub rebuild_row-requires : goal.rebuild_row-requires
-rebuild_row-requires c =     let t = turn (goal.at.rebuild_row-requires c).In-loop-r in
+rebuild_row-requires c = let t = turn (goal.at.rebuild_row-requires c).In-loop-r in
     let l = c.loop-r in
     let e = l.invariant.1.0 in
     (record { size = t.size; plane_in = omega (arith, samples_alike l.plane c.args.plane.now e, t.plane_in); pred_in = t.pred_in; resid_in = t.resid_in }, ap (λ (k : ℕ). k % 2) e ∙ c.requires.1)
 
 pub loop-r-preserved : goal.loop-r-preserved
-loop-r-preserved c =     let l = c.loop-r in
+loop-r-preserved c = let l = c.loop-r in
     (search rules, (search rules, c.rebuild_row.ensures ∙ paint_more _ _ _ _ _ l.r l.invariant.1.1))

@@ -9,7 +9,7 @@ use borrow.Author.Rules.{rules}
 use Rattle.camera.proofs.replay.replay.Goals as goal
 
 pub returns-then-v-ne0 : goal.returns-then-v-ne0
-returns-then-v-ne0 c =     let a = c.args in
+returns-then-v-ne0 c = let a = c.args in
     let l : Lent = record { plan = a.plan.now; residuals = a.residuals.now; plane = length a.plane.now; result = length a.res.now } in
     let v = c.verdict-v in
     let n = c.if-v-ne0.true in
@@ -18,12 +18,12 @@ returns-then-v-ne0 c =     let a = c.args in
     (c.answer.ensures ∙ result_refused a.still a.done l a.grant v.result v.ensures n a.res.now)
 
 pub serve-next-requires : goal.serve-next-requires
-serve-next-requires c =     let a = c.args in
+serve-next-requires c = let a = c.args in
     let v = c.verdict-v in
     serves a.still a.done a.plan.now a.residuals.now a.plane.now (length a.res.now) (sym (ap (λ (u : Verdict). u.no) v.ensures) ∙ c.if-v-ne0.false)
 
 pub returns : goal.returns
-returns c =     let a = c.args in
+returns c = let a = c.args in
     let l : Lent = record { plan = a.plan.now; residuals = a.residuals.now; plane = length a.plane.now; result = length a.res.now } in
     let v = c.verdict-v in
     let z = sym (ap (λ (u : Verdict). u.no) v.ensures) ∙ c.if-v-ne0.false in

@@ -1,6 +1,6 @@
 -- `replay::replay_blocks` meets its contract. The loop's invariant: the blocks from `from` on that are passed are done, and `at` is the place of the next. Rests on
 -- `replay_turn`.
-use Prim.Native.Nat.{ℕ, ◌-◌, ◌/◌, ◌%◌, ◌<◌}
+use Prim.Native.Nat.{ℕ, ◌/◌, ◌%◌, ◌<◌}
 use mathlib.Core.Path.{refl, ap, ap₂, ◌∙◌}
 use mathlib.Core.Bool.{cond}
 use lib.Dec.{leb}
@@ -25,7 +25,7 @@ pub loop-k-init : goal.loop-k-init
 loop-k-init c = (search rules, (refl, (refl, (refl, (refl, (place_none _, turn_none _ _ _))))))
 
 pub replay_turn-at-requires : goal.replay_turn-at-requires
-replay_turn-at-requires c =     let l = c.loop-k in
+replay_turn-at-requires c = let l = c.loop-k in
     let i = l.invariant in
     let a = c.args in
     let p = c.requires in
@@ -35,7 +35,7 @@ replay_turn-at-requires c =     let l = c.loop-k in
     (ready _ _ _ _ _ p.0 l.k l.at _ k e b _ _ _ _ (samples_alike l.plane a.plane.now i.1.0) i.1.1.0 i.1.1.1.0 i.1.1.1.1.0, (lies _ _ _ _ _ p.0 l.k l.at _ k e b, ap (λ (m : ℕ). m % 2) i.1.0 ∙ p.1.1))
 
 pub loop-k-preserved : goal.loop-k-preserved
-loop-k-preserved c =     let l = c.loop-k in
+loop-k-preserved c = let l = c.loop-k in
     let i = l.invariant in
     let a = c.args in
     let v = residuals_of a.residuals.now in

@@ -31,4 +31,4 @@ pub bounds-b-at-4 : goal.bounds-b-at-4
 bounds-b-at-4 c = omega (arith, residual_in _ _ c.requires)
 
 pub returns : goal.returns
-returns c =     held c.residual.result c.residual.type_inv ∙ c.residual.ensures ∙ sym (residual-at c.args.b.now c.args.i (4 * c.args.i) refl (residual_in _ _ c.requires))
+returns c = held c.residual.result c.residual.type_inv ∙ c.residual.ensures ∙ sym (residual-at c.args.b.now c.args.i (4 * c.args.i) refl (residual_in _ _ c.requires))

@@ -1,5 +1,4 @@
 -- `replay::residuals_within` meets its contract. The loop's invariant: the flag says whether the residuals passed keep the limit.
-use Prim.Native.Nat.{◌-◌}
 use lib.IntN.{pos}
 use native.Mathlib.Omega.{arith}
 use Rattle.laws.specs.Signed.{held}
@@ -17,7 +16,7 @@ pub residual_at-requires : goal.residual_at-requires
 residual_at-requires c = omega (arith, length_residuals c.args.residuals.now)
 
 pub loop-i-preserved : goal.loop-i-preserved
-loop-i-preserved c =     let l = c.loop-i in
+loop-i-preserved c = let l = c.loop-i in
     let a = c.args in
     let v = residuals_of a.residuals.now in
     let r = c.residual_at in
@@ -25,7 +24,7 @@ loop-i-preserved c =     let l = c.loop-i in
     (search rules, pass_more (residual_within a.limit) (pos 0) v l.i l.invariant.1 e)
 
 pub returns : goal.returns
-returns c =     let l = c.loop-i in
+returns c = let l = c.loop-i in
     let a = c.args in
     let v = a.residuals.now in
     pass_done (residual_within a.limit) (pos 0) (residuals_of v) l.i (omega (arith, length_residuals v, l.invariant.0)) (omega (arith, length_residuals v, c.loop-i-test.false)) l.invariant.1

@@ -1,5 +1,4 @@
 -- `replay::serve` meets its contract: the lesser of the grant and what remains is done. Rests on the loop over the blocks.
-use Prim.Native.Nat.{◌-◌}
 use native.Mathlib.Omega.{arith}
 use Rattle.plan.specs.RecordPlan.{records_of}
 use Rattle.walk.specs.calls.Laws.{accepted_small}

@@ -4,7 +4,7 @@ use Rattle.camera.specs.replay.VerdictLaws.{settled_bytes}
 use Rattle.camera.proofs.replay.verdict.Goals as goal
 
 pub returns : goal.returns
-returns c =     let a = c.args in
+returns c = let a = c.args in
     let l : Lent = record { plan = a.plan.now; residuals = a.residuals.now; plane = a.plane; result = a.res } in
     let n = c.byte_no-early in
     let f = c.check_plan_bytes-found in

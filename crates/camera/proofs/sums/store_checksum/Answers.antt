@@ -19,19 +19,19 @@ sum_of v = v.sum
 
 pub returns-then-a-ne0 : goal.returns-then-a-ne0
 unfolding checksum_entry
-returns-then-a-ne0 c =     let a = c.args in
+returns-then-a-ne0 c = let a = c.args in
     let v = checksum_on_bytes a.r (leb 4 (length a.out.now)) a.plane.now a.sum in
     refused v.no (word_into v.sum a.out.now) a.out.now (ap number c.picture_checksum_bytes-a.ensures)
     c.if-a-ne0.true
 
 pub put_word-requires : goal.put_word-requires
-put_word-requires c =     let a = c.args in
+put_word-requires c = let a = c.args in
     let e = sym (ap number c.picture_checksum_bytes-a.ensures) ∙ c.if-a-ne0.false in
     omega (arith, has_room a.r a.sum a.plane.now a.out.now e)
 
 pub returns : goal.returns
 unfolding checksum_entry
-returns c =     let a = c.args in
+returns c = let a = c.args in
     let v = checksum_on_bytes a.r (leb 4 (length a.out.now)) a.plane.now a.sum in
     let is = c.picture_checksum_bytes-a.ensures in
     let zero = sym (ap number is) ∙ c.if-a-ne0.false in

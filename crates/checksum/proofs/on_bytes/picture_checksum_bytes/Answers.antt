@@ -27,5 +27,5 @@ rows_sum-requires c = sym (number (goal.at.rows_sum-requires c).After-number_by-
 
 pub returns : goal.returns
 unfolding summed_by
-returns c =     let e = sym (number (goal.at.returns c).After-number_by-no) ∙ c.if-no-ne0.false in
+returns c = let e = sym (number (goal.at.returns c).After-number_by-no) ∙ c.if-no-ne0.false in
     ap₂ summed (sym e) (c.rows_sum.ensures ∙ worked _ _ 0 e)

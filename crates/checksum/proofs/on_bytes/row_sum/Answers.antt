@@ -1,5 +1,5 @@
 -- What a row adds: the loop's sum is the total of the columns passed. Assumes nothing.
-use Rattle.std.proofs.Common.{ℕ, ◌-◌, ◌∙◌, ap₂, arith}
+use Rattle.std.proofs.Common.{ℕ, ◌∙◌, ap₂, arith}
 use Rattle.laws.specs.Sum.{total_none, total_more}
 use Rattle.checksum.specs.Laws.{sample_adds}
 use Rattle.checksum.proofs.on_bytes.row_sum.Goals as goal
@@ -8,7 +8,7 @@ pub loop-x-init : goal.loop-x-init
 loop-x-init c = (omega arith, (omega arith, total_none _))
 
 pub loop-x-preserved : goal.loop-x-preserved
-loop-x-preserved c =     let a = c.args in
+loop-x-preserved c = let a = c.args in
     let l = c.loop-x in (
       omega arith,
       (

@@ -7,4 +7,4 @@ pub returns-then-no-ne0 : goal.returns-then-no-ne0
 returns-then-no-ne0 c = joined_not _ _ c.join_no-no.ensures c.if-no-ne0.true
 
 pub returns : goal.returns
-returns c =     joined_so _ _ (sym c.join_no-no.ensures ∙ c.if-no-ne0.false) c.reports_added.ensures
+returns c = joined_so _ _ (sym c.join_no-no.ensures ∙ c.if-no-ne0.false) c.reports_added.ensures

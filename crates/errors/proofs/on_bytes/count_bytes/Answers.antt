@@ -22,7 +22,7 @@ verdict c =
     c.check_plan_bytes-found.ensures
 
 pub settled-v-requires : goal.settled-v-requires
-settled-v-requires c z =     let o = opened _ _ _ (sym c.early_no-early.ensures ∙ z) in (o.depth, picture_good _ o.picture)
+settled-v-requires c z = let o = opened _ _ _ (sym c.early_no-early.ensures ∙ z) in (o.depth, picture_good _ o.picture)
 
 pub returns-then-v-ne0 : goal.returns-then-v-ne0
 returns-then-v-ne0 c = counted_not _ _ _ (verdict (goal.at.returns-then-v-ne0 c).After-settled-v) c.if-v-ne0.true
@@ -31,7 +31,7 @@ pub count_blocks-requires : goal.count_blocks-requires
 count_blocks-requires c = countable _ _ _ _ _ (sym (ap (λ (v : Verdict). v.no) (verdict (goal.at.count_blocks-requires c).After-settled-v)) ∙ c.if-v-ne0.false)
 
 pub returns : goal.returns
-returns c =     let a = c.args in
+returns c = let a = c.args in
     let fit = plane_bytes_fit a.r (length a.a.now) (length a.b.now) in
     let plan = records_of a.plan.now in
     let e = verdict (goal.at.returns c).After-settled-v in

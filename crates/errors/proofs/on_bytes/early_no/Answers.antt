@@ -11,7 +11,7 @@ use Rattle.errors.specs.Served.{by_top}
 use Rattle.errors.proofs.on_bytes.early_no.Goals as goal
 
 pub returns : goal.returns
-returns c =     let a = c.args in
+returns c = let a = c.args in
     let size = c.area-size.ensures in
     let fit = both_same (c.whole_in.ensures ∙ ap (λ (n : ℕ). eqb (length a.a.now) (2 * n)) size)
     (c.whole_in-2.ensures ∙ ap (λ (n : ℕ). eqb (length a.b.now) (2 * n)) size) in

@@ -1,6 +1,6 @@
 -- The squares of a block's rows: the loop's sum is the total of the rows passed. Assumes nothing.
 use mathlib.Core.Path.{◌∙◌, ap}
-use Prim.Native.Nat.{ℕ, ◌+◌, ◌-◌, ◌*◌, ◌<◌}
+use Prim.Native.Nat.{ℕ, ◌+◌, ◌*◌, ◌<◌}
 use native.Mathlib.Nat.{add_assoc}
 use native.Mathlib.Omega.{arith}
 use lib.ListN.{get_or}
@@ -15,7 +15,7 @@ pub loop-r-init : goal.loop-r-init
 loop-r-init c = (omega arith, (omega arith, total_none _))
 
 pub row_squares-more-requires : goal.row_squares-more-requires
-row_squares-more-requires c =     let p = c.requires in
+row_squares-more-requires c = let p = c.requires in
     let l : c.loop-r.r < c.args.t.side = omega (arith, c.loop-r-test.true, p.0) in
     let a = c.args in (
       omega (arith, (row_within p.1.in_a c.loop-r.r l).1, p.0, length_samples a.a.now),
@@ -26,7 +26,7 @@ row_squares-more-requires c =     let p = c.requires in
     )
 
 pub loop-r-preserved : goal.loop-r-preserved
-loop-r-preserved c =     let a = c.args in
+loop-r-preserved c = let a = c.args in
     let p = c.requires in
     let l = c.loop-r in
     let row : ℕ = (a.t.row + l.r) * a.width in

@@ -1,5 +1,4 @@
 -- The figures one after the other. Assumes nothing.
-use Prim.Native.Nat.{◌-◌}
 use native.Mathlib.Omega.{arith}
 use Rattle.laws.specs.FillLaws.{fill_none, fill_more}
 use Rattle.errors.proofs.record.figures_at.Goals as goal

@@ -1,5 +1,4 @@
 -- A number from its highest byte on. Assumes nothing.
-use Prim.Native.Nat.{◌-◌}
 use native.Mathlib.Omega.{arith}
 use Rattle.errors.specs.RecordLaws.{number_none, number_more, number_small, number_fits}
 use Rattle.errors.proofs.record.number_at.Goals as goal
@@ -14,7 +13,7 @@ pub overflow_add-v : goal.overflow_add-v
 overflow_add-v c = omega (arith, number_fits _ _ c.loop-i-test.true c.loop-i.invariant.0 c.requires.1 c.loop-i.invariant.1.1, c.byte_at.ensures.1)
 
 pub loop-i-preserved : goal.loop-i-preserved
-loop-i-preserved c =     let l = c.loop-i in
+loop-i-preserved c = let l = c.loop-i in
     let t = c.loop-i-test.true in (
       omega (arith, l.invariant.0),
       (

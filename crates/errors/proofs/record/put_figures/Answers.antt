@@ -1,6 +1,6 @@
 -- The figures one after the other. Assumes nothing.
 use mathlib.Core.Path.{refl, ap, ◌∙◌}
-use Prim.Native.Nat.{ℕ, ◌-◌}
+use Prim.Native.Nat.{ℕ}
 use native.Mathlib.Omega.{arith}
 use lib.ListN.{length, get_or}
 use Rattle.laws.specs.FillLaws.{run_none, length_run}
@@ -11,7 +11,7 @@ pub loop-m-init : goal.loop-m-init
 loop-m-init c = (omega arith, (refl, run_none _ _ _))
 
 pub loop-m-preserved : goal.loop-m-preserved
-loop-m-preserved c =     let l = c.loop-m in
+loop-m-preserved c = let l = c.loop-m in
     let a = c.args in
     let e = c.put_number.ensures in (
       omega (arith, c.loop-m-test.true),

@@ -1,6 +1,5 @@
 -- `pairs::apart` meets its contract: the numbers passed are taken apart. Assumes nothing.
 use mathlib.Core.Path.{refl}
-use Prim.Native.Nat.{◌-◌}
 use Rattle.laws.specs.FillLaws.{fill_none}
 use Rattle.octets.specs.pairs.Words.{apart_more}
 use borrow.Author.Rules.{rules}

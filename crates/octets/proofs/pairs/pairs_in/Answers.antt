@@ -1,5 +1,4 @@
 -- `pairs::pairs_in` meets its contract: the pairs passed are there. Assumes nothing.
-use Prim.Native.Nat.{◌-◌}
 use Rattle.octets.specs.pairs.Words.{paired_none, paired_more}
 use borrow.Author.Rules.{rules}
 use Rattle.octets.proofs.pairs.pairs_in.Goals as goal

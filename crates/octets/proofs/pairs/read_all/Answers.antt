@@ -6,5 +6,5 @@ use borrow.Author.Rules.{rules}
 use Rattle.octets.proofs.pairs.read_all.Goals as goal
 
 pub returns : goal.returns
-returns c =     let a = c.args in
+returns c = let a = c.args in
     c.apart.ensures ∙ apart_is (samples_of a.row.now) a.count _ (search rules) c.pairs_in.ensures a.out.now

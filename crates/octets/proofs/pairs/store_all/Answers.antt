@@ -5,5 +5,5 @@ use borrow.Author.Rules.{rules}
 use Rattle.octets.proofs.pairs.store_all.Goals as goal
 
 pub returns : goal.returns
-returns c =     let a = c.args in
+returns c = let a = c.args in
     c.spread.ensures ∙ spread_is a.samples.now _ _ (search rules) c.pairs_of.ensures a.out.now

@@ -14,11 +14,11 @@ pub returns-then-not-placed_ok : goal.returns-then-not-placed_ok
 returns-then-not-placed_ok c = no_6 _ _ _ (sym c.size_ok.ensures ∙ c.if-not-size_ok.false) (sym c.mode_ok.ensures ∙ c.if-not-mode_ok.false) (sym c.placed_ok.ensures ∙ c.if-not-placed_ok.true)
 
 pub returns-then-not-is_next : goal.returns-then-not-is_next
-returns-then-not-is_next c =     let size = sym c.size_ok.ensures ∙ c.if-not-size_ok.false in
+returns-then-not-is_next c = let size = sym c.size_ok.ensures ∙ c.if-not-size_ok.false in
     let place = sym c.placed_ok.ensures ∙ c.if-not-placed_ok.false in
     no_last _ _ _ size (sym c.mode_ok.ensures ∙ c.if-not-mode_ok.false) place false (sym c.is_next.ensures ∙ c.if-not-is_next.true)
 
 pub returns : goal.returns
-returns c =     let size = sym c.size_ok.ensures ∙ c.if-not-size_ok.false in
+returns c = let size = sym c.size_ok.ensures ∙ c.if-not-size_ok.false in
     let place = sym c.placed_ok.ensures ∙ c.if-not-placed_ok.false in
     no_last _ _ _ size (sym c.mode_ok.ensures ∙ c.if-not-mode_ok.false) place true (sym c.is_next.ensures ∙ c.if-not-is_next.false)

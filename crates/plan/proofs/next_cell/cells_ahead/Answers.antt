@@ -23,7 +23,7 @@ pub overflow_sub-w : goal.overflow_sub-w
 overflow_sub-w c = let t = turn-of (goal.at.overflow_sub-w c).In-loop-left in search rules
 
 pub loop-left-preserved : goal.loop-left-preserved
-loop-left-preserved c =     let l = c.loop-left in
+loop-left-preserved c = let l = c.loop-left in
     let t = turn-of (goal.at.loop-left-preserved c).In-loop-left in
     let e = c.bit.ensures.0 ∙ ap (λ (u : ℕ). l.x % 2 * u) c.strip.ensures.0 in
     let f = c.bit-in-loop-left.ensures.0 ∙ ap (λ (u : ℕ). l.y % 2 * u) c.strip-in-loop-left.ensures.0 in
@@ -36,6 +36,6 @@ pub overflow_add-result-2 : goal.overflow_add-result-2
 overflow_add-result-2 c = let l = c.loop-left in let t = end_of (goal.at.overflow_add-result-2 c).After-loop-left in record { fits = omega (arith, ap (λ (u : ℕ). l.x * u) c.strip-2.ensures.0, t.0) }
 
 pub returns : goal.returns
-returns c =     let l = c.loop-left in
+returns c = let l = c.loop-left in
     let t = end_of (goal.at.returns c).After-loop-left in
     omega (arith, ap (λ (u : ℕ). l.x * u) c.strip-2.ensures.0, t.0)

@@ -1,4 +1,3 @@
-use Prim.Native.Nat.{◌-◌}
 use Rattle.plan.specs.tiling.Check.{ahead_by}
 use Rattle.plan.specs.tiling.Ahead.{Counts}
 use Rattle.plan.proofs.next_cell.cells_ahead.Given as goal

@@ -8,7 +8,7 @@ pub cells_ahead-requires : goal.cells_ahead-requires
 cells_ahead-requires c = asks c.requires.0 _ _ _ c.requires.1 c.levels_of-m.ensures
 
 pub overflow_mul-result : goal.overflow_mul-result
-overflow_mul-result c =     let a = asks c.requires.0 _ _ _ c.requires.1 c.levels_of-m.ensures in
+overflow_mul-result c = let a = asks c.requires.0 _ _ _ c.requires.1 c.levels_of-m.ensures in
     record { fits = omega (arith, c.cells_ahead.ensures, a.5) }
 
 pub returns : goal.returns

@@ -14,6 +14,6 @@ returns-in-32 c = rw c.in-32.is
 
 pub returns-in_default : goal.returns-in_default
 unfolding halvings
-returns-in_default c =     let r = c.in_default.in_default-own.rest in
+returns-in_default c = let r = c.in_default.in_default-own.rest in
     let e : c.args.ctu ≡ 64 = ⊎_elim (λ h. absurd (r.0.1 h)) (⊎_elim (λ h. absurd (r.1 h)) (λ h. h)) c.requires in
     rw e

@@ -10,12 +10,12 @@ use Rattle.plan.proofs.records.record_at.Goals as goal
 
 pub returns-then-i-plan : goal.returns-then-i-plan
 unfolding record_at
-returns-then-i-plan c =     let a = c.args in
+returns-then-i-plan c = let a = c.args in
     if_no (ltb a.i (length a.plan.now / 6)) (record_of a.plan.now (6 * a.i)) _ _ (le-ltb _ _ c.if-i-plan.true) refl
 
 pub returns : goal.returns
 unfolding record_at
-returns c =     let a = c.args in
+returns c = let a = c.args in
     let b = a.plan.now in
     let at = 6 * a.i in
     if_yes (ltb a.i (length b / 6)) (record_of b at) _ _ (lt-ltb _ _ c.if-i-plan.false)

@@ -14,7 +14,7 @@ unfolding check_step check_block
 returns-then-no-ne0 c = simp (eq-eqb _ _ c.if-t-ne0.false, sym c.block_no-no.ensures, ne_eqb _ _ c.if-no-ne0.true)
 
 pub overflow_add-result : goal.overflow_add-result
-overflow_add-result c =     let g = (c.requires c.if-t-ne0.false).0 in
+overflow_add-result c = let g = (c.requires c.if-t-ne0.false).0 in
     let p = step_fits g _ _ (sym c.block_no-no.ensures ∙ c.if-no-ne0.false) in
     record { fits = omega (arith, p) }
 

@@ -12,7 +12,7 @@ early c =
     first_reach _ _ p.0 p.1.1.0
 
 pub returns : goal.returns
-returns c =     let a = c.args in
+returns c = let a = c.args in
     let q = c.first-lo.ensures in
     let low = rw q at (c.lowers.ensures a.main.now) in
     built a.corner a.main.now a.side.now a.inv (first_of a.e a.n) a.n a.refs.now (early (goal.at.returns c).After-slice_known-1) low c.main_refs.ensures

@@ -1,6 +1,6 @@
 -- `angular::copies_n` meets its contract. The loop makes the block row by row; with no fraction a row is copied. Assumes nothing.
 use mathlib.Core.Path.{◌∙◌}
-use Prim.Native.Nat.{◌+◌, ◌*◌, ◌-◌}
+use Prim.Native.Nat.{◌+◌, ◌*◌}
 use native.Mathlib.Omega.{arith}
 use Rattle.laws.specs.Weigh.{row_room}
 use Rattle.laws.specs.FillLaws.{rows_none, rows_more}
@@ -13,7 +13,7 @@ pub loop-r-init : goal.loop-r-init
 loop-r-init c = (search rules, (search rules, rows_none _ _ _))
 
 pub through-requires : goal.through-requires
-through-requires c =     let a = c.args in
+through-requires c = let a = c.args in
     let p = c.requires in
     let r = c.loop-r.r in
     let t = c.loop-r-test.true in
@@ -22,7 +22,7 @@ through-requires c =     let a = c.args in
     search rules
 
 pub loop-r-preserved : goal.loop-r-preserved
-loop-r-preserved c =     let a = c.args in
+loop-r-preserved c = let a = c.args in
     let r = c.loop-r.r in
     let made = rw c.start.ensures at c.through.ensures in
     (search rules, (search rules, made ∙ copied a.refs.now (line_start a.b a.e (a.first + r)) (fraction_of a.e (a.first + r)) (r * a.n) a.n _ (no_fraction a.e (a.first + r) c.requires.0) ∙ rows_more _ _ _ _ c.loop-r.invariant.1.1))

@@ -7,5 +7,5 @@ use borrow.Author.Rules.{rules}
 use Rattle.predict.proofs.angular.down_4.Goals as goal
 
 pub returns : goal.returns
-returns c =     let a = c.args in
+returns c = let a = c.args in
     c.copy_row.ensures ∙ block_by_way (line_at a.refs.now a.b a.e) _ (replicate 16 0) a.pred.now 4 (search rules) c.mix_rows.ensures

@@ -1,6 +1,6 @@
 -- `angular::down_n` meets its contract. The loop makes the block row by row; a row's references stay within 2n. Assumes nothing.
 use mathlib.Core.Path.{◌∙◌}
-use Prim.Native.Nat.{◌+◌, ◌-◌}
+use Prim.Native.Nat.{◌+◌}
 use native.Mathlib.Omega.{arith}
 use Rattle.laws.specs.Weigh.{row_room}
 use Rattle.laws.specs.FillLaws.{rows_none, rows_more}
@@ -12,7 +12,7 @@ pub loop-r-init : goal.loop-r-init
 loop-r-init c = (search rules, (search rules, rows_none _ _ _))
 
 pub row-requires : goal.row-requires
-row-requires c =     let a = c.args in
+row-requires c = let a = c.args in
     let p = c.requires in
     let r = c.loop-r.r in
     let t = c.loop-r-test.true in
@@ -21,5 +21,5 @@ row-requires c =     let a = c.args in
     search rules
 
 pub loop-r-preserved : goal.loop-r-preserved
-loop-r-preserved c =     let made = rw (c.start.ensures, c.fraction.ensures.0) at c.row.ensures in
+loop-r-preserved c = let made = rw (c.start.ensures, c.fraction.ensures.0) at c.row.ensures in
     (search rules, (search rules, made ∙ rows_more _ _ _ _ c.loop-r.invariant.1.1))

@@ -8,5 +8,5 @@ use borrow.Author.Rules.{rules}
 use Rattle.predict.proofs.angular.edge_col.Goals as goal
 
 pub returns : goal.returns
-returns c =     let a = c.args in
+returns c = let a = c.args in
     c.put_col.ensures ∙ column_by_fill (λ (k : ℕ). edge_of a.max a.a (get_or a.left.now k 0) a.corner) _ (replicate 32 0) a.pred.now 0 a.n (search rules) c.edges.ensures

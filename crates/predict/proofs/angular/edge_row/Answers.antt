@@ -8,5 +8,5 @@ use borrow.Author.Rules.{rules}
 use Rattle.predict.proofs.angular.edge_row.Goals as goal
 
 pub returns : goal.returns
-returns c =     let a = c.args in
+returns c = let a = c.args in
     c.copy_row.ensures ∙ fill_by_way (λ (k : ℕ). edge_of a.max a.a (get_or a.above.now k 0) a.corner) _ (replicate 32 0) a.pred.now a.n (search rules) c.edges.ensures

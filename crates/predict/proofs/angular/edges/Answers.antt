@@ -1,5 +1,4 @@
 -- `angular::edges` meets its contract. The loop fills the list, one entry a turn. Assumes nothing.
-use Prim.Native.Nat.{◌-◌}
 use borrow.Author.Rules.{rules}
 use Rattle.laws.specs.FillLaws.{fill_none, fill_more}
 use Rattle.predict.proofs.angular.edges.Goals as goal

@@ -1,5 +1,4 @@
 -- `angular::flat_row` meets its contract. The loop makes a run, one entry a turn. Assumes nothing.
-use Prim.Native.Nat.{◌-◌}
 use mathlib.Core.Path.{refl}
 use borrow.Author.Rules.{rules}
 use Rattle.laws.specs.FillLaws.{run_none, run_more}

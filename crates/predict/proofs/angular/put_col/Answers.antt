@@ -1,5 +1,4 @@
 -- `angular::put_col` meets its contract. The loop makes a column, one entry a turn. Assumes nothing.
-use Prim.Native.Nat.{◌-◌}
 use mathlib.Core.Path.{refl}
 use borrow.Author.Rules.{rules}
 use Rattle.predict.specs.angular.Grid.{column_none, column_more}

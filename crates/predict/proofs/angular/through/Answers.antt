@@ -7,5 +7,5 @@ use borrow.Author.Rules.{rules}
 use Rattle.predict.proofs.angular.through.Goals as goal
 
 pub returns : goal.returns
-returns c =     let a = c.args in
+returns c = let a = c.args in
     c.copy_row-2.ensures ∙ by_way (λ (k : ℕ). get_or a.refs.now (a.s + k) 0) _ (replicate 32 0) a.pred.now a.at a.n (search rules) c.copy_row.ensures

@@ -12,7 +12,7 @@ pub overflow_sub-end : goal.overflow_sub-end
 overflow_sub-end c = (rows_fit c.args.n c.args.mode c.args.first c.args.end (length c.args.above.now) (length c.args.refs.now) (length c.args.pred.now) (sym c.rows_no-no.ensures ∙ c.if-no-eq0.true)).ordered
 
 pub lines-requires : goal.lines-requires
-lines-requires c =     let f = rows_fit c.args.n c.args.mode c.args.first c.args.end (length c.args.above.now) (length c.args.refs.now) (length c.args.pred.now) (sym c.rows_no-no.ensures ∙ c.if-no-eq0.true) in
+lines-requires c = let f = rows_fit c.args.n c.args.mode c.args.first c.args.end (length c.args.above.now) (length c.args.refs.now) (length c.args.pred.now) (sym c.rows_no-no.ensures ∙ c.if-no-eq0.true) in
     let l = f.low in
     let h = f.high in
     (f.size, (omega arith, (f.above, (f.refs, (f.room, f.part)))))

@@ -10,10 +10,10 @@ rows_long : (s : Start) → (length s.args.rows.above ≡ 65) × (length s.args.
 rows_long s = search rules
 
 pub returns-then-should_filter_refs : goal.returns-then-should_filter_refs
-returns-then-should_filter_refs c =     let a = c.args in
+returns-then-should_filter_refs c = let a = c.args in
     let rule = c.should_filter_refs in
     rows_smoothed a.bits a.n a.mode c.requires a.rows rule.result rule.ensures (rows_long (goal.at.returns-then-should_filter_refs c).Start).0 (rows_long (goal.at.returns-then-should_filter_refs c).Start).1 c.if-should_filter_refs.true c.filter_luma_refs.result c.filter_luma_refs.ensures
 
 pub returns : goal.returns
-returns c =     let a = c.args in
+returns c = let a = c.args in
     rows_kept a.bits a.n a.mode c.requires a.rows c.should_filter_refs.result c.should_filter_refs.ensures c.if-should_filter_refs.false

@@ -1,5 +1,4 @@
 -- `planar_dc::blend_row` meets its contract. The first row of the DC edge: the loop keeps an equation with `fill`.
-use Prim.Native.Nat.{◌-◌}
 use borrow.Author.Rules.{rules}
 use Rattle.laws.specs.FillLaws.{fill_none, fill_more}
 use Rattle.predict.proofs.planar_dc.blend_row.Goals as goal

@@ -9,7 +9,7 @@ use Rattle.predict.specs.planar_dc.Edge.{plain, edged}
 use Rattle.predict.proofs.planar_dc.dc_n.Goals as goal
 
 pub returns-then-filtered : goal.returns-then-filtered
-returns-then-filtered c =     let a = c.args in
+returns-then-filtered c = let a = c.args in
     let pre = c.requires in
     let nb = from_rows 0 a.above.now a.left.now in
     let v = c.mean-value.result in
@@ -18,7 +18,7 @@ returns-then-filtered c =     let a = c.args in
     ∙ edged a.filter_boundary a.n v nb a.pred.now (omega arith) (c.mean-value.ensures ∙ dc_mean a.n pre.0.0.size nb a.all pre.1) (sym c.filtered.ensures ∙ c.if-filtered.true)
 
 pub returns-else-filtered : goal.returns-else-filtered
-returns-else-filtered c =     let a = c.args in
+returns-else-filtered c = let a = c.args in
     let pre = c.requires in
     let nb = from_rows 0 a.above.now a.left.now in
     let v = c.mean-value.result in

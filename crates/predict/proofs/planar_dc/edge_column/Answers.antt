@@ -1,5 +1,4 @@
 -- `planar_dc::edge_column` meets its contract. The first column of the DC edge: the loop keeps an equation with `heads`.
-use Prim.Native.Nat.{◌-◌}
 use borrow.Author.Rules.{rules}
 use Rattle.predict.specs.planar_dc.Stores.{heads_none, heads_more}
 use Rattle.predict.proofs.planar_dc.edge_column.Goals as goal

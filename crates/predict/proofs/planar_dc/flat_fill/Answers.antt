@@ -1,5 +1,4 @@
 -- `planar_dc::flat_fill` meets its contract. One value in every entry: the loop keeps an equation with `fill`.
-use Prim.Native.Nat.{◌-◌}
 use mathlib.Core.Path.{refl}
 use borrow.Author.Rules.{rules}
 use Rattle.laws.specs.FillLaws.{fill_none, fill_more}

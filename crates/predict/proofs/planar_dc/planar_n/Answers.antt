@@ -1,5 +1,4 @@
 -- `planar_dc::planar_n` meets its contract. The rows of planar: the loop keeps an equation with `rows`, whose samples are the standard's (`planar_mix`).
-use Prim.Native.Nat.{◌-◌}
 use mathlib.Core.Path.{◌∙◌}
 use native.Mathlib.Omega.{arith}
 use borrow.Author.Rules.{rules}
@@ -15,7 +14,7 @@ pub loop-row-preserved : goal.loop-row-preserved
 loop-row-preserved c = (search rules, (search rules, c.planar_line.ensures ∙ rows_more _ _ _ _ c.loop-row.invariant.1.1))
 
 pub returns : goal.returns
-returns c =     let a = c.args in
+returns c = let a = c.args in
     let r = c.requires.0 in
     rows_done _ _ _ c.loop-row.invariant.0 c.loop-row-test.false c.loop-row.invariant.1.1
     ∙ rows_same _ _ a.n a.n a.pred.now (λ y x hy hx. planar_mix a.n r.size (from_rows 0 a.above.now a.left.now) y x) (omega arith)

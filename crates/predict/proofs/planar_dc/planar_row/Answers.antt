@@ -1,8 +1,6 @@
 -- `planar_dc::planar_row` meets its contract. A row of planar samples: the loop keeps an equation with `fill`.
-use Prim.Native.Nat.{◌-◌}
 use borrow.Author.Rules.{rules}
 use Rattle.laws.specs.FillLaws.{fill_none, fill_more}
-use Rattle.predict.specs.planar_dc.Flat.{planar_sample}
 use Rattle.predict.proofs.planar_dc.planar_row.Goals as goal
 
 pub loop-col-init : goal.loop-col-init

@@ -1,5 +1,4 @@
 -- `planar_dc::put_row` meets its contract. Samples into the block: the loop keeps an equation with `run`.
-use Prim.Native.Nat.{◌-◌}
 use mathlib.Core.Path.{refl}
 use borrow.Author.Rules.{rules}
 use Rattle.laws.specs.FillLaws.{run_none, run_more}

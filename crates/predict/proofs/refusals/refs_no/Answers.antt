@@ -20,13 +20,13 @@ returns-then-not-size_ok c = if_no _ _ _ _ (sym c.size_ok.ensures ∙ c.if-not-s
 
 pub returns-then-not-mode-mode_ok : goal.returns-then-not-mode-mode_ok
 unfolding refs_no
-returns-then-not-mode-mode_ok c =     let m = c.args.mode in
+returns-then-not-mode-mode_ok c = let m = c.args.mode in
     if_yes _ _ _ _ (size (goal.at.returns-then-not-mode-mode_ok c).Else-not-size_ok) (if_no _ _ _ _ (ap (λ (b : Bool). leb 18 m && b) (sym c.mode_ok.ensures) ∙ c.if-not-mode-mode_ok.true) refl)
 
 pub returns-then-above-row : goal.returns-then-above-row
 unfolding refs_no
-returns-then-above-row c =     if_yes _ _ _ _ (size (goal.at.returns-then-above-row c).Else-not-size_ok) (if_yes _ _ _ _ (inside (goal.at.returns-then-above-row c).Else-not-mode-mode_ok) (if_yes _ _ _ _ (rw c.predictor_row-row.ensures at c.if-above-row.true) refl))
+returns-then-above-row c = if_yes _ _ _ _ (size (goal.at.returns-then-above-row c).Else-not-size_ok) (if_yes _ _ _ _ (inside (goal.at.returns-then-above-row c).Else-not-mode-mode_ok) (if_yes _ _ _ _ (rw c.predictor_row-row.ensures at c.if-above-row.true) refl))
 
 pub returns : goal.returns
 unfolding refs_no
-returns c =     if_yes _ _ _ _ (size (goal.at.returns c).Else-not-size_ok) (if_yes _ _ _ _ (inside (goal.at.returns c).Else-not-mode-mode_ok) (if_no _ _ _ _ (rw c.predictor_row-row.ensures at c.if-above-row.false) refl))
+returns c = if_yes _ _ _ _ (size (goal.at.returns c).Else-not-size_ok) (if_yes _ _ _ _ (inside (goal.at.returns c).Else-not-mode-mode_ok) (if_no _ _ _ _ (rw c.predictor_row-row.ensures at c.if-above-row.false) refl))

@@ -20,17 +20,17 @@ returns-then-not-size_ok c = if_no _ _ _ _ (sym c.size_ok.ensures ∙ c.if-not-s
 
 pub returns-then-not-mode-mode_ok : goal.returns-then-not-mode-mode_ok
 unfolding rows_no
-returns-then-not-mode-mode_ok c =     let m = c.args.mode in
+returns-then-not-mode-mode_ok c = let m = c.args.mode in
     if_yes _ _ _ _ (size (goal.at.returns-then-not-mode-mode_ok c).Else-not-size_ok) (if_no _ _ _ _ (ap (λ (b : Bool). leb 18 m && b) (sym c.mode_ok.ensures) ∙ c.if-not-mode-mode_ok.true) refl)
 
 pub returns-then-first-end : goal.returns-then-first-end
 unfolding rows_no
-returns-then-first-end c =     if_yes _ _ _ _ (size (goal.at.returns-then-first-end c).Else-not-size_ok) (if_yes _ _ _ _ (inside (goal.at.returns-then-first-end c).Else-not-mode-mode_ok) (if_yes _ _ _ _ (rw c.predictor_row-row.ensures at c.if-above-row.true) (if_yes _ _ _ _ c.if-first-end.true refl)))
+returns-then-first-end c = if_yes _ _ _ _ (size (goal.at.returns-then-first-end c).Else-not-size_ok) (if_yes _ _ _ _ (inside (goal.at.returns-then-first-end c).Else-not-mode-mode_ok) (if_yes _ _ _ _ (rw c.predictor_row-row.ensures at c.if-above-row.true) (if_yes _ _ _ _ c.if-first-end.true refl)))
 
 pub returns-then-above-row : goal.returns-then-above-row
 unfolding rows_no
-returns-then-above-row c =     if_yes _ _ _ _ (size (goal.at.returns-then-above-row c).Else-not-size_ok) (if_yes _ _ _ _ (inside (goal.at.returns-then-above-row c).Else-not-mode-mode_ok) (if_yes _ _ _ _ (rw c.predictor_row-row.ensures at c.if-above-row.true) (if_no _ _ _ _ c.if-first-end.false refl)))
+returns-then-above-row c = if_yes _ _ _ _ (size (goal.at.returns-then-above-row c).Else-not-size_ok) (if_yes _ _ _ _ (inside (goal.at.returns-then-above-row c).Else-not-mode-mode_ok) (if_yes _ _ _ _ (rw c.predictor_row-row.ensures at c.if-above-row.true) (if_no _ _ _ _ c.if-first-end.false refl)))
 
 pub returns : goal.returns
 unfolding rows_no
-returns c =     if_yes _ _ _ _ (size (goal.at.returns c).Else-not-size_ok) (if_yes _ _ _ _ (inside (goal.at.returns c).Else-not-mode-mode_ok) (if_no _ _ _ _ (rw c.predictor_row-row.ensures at c.if-above-row.false) refl))
+returns c = if_yes _ _ _ _ (size (goal.at.returns c).Else-not-size_ok) (if_yes _ _ _ _ (inside (goal.at.returns c).Else-not-mode-mode_ok) (if_no _ _ _ _ (rw c.predictor_row-row.ensures at c.if-above-row.false) refl))

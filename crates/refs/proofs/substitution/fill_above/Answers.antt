@@ -1,5 +1,4 @@
 -- The row above from its first entry. Assumes nothing.
-use Prim.Native.Nat.{◌-◌}
 use native.Mathlib.Omega.{arith}
 use Rattle.laws.specs.FillLaws.{fill_none}
 use Rattle.refs.specs.substitution.Line.{carried_start}
@@ -10,7 +9,7 @@ pub loop-i-init : goal.loop-i-init
 loop-i-init c = (omega arith, (carried_start _ _ _, fill_none _ _))
 
 pub loop-i-preserved : goal.loop-i-preserved
-loop-i-preserved c =     let k = c.loop-i in
+loop-i-preserved c = let k = c.loop-i in
     let a = c.args in (
       omega arith,
       above_turn a.has.now a.start a.row.now k.i k.invariant.1.0 k.invariant.1.1

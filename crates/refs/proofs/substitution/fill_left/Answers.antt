@@ -1,5 +1,4 @@
 -- The left row from its far end. Assumes nothing.
-use Prim.Native.Nat.{◌-◌}
 use native.Mathlib.Omega.{arith}
 use Rattle.refs.specs.substitution.Line.{carried_start, carried_done}
 use Rattle.refs.specs.substitution.FarEnd.{down_none, down_all}
@@ -10,7 +9,7 @@ pub loop-p-init : goal.loop-p-init
 loop-p-init c = (omega arith, (carried_start _ _ _, down_none _ _ _))
 
 pub loop-p-preserved : goal.loop-p-preserved
-loop-p-preserved c =     let k = c.loop-p in
+loop-p-preserved c = let k = c.loop-p in
     let a = c.args in (
       omega arith,
       left_turn a.has.now a.start a.row.now a.e k.p (omega arith) k.invariant.1.0 k.invariant.1.1
@@ -18,5 +17,5 @@ loop-p-preserved c =     let k = c.loop-p in
     )
 
 pub returns : goal.returns
-returns c =     let k = c.loop-p in
+returns c = let k = c.loop-p in
     (carried_done _ _ _ k.invariant.0 (omega arith) k.invariant.1.0, down_all _ _ _ k.invariant.0 (omega arith) k.invariant.1.1)

@@ -1,7 +1,5 @@
 -- The search along the line. Assumes nothing.
 use mathlib.Core.Path.{sym, ◌∙◌}
-use mathlib.Core.Bool.{false}
-use Prim.Native.Nat.{◌-◌}
 use native.Mathlib.Omega.{arith}
 use Rattle.refs.specs.substitution.Line.{first_here, first_skip, first_end}
 use Rattle.refs.proofs.substitution.first_marked.Goals as goal

@@ -5,7 +5,7 @@ use Rattle.refs.specs.substitution.InPlace.{above_settled, settled_rows}
 use Rattle.refs.proofs.substitution.settle.Goals as goal
 
 pub returns : goal.returns
-returns c =     let a = c.args in
+returns c = let a = c.args in
     let l = c.fill_left-beside in
     let k = c.choose-between in
     two_set_back a.two.now _ _ _ c.requires.2

@@ -3,5 +3,5 @@ use Rattle.samples.specs.filters.Filters.{straight_is}
 use Rattle.samples.proofs.filters.is_straight.Goals as goal
 
 pub returns : goal.returns
-returns c =     let a = c.args in
+returns c = let a = c.args in
     rw (c.abs_diff.ensures, c.largest_of.ensures) (straight_is a.bits a.corner a.mid a.far)

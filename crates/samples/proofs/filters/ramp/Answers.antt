@@ -4,5 +4,5 @@ use Rattle.samples.specs.filters.Filters.{ramp_is}
 use Rattle.samples.proofs.filters.ramp.Goals as goal
 
 pub returns : goal.returns
-returns c =     let a = c.args in
+returns c = let a = c.args in
     rw c.mix.ensures.0 (ramp_is (a.x % 64) a.corner a.far (omega arith))

@@ -6,7 +6,7 @@ use Rattle.walk.specs.block.PredictedLaws.{predicted_is}
 use Rattle.walk.proofs.block.predict_block.Goals as goal
 
 pub returns : goal.returns
-returns c =     let a = c.args in
+returns c = let a = c.args in
     let h = c.requires in
     let p = c.predict_luma_tb_slices.ensures in
     let g = c.get_reference_samples-g.ensures ∙ ap (get_reference_samples a.plane.now) c.geometry.ensures in

@@ -1,5 +1,4 @@
 -- `block_rows::rebuild_rows` meets its contract. The loop's invariant: the rows passed are stored. Rests on `rebuild_row`.
-use Prim.Native.Nat.{◌-◌}
 use mathlib.Core.Path.{◌∙◌}
 use Rattle.laws.specs.Paint.{paint_none, paint_more}
 use borrow.Author.Rules.{rules}

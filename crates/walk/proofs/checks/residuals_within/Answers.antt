@@ -1,5 +1,4 @@
 -- `checks::residuals_within` meets its contract. The loop's invariant: the flag says whether the residuals passed keep the limit.
-use Prim.Native.Nat.{◌-◌}
 use lib.ListN.{get_or}
 use lib.IntN.{pos}
 use Rattle.laws.specs.Signed.{held}
@@ -12,7 +11,7 @@ pub loop-i-init : goal.loop-i-init
 loop-i-init c = (search rules, pass_none _ (pos 0) _)
 
 pub loop-i-preserved : goal.loop-i-preserved
-loop-i-preserved c =     let l = c.loop-i in
+loop-i-preserved c = let l = c.loop-i in
     let a = c.args in
     let v = a.residuals.now in
     let e = rw (held (get_or v l.i (pos 0)) c.residual_within-arg-1.given) at c.residual_within-ok.ensures in
