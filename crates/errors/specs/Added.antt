@@ -1,6 +1,6 @@
 -- How figures add up: what a tally adds in two steps it adds in one, in either order; over a list of them, in any order and in any parts.
 -- That a sum keeps the limits of number 15. Rests on what a counted pair rests on.
-use Rattle.std.specs.Prelude.{◌≡◌, refl, Bool, true, ◌&&◌, leb, eqb, get_or, replicate}
+use Rattle.std.specs.Prelude.{◌≡◌, refl, true, ◌&&◌, leb, eqb, get_or, replicate}
 use Rattle.std.proofs.Common.{sym, ap, ap₂, ◌∙◌, subst, arith, add-mul, add_comm, add_assoc, leb-true, eqb-true}
 use mathlib.Core.List.{List, [], ◌∷◌, Permᴰ}
 use Prim.Native.Nat.{ℕ, ◌+◌, ◌-◌, ◌*◌, ◌/◌, ◌^◌, ◌≤◌, ◌<◌}
@@ -16,12 +16,11 @@ use Rattle.order.specs.Good.{Good}
 use Rattle.plan.specs.declared.tiling.Frame.{Frame}
 use Rattle.plan.specs.tiling.Tiling.{picture_of}
 use Rattle.plan.specs.tiling.Tests.{picture_good}
-use Rattle.plan.specs.tiling.Plan.{Plan}
 use Rattle.errors.specs.declared.Report.{Report}
-use Rattle.errors.specs.Errors.{Tally, tallied, tally_of, pair_tally, raised, fresh_report, plane_area, top_of, samples_so_far}
+use Rattle.errors.specs.Errors.{Tally, tallied, tally_of, raised, fresh_report, plane_area, top_of, samples_so_far}
 use Rattle.errors.specs.Errors.{keeps_limits, same_settings, join_no, join_reports}
-use Rattle.errors.specs.Served.{Figured, Limitable, Countable}
-use Rattle.errors.specs.Limits.{raised_at, length_raised, same_figures, limits_small, limits_each, pair_modest}
+use Rattle.errors.specs.Served.{Figured, Limitable}
+use Rattle.errors.specs.Limits.{raised_at, length_raised, same_figures, limits_small, limits_each}
 
 -- a tally and another
 abbrev pub both_tallies : Tally → Tally → Tally
@@ -191,17 +190,6 @@ module _ (r : Report) (t : Tally) (limits : keeps_limits r ≡ true) (modest : M
       }} (record { depth = d; picture = g; few = few }) in
       let w = sum_within m in
       (omega (arith, w.0, s.0), (omega (arith, w.1.0, s.0), omega (arith, w.1.1, s.1.1)))
-
--- a counted pair keeps the limits
-pub pair_keeps : {r : Report} {fit : Bool} {a b : List ℕ} {plan : Plan} → Countable r fit a b plan → Figured r
-    → keeps_limits (tallied r (pair_tally r.frame a b plan)) ≡ true
-pair_keeps {r} {fit} {a} {b} {plan} c long = limits_kept r (pair_tally r.frame a b plan) c.limits modest long
-  where
-    modest : Modest r (pair_tally r.frame a b plan)
-    modest m =
-        let p = pair_modest c m in
-        let e : 1 * plane_area r ≡ plane_area r = omega arith in
-        (omega (arith, p.0, e), (omega (arith, p.1.0, e), omega (arith, p.1.1, ap (λ (v : ℕ). v * (top_of r * top_of r)) e)))
 
 -- two reports whose sum is not refused
 pub record Joinable (r s : Report) : Type 0 where

@@ -1,8 +1,7 @@
 -- Errors: what a report counts, and what a pair of planes or another report adds to it.
 pub mod Errors
--- ByMode: sums by mode add up to the whole.
-pub mod ByMode
--- Served: what a counted pair rests on. Limits: number 15, and that no sum is too large. Added: any order, any parts.
+-- Served: what a counted pair rests on. Limits: number 15. Added: any order, any parts. In proofs/, ByMode: sums by
+-- mode add up to the whole; Limits: no sum is too large.
 pub mod Served
 pub mod Limits
 pub mod Added

@@ -1,21 +1,21 @@
 -- A pair of planes under a plan of records, block by block: the report with the blocks passed so far, and what the call gives in the end.
 -- Rests on the turns of the loop over the blocks.
-use Rattle.std.specs.Prelude.{◌≡◌, refl, ◌&&◌, List, ℕ, ◌+◌, ◌<◌, length}
+use Rattle.std.specs.Prelude.{◌≡◌, ◌&&◌, List, ℕ, ◌+◌, ◌<◌, length}
 use Rattle.std.proofs.Math.Path.{sym, ap, ap₂}
-use Rattle.std.proofs.Common.{◌∙◌, arith, eqb-true}
+use Rattle.std.proofs.Common.{◌∙◌, arith}
 use Rattle.std.proofs.Math.Decide.{ℕ_discrete}
-use Rattle.laws.specs.Choose.{served, worked, unserved, both_true}
+use Rattle.laws.specs.Choose.{served, worked, unserved}
 use Rattle.plan.specs.declared.tiling.Block.{Block}
 use Rattle.plan.specs.declared.tiling.Verdict.{Verdict}
-use Rattle.plan.specs.tiling.Plan.{Plan, listed}
+use Rattle.plan.specs.tiling.Plan.{listed}
 use Rattle.plan.specs.tiling.PlanCheck.{plan_verdict}
 use Rattle.errors.specs.declared.Report.{Report}
 use Rattle.errors.specs.declared.Counted.{Counted}
 use Rattle.errors.specs.declared.Start.{Start}
 use Rattle.errors.specs.Errors.{of_mode, one, samples_in, squares_in, raised, tallied, pair_tally, top_of, at_most, room_for_pair, pair_no}
 use Rattle.errors.specs.Errors.{settle_full, pair_verdict, planes_fit, counted_by, count_pair}
-use Rattle.errors.specs.Served.{BlockPair, RoomFor, under_mode, Countable, Figured, countable, pair_of}
-use Rattle.errors.specs.Limits.{raise_none, Passing, turn_fits, turn_more}
+use Rattle.errors.specs.Served.{BlockPair, RoomFor, under_mode, Countable, Figured, countable}
+use Rattle.errors.specs.Limits.{raise_none}
 
 -- what a call comes to before it counts, and what it gives
 abbrev pub start_on : Report → List ℕ → List ℕ → ℕ → Verdict → Start
@@ -101,33 +101,6 @@ with_none r a b plan long = λ i. record {
   samples = raise_none samples_in plan r.samples long.1.0 i;
   squares = raise_none (squares_in a b r.frame.width) plan r.squares long.1.1 i;
 }
-
--- a turn of the loop
-module _ {r : Report} {a b : List ℕ} {plan : Plan} (c : Countable r (planes_fit r (length a) (length b)) a b plan) (long : Figured r)
-    (k : ℕ) (l : k < plan.count) (t : Block) (e : t ≡ plan.block k) where
-  abbrev sofar : Report
-  sofar = with_blocks r a b plan.block k
-
-  passing : Passing c k sofar.blocks sofar.samples sofar.squares
-  passing = (omega arith, (refl, (refl, refl)))
-
-  pub turn_roomy : Addable (with_blocks r a b plan.block k) a b t
-  turn_roomy =
-      let f = both_true _ _ c.fits in
-      record {
-        pair = pair_of c k t e l (eqb-true _ _ f.0) (eqb-true _ _ f.1);
-        room = turn_fits c long passing l t e _ refl;
-      }
-
-  pub turn_with : with_block (with_blocks r a b plan.block k) a b t ≡ with_blocks r a b plan.block (k + 1)
-  turn_with = let m = turn_more c long passing l t e _ refl in λ i. record {
-    bits = r.bits;
-    frame = r.frame;
-    pairs = r.pairs;
-    blocks = m.1.0 i;
-    samples = m.1.1.0 i;
-    squares = m.1.1.1 i;
-  }
 
 -- the call as a whole: v is its verdict, of which `upto` was made
 module _ (r : Report) (a b : List ℕ) (l : List Block) (long : Figured r) {x : Start} {found : Verdict}

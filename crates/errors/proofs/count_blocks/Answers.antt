@@ -3,7 +3,7 @@ use borrow.Author.Tests.{eqb-true}
 use borrow.Author.Rules.{rules}
 use Rattle.laws.specs.Choose.{both_true}
 use Rattle.errors.specs.Served.{Figured, pair_of}
-use Rattle.errors.specs.Limits.{passing_none, turn_fits, turn_added}
+use Rattle.errors.proofs.Limits.{passing_none, turn_fits, turn_added}
 use Rattle.errors.proofs.count_blocks.Goals as goal
 use Rattle.errors.proofs.count_blocks.Goals.{After-squares-1}
 

@@ -1,4 +1,4 @@
--- The page Errors, proved. Rests on the sums over a good plan (errors/specs/ByMode) and on how figures add up (errors/specs/Added).
+-- The page Errors, proved. Rests on the sums over a good plan (errors/proofs/ByMode) and on how figures add up (errors/specs/Added).
 use Rattle.std.specs.Prelude.{◌≡◌, refl, Bool, true, ℕ, ◌+◌, ◌*◌, length, get_or, replicate}
 use Rattle.std.proofs.Math.Path.{sym, ap}
 use Rattle.std.proofs.Common.{◌∙◌, subst, arith, eq-eqb, lt-ltb}
@@ -18,10 +18,11 @@ use Rattle.errors.specs.declared.Counted.{Counted}
 use Rattle.errors.specs.declared.Joined.{Joined}
 use Rattle.errors.specs.Errors.{Tally, error_at, pair_tally, tally_of, tallied, raised, keeps_limits}
 use Rattle.errors.specs.Errors.{room_for_pair, planes_fit, pair_verdict, settle_full, counted_by, join_no, join_reports, pair_no}
-use Rattle.errors.specs.ByMode.{blocks_whole, samples_whole, picture_whole}
+use Rattle.errors.proofs.ByMode.{blocks_whole, samples_whole, picture_whole}
 use Rattle.errors.specs.Served.{Figured, Countable, countable, settled_zero}
 use Rattle.errors.specs.Limits.{raised_at}
-use Rattle.errors.specs.Added.{tallied_figured, fresh_figured, tallied_order, tallied_all, any_order, counted_apart, pair_keeps, joinable}
+use Rattle.errors.specs.Added.{tallied_figured, fresh_figured, tallied_order, tallied_all, any_order, counted_apart, joinable}
+use Rattle.errors.proofs.Limits.{pair_keeps}
 use Rattle.promises.specs.errors.Errors.{Pair, plan_lent, adds, all_modes, WholePair, Gives, Counting, CountedAll, no_pair, one-pair}
 use Rattle.promises.specs.errors.Errors.{sum_over, ErrorsPromise}
 

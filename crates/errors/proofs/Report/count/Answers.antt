@@ -5,7 +5,8 @@ use Rattle.plan.specs.declared.tiling.Block.{Block}
 use Rattle.plan.specs.tiling.Plan.{listed}
 use Rattle.errors.specs.declared.Report.{Report}
 use Rattle.errors.specs.Served.{Figured}
-use Rattle.errors.specs.Listed.{Addable, with_block, with_none, turn_roomy, turn_with, call_counts, call_few, call_ends}
+use Rattle.errors.specs.Listed.{Addable, with_block, with_none, call_counts, call_few, call_ends}
+use Rattle.errors.proofs.Turns.{turn_roomy, turn_with}
 use Rattle.errors.proofs.Report.count.Goals as goal
 
 pub loop-i-init : goal.loop-i-init

@@ -8,7 +8,7 @@ use Rattle.laws.specs.Choose.{both_true}
 use Rattle.octets.specs.Laws.{length_samples}
 use Rattle.errors.specs.Errors.{plane_area}
 use Rattle.errors.specs.Served.{Figured, pair_of}
-use Rattle.errors.specs.Limits.{passing_none, turn_fits, turn_added}
+use Rattle.errors.proofs.Limits.{passing_none, turn_fits, turn_added}
 use Rattle.errors.proofs.on_bytes.count_blocks.Goals as goal
 use Rattle.errors.proofs.on_bytes.count_blocks.Goals.{After-squares-1}
 
