@@ -237,6 +237,7 @@ fn early_no(r: Report, whole: bool, a: &[u16], b: &[u16]) -> u32
 }
 
 // The number of the checks before the plan's, then the plan's verdict, then 15: the count first, so that no limit is too large.
+#[tactic(auto, unfolding(crate::specs::Errors::settle_full, crate::specs::Errors::room_for_pair))]
 pub(crate) fn settled(r: Report, early: u32, found: Verdict) -> Verdict
     requires { early ≡ 0 → Depth r.bits × Good (picture_of r.frame) }
     ensures { result ≡ settle_full early found (room_for_pair r) }
