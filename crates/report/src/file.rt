@@ -94,6 +94,7 @@ fn regions_ok(t: Trailer, start: usize) -> bool
 }
 
 // Whether number 12 is not given.
+#[tactic(auto, unfolding(crate::specs::file::File::file_ok))]
 pub(crate) fn file_ok(b: &[u8]) -> bool
     ensures { result ≡ file_ok b.now }
 {
