@@ -1,6 +1,6 @@
 -- The limits of number 15: that they can be worked out in 64 bits, and what a figure is that is raised. That a counted pair keeps them, and the
 -- turns of the loop over the blocks: proofs/Limits. Rests on what a counted pair rests on.
-use Rattle.std.specs.Prelude.{◌≡◌, Bool, true, ◌&&◌, List, ℕ, ◌+◌, ◌-◌, ◌*◌, ◌/◌, ◌≤◌, ◌<◌, length, get_or}
+use Rattle.std.specs.Prelude.{◌≡◌, Bool, true, ◌&&◌, List, ℕ, ◌+◌, ◌*◌, ◌/◌, ◌≤◌, ◌<◌, length, get_or}
 use Rattle.std.proofs.Common.{sym, ◌∙◌, arith, mul-le-mul, ext_get_or}
 use Rattle.laws.specs.Choose.{both_true}
 use Rattle.laws.specs.Every.{most_at}
