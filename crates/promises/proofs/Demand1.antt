@@ -637,7 +637,7 @@ walk_probes_salvrunde_probe_replay_row κs = tabled_first (λ a x s p. ap (λ r.
 report_report_row : (κs : Lfts 1) → Prints (report-report.Post κs) (λ a. a.0.now)
 report_report_row κs a x s p = (p, program a.0.now)
 
--- A function that is proved by hand has no such reading: of its clause, an assertion of any model, the same follows.
+-- The functions that hold a reference to a struct or to records: of their clauses, assertions of any model, the same follows.
 module _ {M : Type 1} {𝓤 : Ura M} (𝓛 : Logic 𝓤) (mem : Memory → SProp 𝓤) (run : Routine → Fun 𝓤) where
   -- whatever answer meets a clause meets a claim
   abbrev Told : (T : Ended) (κs : Lfts T.signature.lifetimes) → Clauses 𝓤 T

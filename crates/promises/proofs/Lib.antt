@@ -1,5 +1,5 @@
--- The theorems that rest on the words of specs/, page by page. Demand1: the table of numbers at every public function that gives one, over its
--- contract. Program: intrawalk prints a refusal, or all blocks and `same`.
+-- The theorems that rest on the words of specs/, page by page. Demand1: the table of numbers at every public function that gives one,
+-- over its contract. Program: intrawalk prints a refusal, or all blocks and `same`.
 pub mod Demand1
 pub mod Program
 pub mod demand3

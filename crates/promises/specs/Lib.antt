@@ -1,7 +1,7 @@
--- What the owner asked for, on pages that a stranger reads; what rests on their words is in proofs/, page by page. tables and run_tables: the
--- rows of the table of numbers, and what a refusal leaves; one_answer: that a contract settles its answer. Demand 1 itself, the table at every
--- public function that gives a number, is proofs/Demand1.
--- Demand 2: gathering, smoothing and prediction are H.265's. Demand 3: walk and replay; OnBytes: the same for replays on bytes.
+-- What the owner asked for, on pages that a stranger reads; what rests on their words is in proofs/, page by page. tables and run_tables:
+-- the rows of the table of numbers, and what a refusal leaves; one_answer: that a contract settles its answer. Demand 1 itself, the table
+-- at every public function that gives a number, is proofs/Demand1. Demand 2: gathering, smoothing and prediction are H.265's. Demand 3:
+-- walk and replay; OnBytes: the same for replays on bytes.
 pub mod demand2
 pub mod demand3
 pub mod OnBytes

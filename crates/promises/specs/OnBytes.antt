@@ -1,7 +1,7 @@
--- Document 01, demand 3 on bytes: the entry `salvrunde_replay` replays in a plane's own bytes, in any calls, each given the record that the
--- one before wrote into its result buffer. `replayed` is what the entry's contract says; bytes spell samples, residuals and plans by
--- `samples_of`, `residuals_of` and `records_of`, and what holds of a replay of those (demand3/Demand3) holds here. demand3/ProofBytes proves
--- it all.
+-- Document 01, demand 3 on bytes: the entry `salvrunde_replay` replays in a plane's own bytes, in any calls, each given the record that
+-- the one before wrote into its result buffer. `replayed` is what the entry's contract says; bytes spell samples, residuals and plans by
+-- `samples_of`, `residuals_of` and `records_of`, and what holds of a replay of those (demand3/Demand3) holds here. demand3/ProofBytes
+-- proves it all.
 use Rattle.std.specs.Prelude.{ℕ, ◌-◌, ◌*◌, ◌≤◌, ◌<◌, min, ◌≡◌, true, List, map, ℤ, length, get_or}
 use Rattle.std.specs.Int.{w32}
 use Rattle.std.proofs.Common.{SFits}

@@ -1,6 +1,5 @@
--- Document 01's demand 3; what the page on bytes (OnBytes) needs is here too. No code.
--- Demand3: document 01's demand 3, for a reader, over Calls: a call of walk or replay, and a chain of calls. Proof3 of proofs/demand3 proves it;
--- Example there is a walk that is served.
+-- Document 01's demand 3; what the page on bytes (OnBytes) needs is here too. No code. Demand3: document 01's demand 3, for a reader,
+-- over Calls: a call of walk or replay, and a chain of calls. Proof3 of proofs/demand3 proves it; Example there is a walk that is served.
 pub mod Calls
 pub mod Demand3
 -- Chains: a chain of calls is one call. Accept: what it means that a call is not refused. Gives: what one call of a door gives.

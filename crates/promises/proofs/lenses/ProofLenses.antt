@@ -1,5 +1,6 @@
 -- The page Lenses, proved but for the doors (ProofDoors). The contracts' equations give a turn's answer and what it leaves, and name
--- nothing that the scratch holds: so the law of turns holds. A lens's own turns are then a chain of calls, of which demand 3 speaks. Rests on both.
+-- nothing that the scratch holds: so the law of turns holds. A lens's own turns are then a chain of calls, of which demand 3 speaks.
+-- Rests on both.
 use Rattle.std.specs.Prelude.{◌≡◌, true, ℕ, ◌+◌, min, ℤ}
 use Rattle.std.proofs.Math.Path.{refl, sym, ap, subst}
 use Rattle.std.proofs.Common.{◌∙◌, arith}

@@ -1,5 +1,5 @@
--- Document 01, 'use from C': that the table of numbers is met at the camera's entries, where number 5 counts bytes. Rests on Exact and on the
--- doors' tables.
+-- Document 01, 'use from C': that the table of numbers is met at the camera's entries, where number 5 counts bytes. Rests on Exact and on
+-- the doors' tables.
 use Rattle.std.specs.Prelude.{◌≡◌, Bool, List, [], ◌∷◌, ℕ, ◌*◌, ◌%◌, ◌<◌, length}
 use Rattle.std.proofs.Math.Path.{refl}
 use Rattle.std.proofs.Common.{arith}

@@ -134,7 +134,7 @@ Writes {A} {Last} post call n clause =
     (pred pred' : LentMutSlice) (last last' : Last) (number : ℕ) → post (call pred last) number (call pred' last') → number ≡ 0
     → Holds n clause pred'.now
 
--- Of a door that is proved by hand the prover has no such reading: its contract is an assertion of any model, from which the fact follows.
+-- The same of a door's clauses: they are an assertion of any model, from which the fact follows.
 abbrev pub WritesHeld : {M : Type 1} (𝓤 : Ura M) {A : Type 0} → (A → ℕ → A → SProp 𝓤) → (LentMutSlice → Scratch → A) → ℕ → (ℕ → ℕ → ℕ) → Type 1
 WritesHeld 𝓤 {A} ensures call n clause =
     (pred pred' : LentMutSlice) (last last' : Scratch) (number : ℕ) → number ≡ 0
@@ -153,7 +153,7 @@ Gathers κ plane geo g = gather.Post κ (plane and geo and none) g (plane and ge
 abbrev pub GathersPair : Lfts 2 → LentSlice → LentSlice → ChromaRefGeometry → GatheredPair → Type 0
 GathersPair κs cb cr geo g = pair-gather.Post κs (cb and cr and geo and none) g (cb and cr and geo and none) × (g.no ≡ 0)
 
--- predict's doors with the scratch as a struct, which are proved by hand
+-- predict's doors with the scratch as a struct, said of their clauses
 module _ {M : Type 1} {𝓤 : Ura M} (𝓛 : Logic 𝓤) (mem : Memory → SProp 𝓤) (run : Routine → Fun 𝓤) where
   pub record WithScratch : Type 1 where
     pub predict_angular_into : (κs : Lfts 4) (corner : ℕ) (above left : LentSlice) (n mode : ℕ) (edge : Bool) (bits : ℕ)

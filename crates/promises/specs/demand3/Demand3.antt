@@ -1,6 +1,6 @@
--- Documents 01 and 02, demand 3: what a walk of a still gives, and that a replay of it gives the still back, however either is split
--- into calls. A call, a chain of calls and the names used here are in Calls; that the doors make such calls is said of their contracts, at the end.
--- `predicted_at` is H.265's own prediction of a block from a plane. Proof3 proves it all.
+-- Documents 01 and 02, demand 3: what a walk of a still gives, and that a replay of it gives the still back, however either is split into
+-- calls. A call, a chain of calls and the names used here are in Calls; that the doors make such calls is said of their contracts, at the
+-- end. `predicted_at` is H.265's own prediction of a block from a plane. Proof3 proves it all.
 use Rattle.std.specs.Prelude.{ℕ, ◌+◌, ◌-◌, ◌≤◌, ◌<◌, min, ◌≡◌, true, List, ℤ, pos, nat_abs, ◌+ℤ◌, ◌-ℤ◌, length, get_or}
 use seplogic.Ra.Ura.{Ura}
 use base.Logic.{SProp, ent}
@@ -178,7 +178,7 @@ pub record Demand3 : Type 2 where
       (self, (still, (rows, (cols, (sides, (modes, (residuals, (plane, (refs, (indices, (fractions, (grant, tt)))))))))))) r e
       → ReplayGave (task still (plan_of rows.now cols.now sides.now modes.now)) residuals.now (held self plane.now)
       (ask grant (tables refs.now indices.now fractions.now)) r (held r.next e.1.1.1.1.1.1.1.0.now)
-  -- the doors over records are proved by hand: their clause is an assertion of any model, and entails the same
+  -- the doors over records, said of their clauses: a clause is an assertion of any model, and entails the same
   pub by_walk : {M : Type 1} {𝓤 : Ura M} (𝓛 : Logic 𝓤) (mem : Memory → SProp 𝓤) (run : Routine → Fun 𝓤) (κs : Lfts 5)
       (self : Progress) (still : Still) (plan : Bor (List Block)) (source : Bor (List ℕ)) (work : MutBor (List ℕ)) (residuals : MutBor (List ℤ))
       (scratch : MutBor AngularScratch) (grant : ℕ) (r : Stepped) (e : AtExit walk-records.ended κs)

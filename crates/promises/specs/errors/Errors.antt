@@ -103,8 +103,8 @@ pub record WholeList (frame : Frame) (ps : List Counting) (s : Report) : Type 0 
   pub squares_are : all_modes s.squares ≡ sum_over (λ p. picture_total (error_at p.a p.b frame.width) frame) ps
 
 pub record ErrorsPromise : Type 2 where
-  -- the three doors: plans of numbers, planes and plans of bytes, plans of records; the last is proved by hand, so that its clause is an
-  -- assertion of any model
+  -- the three doors: plans of numbers, planes and plans of bytes, plans of records; the last is said of its clauses, an assertion of any
+  -- model
   pub by_numbers : (κ : Lfts 6) (r : Report) (p : Pair) (v : Counted) → CountsPair κ r p v → Gives r p.a.now p.b.now (plan_lent p) v
   pub by_bytes : (κ : Lfts 3) (r : Report) (a b plan : LentSlice) (v : Counted) → CountsBytes κ r a b plan v
       → Gives r (samples_of a.now) (samples_of b.now) (records_of plan.now) v

@@ -201,7 +201,7 @@ pub record LensDoors : Type 2 where
       (scratch_of refs.now indices.now fractions.now) r
       (of_lens source (held other (world work residuals.now)) (held r.next s.0.now))
       (scratch_of s.1.0.now s.1.1.0.now s.1.1.1.0.now)
-  -- the doors over records are proved by hand: their clause is an assertion of any model, and entails the same
+  -- the doors over records, said of their clauses: a clause is an assertion of any model, and entails the same
   pub turn_walk : {M : Type 1} {𝓤 : Ura M} (𝓛 : Logic 𝓤) (mem : Memory → SProp 𝓤) (run : Routine → Fun 𝓤) (κs : Lfts 5)
       (stills : ℕ → Still) (l : ℕ) (self : Progress) (plan : Bor (List Block)) (source : Bor (List ℕ)) (work : MutBor (List ℕ)) (residuals : MutBor (List ℤ))
       (scratch : MutBor AngularScratch) (grant : ℕ) (other : Held (List ℕ)) (r : Stepped) (e : AtExit walk-records.ended κs)

@@ -816,8 +816,8 @@ walk_walk_numbers_once κs a x y s t p q =
 report_report_once : (κs : Lfts 1) → Once (report-report.Post κs)
 report_report_once κs a x y s t p q = p ∙ sym q
 
--- A function that is proved by hand has no such reading: its clause is an assertion of any model, and two answers that both meet it
--- there are one.
+-- The functions that hold a reference to a struct or to records, said of their clauses: a clause is an assertion of any model, and two
+-- answers that both meet it there are one.
 module _ {M : Type 1} {𝓤 : Ura M} (𝓛 : Logic 𝓤) (mem : Memory → SProp 𝓤) (run : Routine → Fun 𝓤) where
   abbrev OnceHeld : (T : Ended) (κs : Lfts T.signature.lifetimes) {L : Type 0} → (AtExit T κs → L) → Clauses 𝓤 T → Type 1
   OnceHeld T κs lent c = (a : Args T.signature κs) (g : (c κs a).ghost) (x y : Res T.signature κs) (s t : AtExit T κs)

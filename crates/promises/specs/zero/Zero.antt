@@ -117,7 +117,7 @@ pub record SameLumaBlocks (n : ℕ) (rows rows₂ : Rows) : Type 0 where
       → SameBlock n (luma-fresh.Post κs) (λ pred last. mode and rows and n and bits and pred and last)
       (luma-fresh.Post κt) (λ pred last. mode and rows₂ and n and bits and pred and last)
 
--- the doors with the scratch as a struct, which are proved by hand: over rows they write the block of any rows that agree below entry 2n
+-- the doors with the scratch as a struct, said of their clauses: over rows they write the block of any rows that agree below entry 2n
 module _ {M : Type 1} {𝓤 : Ura M} (𝓛 : Logic 𝓤) (mem : Memory → SProp 𝓤) (run : Routine → Fun 𝓤) where
   pub record SameWithScratch : Type 1 where
     pub angular_held : (n corner corner₂ : ℕ) (above left above₂ left₂ : LentSlice)
