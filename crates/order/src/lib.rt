@@ -8,6 +8,8 @@ ghost use Rattle.std.specs.Prelude.{◌≡◌, ◌+◌, ◌-◌, ◌*◌, ◌/�
 ghost use Rattle.h265.specs.Notation.{log2};
 ghost use Rattle.h265.specs.Order.{z_scan};
 ghost use Rattle.order.specs.Order.{place_ok, order_no, decode_order, before, is_available};
+ghost use Rattle.order.specs.Answers.{numbered, flagged};
+ghost use Rattle.domain.specs.Refusal.{no_of};
 ghost use Rattle.order.specs.Good.{Good, Power, Small, shifts_of};
 ghost use Rattle.order.specs.Reach.{leading, in_plane, reach_by, luma_has, luma_reach_no, luma_reach};
 ghost use Rattle.order.specs.Reach.{has_chroma, chroma_block_ok, chroma_has, chroma_reach_no, chroma_reach};
@@ -17,6 +19,7 @@ ghost use Rattle.fmt.specs.Fmt.{Subsampling};
 ghost use Rattle.domain.specs.Facts.{Size};
 
 use domain::helpers;
+use domain::refusal::Refusal;
 use fmt::{ChromaCol, ChromaFormat, ChromaRow, LumaCol, LumaRow};
 
 // A picture as the order sees it: its luma sides, its CTU and its least unit.
@@ -33,20 +36,6 @@ pub struct Picture {
 pub struct LumaNeighbour {
     pub row: i64,
     pub col: i64,
-}
-
-// A call's number, 0 for done, and its value, 0 where it is refused.
-#[derive(Clone, Copy)]
-pub struct Numbered {
-    pub no: u32,
-    pub value: u32,
-}
-
-// A call's number, and its flag, false where it is refused.
-#[derive(Clone, Copy)]
-pub struct Flagged {
-    pub no: u32,
-    pub yes: bool,
 }
 
 // The picture's grid as the code goes by it: shifts from samples to cells and from cells to CTUs, the cells along a CTU,
@@ -113,32 +102,27 @@ fn number(s: Shifts, row: usize, col: usize) -> usize
     cell_number(row >> unit, col >> unit, s.levels, s.cells, s.ctus)
 }
 
-// The number that refuses a place, or 0.
-fn order_no(p: Picture, row: LumaRow, col: LumaCol) -> u32
-    ensures { result ≡ order_no p row col }
+// Whether a place is in a picture that has an order, or why it is refused.
+#[tactic(auto, unfolding(crate::specs::Order::order_no))]
+fn check_place(p: Picture, row: LumaRow, col: LumaCol) -> Result<(), Refusal>
+    ensures { no_of result ≡ order_no p row col }
 {
     if !domain::picture_ok(p.width, p.height, p.ctu) {
-        return 4;
+        return Err(Refusal::Picture);
     }
     if !(domain::unit_ok(p.unit) & (row.0 < p.height) & (col.0 < p.width)) {
-        return 6;
+        return Err(Refusal::Place);
     }
-    0
+    Ok(())
 }
 
-pub fn decode_order(r: LumaRow, c: LumaCol, picture: Picture) -> Numbered
-    ensures { result ≡ decode_order picture r c }
+// The number, in decode order, of the cell that holds a luma sample.
+pub fn decode_order(r: LumaRow, c: LumaCol, picture: Picture) -> Result<u32, Refusal>
+    ensures { numbered result ≡ decode_order picture r c }
 {
-    let no = order_no(picture, r, c);
-    if no != 0 {
-        return Numbered { no, value: 0 };
-    }
+    check_place(picture, r, c)?;
     let s = shifts_of(picture);
-    let value = number(s, r.0 as usize, c.0 as usize);
-    Numbered {
-        no: 0,
-        value: value as u32,
-    }
+    Ok(number(s, r.0 as usize, c.0 as usize) as u32)
 }
 
 // Whether a place is in the picture and has a number below limit.
@@ -166,27 +150,27 @@ fn comes_before(p: Picture, limit: usize, row: i64, col: i64) -> bool
     inside_before(p, limit, row as usize, col as usize)
 }
 
+// Whether a luma neighbour is available to a block.
 pub fn is_available(
     neighbour: LumaNeighbour,
     block_row: LumaRow,
     block_col: LumaCol,
     picture: Picture,
-) -> Flagged
-    ensures { result ≡ is_available picture neighbour block_row block_col }
+) -> Result<bool, Refusal>
+    ensures { flagged result ≡ is_available picture neighbour block_row block_col }
 {
-    let no = order_no(picture, block_row, block_col);
-    if no != 0 {
-        return Flagged { no, yes: false };
-    }
+    check_place(picture, block_row, block_col)?;
     let cur = number(
         shifts_of(picture),
         block_row.0 as usize,
         block_col.0 as usize,
     );
-    Flagged {
-        no: 0,
-        yes: comes_before(picture, cur, neighbour.row, neighbour.col),
-    }
+    Ok(comes_before(
+        picture,
+        cur,
+        neighbour.row,
+        neighbour.col,
+    ))
 }
 
 // A luma block of side n in its picture.
