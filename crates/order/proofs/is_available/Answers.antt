@@ -28,6 +28,6 @@ pub returns : goal.returns
 returns c = let a = c.args in
     avail_is a.picture a.neighbour a.block_row a.block_col _ _ _ _ (sym c.in_ok-check_place.ensures)
     (number_of c.args.picture _ _ c.args.block_row.0 c.args.block_col.0 c.shifts_of.ensures c.number-cur.ensures)
-    (to_z-of_z {w = w64} a.neighbour.row (record { sfits = c.struct_told-1.given.0.1 }))
-    (to_z-of_z {w = w64} a.neighbour.col (record { sfits = c.struct_told-2-1.given.1.0.1 }))
+    (to_z-of_z {w = w64} (record { sfits = c.struct_told-1.given.0.1 }))
+    (to_z-of_z {w = w64} (record { sfits = c.struct_told-2-1.given.1.0.1 }))
     c.comes_before.ensures
