@@ -16,8 +16,8 @@ ghost use Rattle.refs.specs.Door.{luma_geometry, chroma_geometry};
 
 use checksum::RowRange;
 use domain::rows::Rows;
-use fmt::depth::{BitDepth, DepthFrom};
-use fmt::{ChromaCol, ChromaFormat, ChromaRow, FormatFrom, LumaCol, LumaRow};
+use fmt::depth::BitDepth;
+use fmt::{ChromaCol, ChromaFormat, ChromaRow, LumaCol, LumaRow};
 use order::{LumaNeighbour, Picture};
 use refs::substitution::Flags;
 use refs::{ChromaRefGeometry, LumaRefGeometry, substitution};
@@ -37,14 +37,14 @@ pub extern "C" fn salvrunde_probe_depth(bits: u32) -> DepthFigures
     ensures { result ≡ depth_figures bits }
 {
     match BitDepth::from_bits(bits) {
-        DepthFrom::Depth(d) => DepthFigures {
+        Ok(d) => DepthFigures {
             no: 0,
             bits: d.bits() as u32,
             largest: d.max_val() as u32,
             neutral: d.neutral() as u32,
         },
-        DepthFrom::Refused => DepthFigures {
-            no: 1,
+        Err(why) => DepthFigures {
+            no: why.number(),
             bits: 0,
             largest: 0,
             neutral: 0,
@@ -66,12 +66,12 @@ pub extern "C" fn salvrunde_probe_format(idc: u32) -> FormatFigures
     ensures { result ≡ format_figures idc }
 {
     match ChromaFormat::from_idc(idc) {
-        FormatFrom::Format(f) => FormatFigures {
+        Some(f) => FormatFigures {
             known: 1,
             across: f.sub_w() as u32,
             down: f.sub_h() as u32,
         },
-        FormatFrom::Unknown => FormatFigures {
+        None => FormatFigures {
             known: 0,
             across: 1,
             down: 1,
@@ -94,7 +94,7 @@ pub extern "C" fn salvrunde_probe_on_luma(idc: u32, row: u32, col: u32) -> Place
     ensures { result ≡ on_luma idc row col }
 {
     match ChromaFormat::from_idc(idc) {
-        FormatFrom::Format(f) => {
+        Some(f) => {
             let r = f.luma_row(ChromaRow(row));
             let c = f.luma_col(ChromaCol(col));
             Place {
@@ -103,7 +103,7 @@ pub extern "C" fn salvrunde_probe_on_luma(idc: u32, row: u32, col: u32) -> Place
                 col: c.0,
             }
         }
-        FormatFrom::Unknown => Place {
+        None => Place {
             known: 0,
             row: 0,
             col: 0,
@@ -117,7 +117,7 @@ pub extern "C" fn salvrunde_probe_on_chroma(idc: u32, row: u32, col: u32) -> Pla
     ensures { result ≡ on_chroma idc row col }
 {
     match ChromaFormat::from_idc(idc) {
-        FormatFrom::Format(f) => {
+        Some(f) => {
             let r = f.chroma_row(LumaRow(row));
             let c = f.chroma_col(LumaCol(col));
             Place {
@@ -126,7 +126,7 @@ pub extern "C" fn salvrunde_probe_on_chroma(idc: u32, row: u32, col: u32) -> Pla
                 col: c.0,
             }
         }
-        FormatFrom::Unknown => Place {
+        None => Place {
             known: 0,
             row: 0,
             col: 0,

@@ -4,7 +4,7 @@
 -- `a.1.0` the second; `b`, `c` and `d` begin with the fifth, the ninth and the thirteenth. tests/doors finds a public function that
 -- gives a number and has no theorem here. What a refusal leaves: tables/Refused and run_tables/Refused. Rests on the rows of tables and
 -- run_tables.
-use Rattle.std.specs.Prelude.{◌≡◌, refl, List, ℕ, length}
+use Rattle.std.specs.Prelude.{◌≡◌, refl, List, ℕ, length, Result, Ok, Err}
 use Rattle.std.proofs.Common.{sym, ◌∙◌, subst}
 use Rattle.std.proofs.Math.Path.{ap}
 use seplogic.Ra.Ura.{Ura}
@@ -16,8 +16,8 @@ use contract.Lifetimes.{Lfts}
 use contract.Monad.{Fun, fact, fact_mono}
 use denote.Triple.Clauses.{Ended, AtExit, Clauses}
 use denote.Triple.Entry.{Args, Res}
-use Rattle.fmt.specs.declared.depth.DepthFrom.{DepthFrom}
-use Rattle.fmt.specs.declared.depth.DepthFrom.TheVariants.{Depth, Refused}
+use Rattle.domain.specs.declared.refusal.Refusal.{Refusal}
+use Rattle.fmt.specs.declared.depth.BitDepth.{BitDepth}
 use Rattle.fmt.specs.depth.Depth.{depth_from, depth_number}
 use Rattle.refs.specs.Door.{luma_block, luma_geometry, chroma_block, chroma_geometry}
 use Rattle.checksum.specs.Checksum.{row_range}
@@ -174,9 +174,9 @@ abbrev Prints : {A S : Type 0} → (A → Printout → S → Type 0) → (A → 
 Prints {A} {S} post input = (a : A) (x : Printout) (s : S) → post a x s → (x ≡ report_of (input a)) × ProgramTable (input a)
 
 -- a depth's figures have the number of the answer that they are read from
-figures_number : (d : DepthFrom) → (figures_of d).no ≡ depth_number d
-figures_number (Depth d) = refl
-figures_number Refused = refl
+figures_number : (d : Result BitDepth Refusal) → (figures_of d).no ≡ depth_number d
+figures_number (Ok d) = refl
+figures_number (Err why) = refl
 
 -- fmt
 depth_from_bits_row : Tabled (depth-from-bits.Post tt) depth_number (λ a. depth-from a.0)

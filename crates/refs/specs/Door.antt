@@ -1,11 +1,9 @@
 -- Document 01: what the doors of the two gathers refuse, and what they give. Assumes nothing.
-use Rattle.std.specs.Prelude.{ℕ, ◌*◌, Bool, ◌&&◌, List, [], ◌∷◌, leb, eqb, length}
+use Rattle.std.specs.Prelude.{ℕ, ◌*◌, Bool, ◌&&◌, List, [], ◌∷◌, leb, eqb, length, Option, Some, None}
 use Rattle.laws.specs.Choose.{◌unless◌, first_fail, served}
 use Rattle.domain.specs.Domain.{depth_ok, size_ok}
 use Rattle.fmt.specs.declared.ChromaFormat.{ChromaFormat}
 use Rattle.fmt.specs.declared.ChromaFormat.TheVariants.{Monochrome}
-use Rattle.fmt.specs.declared.FormatFrom.{FormatFrom}
-use Rattle.fmt.specs.declared.FormatFrom.TheVariants.{Format, Unknown}
 use Rattle.fmt.specs.Fmt.{format_from}
 use Rattle.order.specs.declared.Picture.{Picture}
 use Rattle.order.specs.declared.LumaBlock.{LumaBlock}
@@ -77,9 +75,9 @@ get_reference_samples plane g = let k = luma_no (length plane) g in record { no 
 
 -- The chroma pair gather refuses 1, 2, 4, 5, 6. Order is counted in the picture's CTUs; formats go by chroma_format_idc, and an unknown
 -- one is refused as monochrome is.
-abbrev pub format_in : FormatFrom → ChromaFormat
-format_in (Format f) = f
-format_in Unknown = Monochrome
+abbrev pub format_in : Option ChromaFormat → ChromaFormat
+format_in (Some f) = f
+format_in None = Monochrome
 
 abbrev pub format_of : ℕ → ChromaFormat
 format_of idc = format_in (format_from idc)

@@ -15,7 +15,7 @@ ghost use Rattle.refs.specs.Seen.{corner_seen, entry_in, padded, with_corner, pa
 
 use domain::rows;
 use domain::rows::{Gathered, Rows};
-use fmt::{ChromaCol, ChromaFormat, ChromaRow, FormatFrom, LumaCol, LumaRow, depth};
+use fmt::{ChromaCol, ChromaFormat, ChromaRow, LumaCol, LumaRow, depth};
 use order::{ChromaBlock, LumaBlock, Picture, Reach};
 
 // A call's number, and the rows of Cb and of Cr, all 0 where it is refused.
@@ -253,8 +253,8 @@ fn format_of(idc: u32) -> ChromaFormat
     ensures { result ≡ format_of idc }
 {
     match ChromaFormat::from_idc(idc) {
-        FormatFrom::Format(f) => f,
-        FormatFrom::Unknown => ChromaFormat::Monochrome,
+        Some(f) => f,
+        None => ChromaFormat::Monochrome,
     }
 }
 

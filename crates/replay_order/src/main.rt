@@ -9,8 +9,8 @@ ghost use Rattle.std.specs.Prelude.{◌+◌, ◌≤◌, ◌<◌, IfOk, length, t
 ghost use Rattle.std.specs.Io.{ReadsAtMost};
 ghost use Rattle.std.specs.Io.KnownBytes.{Consumes, IsAtEnd};
 
-use fmt::depth::{BitDepth, DepthFrom};
-use fmt::{ChromaFormat, FormatFrom, LumaCol, LumaRow};
+use fmt::depth::BitDepth;
+use fmt::{ChromaFormat, LumaCol, LumaRow};
 use listing::Count;
 use order::{LumaNeighbour, Picture};
 use std::io;
@@ -40,24 +40,24 @@ fn call_of(list: &[u8], line: u16) -> [u32; 10] {
 // Whether a door gives another answer than the list has.
 fn depth_differs(call: [u32; 10]) -> bool {
     match BitDepth::from_bits(call[0]) {
-        DepthFrom::Depth(d) => {
+        Ok(d) => {
             let bits = d.bits() as u32;
             let largest = d.max_val() as u32;
             let neutral = d.neutral() as u32;
             (call[1] != 0) | (call[2] != bits) | (call[3] != largest) | (call[4] != neutral)
         }
-        DepthFrom::Refused => call[1] != 1,
+        Err(_) => call[1] != 1,
     }
 }
 
 fn format_differs(call: [u32; 10]) -> bool {
     match ChromaFormat::from_idc(call[0]) {
-        FormatFrom::Format(f) => {
+        Some(f) => {
             let across = f.sub_w();
             let down = f.sub_h();
             (call[1] != 1) | ((call[2] as usize) != across) | ((call[3] as usize) != down)
         }
-        FormatFrom::Unknown => call[1] != 0,
+        None => call[1] != 0,
     }
 }
 

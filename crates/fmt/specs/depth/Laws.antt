@@ -1,12 +1,11 @@
 -- A depth's figures by its bits: all ones, half of the range; and what the figures of a number are that is a depth. Rests on the
 -- domain's depths.
-use Rattle.std.specs.Prelude.{◌≡◌, refl, Bool, false, true, cond, ◌||◌, ℕ, ◌-◌, ◌^◌, eqb, Result, Ok, Err}
+use Rattle.std.specs.Prelude.{◌≡◌, refl, Bool, false, true, cond, ◌||◌, ℕ, ◌-◌, ◌^◌, eqb, Ok, Err}
 use Rattle.std.proofs.Common.{ap, true≢false}
 use Rattle.domain.specs.Domain.{depth_ok}
 use Rattle.domain.specs.Facts.{Depth as IsDepth, at_depth}
 use Rattle.fmt.specs.declared.depth.BitDepth.{BitDepth}
 use Rattle.fmt.specs.declared.depth.BitDepth.TheVariants.{Eight, Ten, Twelve}
-use Rattle.domain.specs.declared.refusal.Refusal.{Refusal}
 use Rattle.domain.specs.declared.refusal.Refusal.TheVariants.{Depth}
 use Rattle.fmt.specs.depth.Depth.{bits_of, max_val, neutral, figure_in, largest_of, neutral_of}
 

@@ -1,7 +1,7 @@
 -- `order::decode_order` meets its contract: refused as its place is, or the place's own number.
 use Rattle.std.proofs.Common.{sym, arith, ne_eqb}
 use Rattle.std.proofs.lemmas.Result.{err_from_is_err_and}
-use Rattle.domain.specs.Refusal.{never_0}
+use Rattle.domain.specs.Refused.{never_0}
 use Rattle.order.specs.Order.{decode_order}
 use Rattle.order.specs.Good.{good_of, small_of, number_of, number_small}
 use Rattle.order.proofs.decode_order.Goals as goal

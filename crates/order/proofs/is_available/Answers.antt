@@ -2,7 +2,7 @@
 use Rattle.std.proofs.Common.{sym, arith, to_z-of_z, ne_eqb}
 use Rattle.std.proofs.lemmas.Result.{err_from_is_err_and}
 use Rattle.std.specs.Int.{w64}
-use Rattle.domain.specs.Refusal.{never_0}
+use Rattle.domain.specs.Refused.{never_0}
 use Rattle.order.specs.Signs.{avail_is}
 use Rattle.order.specs.Order.{is_available}
 use Rattle.order.specs.Good.{good_of, small_of, number_of}

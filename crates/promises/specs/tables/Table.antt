@@ -14,20 +14,18 @@
 -- residual::reconstruct_into            reconstruct  The plan check, walk and replay, whose numbers carry a block, are in
 -- promises/specs/run_tables/TableWalk; the camera's entries and the two of gather that store rows in TableBytes there; what a
 -- refused call gives back is in Refused.
-use Rattle.std.specs.Prelude.{◌≡◌, Bool, true, false, cond, ◌&&◌, ◌||◌, List, [], ◌∷◌, ◌↔◌, ℕ, zero, suc, ◌+◌, ◌*◌, ◌/◌, ◌%◌, ◌<◌, ◌≤◌, leb, eqb, ℤ, pos, nat_abs, length, get_or}
+use Rattle.std.specs.Prelude.{◌≡◌, None, Ok, Err, Bool, true, false, cond, ◌&&◌, ◌||◌, List, [], ◌∷◌, ◌↔◌, ℕ, zero, suc, ◌+◌, ◌*◌, ◌/◌, ◌%◌, ◌<◌, ◌≤◌, leb, eqb, ℤ, pos, nat_abs, length, get_or}
 use Rattle.std.proofs.Math.Path.{refl}
 use Rattle.std.proofs.Common.{ap, subst, true≢false, inl, inr, ⊎_elim, not-suc-le-zero, eq-or-lt_of_le, le_of_suc-le-suc, arith, le-leb, eq-eqb, ne_eqb, eqb-true, leb-true, leb-false}
 use Rattle.std.proofs.lemmas.Bool.{false≢true, eqb-false}
 use Rattle.domain.specs.Domain.{depth_ok, size_ok, side_ok, ctu_ok, unit_ok}
 use Rattle.domain.specs.Facts.{Depth, Size, Side, Ctu, Unit, depth_of, size_of, side-of, ctu_of, unit_of, at_depth, at_size, size_small}
 use Rattle.fmt.specs.declared.depth.BitDepth.TheVariants.{Eight, Ten, Twelve}
-use Rattle.fmt.specs.declared.depth.DepthFrom.TheVariants.{Refused}
-use Rattle.fmt.specs.declared.depth.DepthFrom.TheVariants as depths
+use Rattle.domain.specs.declared.refusal.Refusal.TheVariants as refusals
 use Rattle.fmt.specs.declared.ChromaFormat.{ChromaFormat}
 use Rattle.fmt.specs.declared.ChromaFormat.TheVariants.{Monochrome, Yuv420, Yuv422, Yuv444}
 use Rattle.fmt.specs.declared.LumaRow.{LumaRow}
 use Rattle.fmt.specs.declared.LumaCol.{LumaCol}
-use Rattle.fmt.specs.declared.FormatFrom.TheVariants.{Unknown}
 use Rattle.fmt.specs.depth.Depth.{depth_from, depth_number}
 use Rattle.fmt.specs.Fmt.{format_from, sub_width}
 use Rattle.order.specs.declared.Picture.{Picture}
@@ -127,17 +125,17 @@ depth-from bits = subst (λ (k : ℕ). Exact k ((1 when ¬ Depth bits) ∷ [])) 
     (exact_row (depth bits) refl (λ e. exact_none))
   where
     go : (a b c : Bool) → cond (a || b || c) 0 1 ≡ depth_number
-        (cond a (depths.Depth Eight) (cond b (depths.Depth Ten) (cond c (depths.Depth Twelve) Refused)))
+        (cond a (Ok Eight) (cond b (Ok Ten) (cond c (Ok Twelve) (Err refusals.Depth))))
     go true b c = refl
     go false true c = refl
     go false false true = refl
     go false false false = refl
 
 -- a format refuses nothing: above 3 it is unknown, and only the chroma gather has a number for that
-pub format-from : (idc : ℕ) → (format_from idc ≡ Unknown) ↔ (3 < idc)
+pub format-from : (idc : ℕ) → (format_from idc ≡ None) ↔ (3 < idc)
 format-from idc = (λ e. go (leb idc 3) refl e, λ h. unknown (λ k l e. omega (arith, e)))
   where
-    unknown : ((k : ℕ) → k ≤ 3 → ¬ (idc ≡ k)) → format_from idc ≡ Unknown
+    unknown : ((k : ℕ) → k ≤ 3 → ¬ (idc ≡ k)) → format_from idc ≡ None
     unknown h = simp (
       ne_eqb idc 0 (h 0 (omega arith)),
       ne_eqb idc 1 (h 1 (omega arith)),
@@ -146,14 +144,14 @@ format-from idc = (λ e. go (leb idc 3) refl e, λ h. unknown (λ k l e. omega (
           (h 3 (omega arith)),
     )
 
-    named : (k : ℕ) → k ≤ 3 → ¬ (format_from k ≡ Unknown)
+    named : (k : ℕ) → k ≤ 3 → ¬ (format_from k ≡ None)
     named zero h e = let z : ◌≡◌ {A = ℕ} 0 1 = cc in omega arith
     named (suc zero) h e = let z : ◌≡◌ {A = ℕ} 0 1 = cc in omega arith
     named (suc (suc zero)) h e = let z : ◌≡◌ {A = ℕ} 0 1 = cc in omega arith
     named (suc (suc (suc zero))) h e = let z : ◌≡◌ {A = ℕ} 0 1 = cc in omega arith
     named (suc (suc (suc (suc k)))) h e = omega arith
 
-    go : (b : Bool) → leb idc 3 ≡ b → format_from idc ≡ Unknown → 3 < idc
+    go : (b : Bool) → leb idc 3 ≡ b → format_from idc ≡ None → 3 < idc
     go true q e = absurd (named idc (leb-true idc 3 q) e)
     go false q e = leb-false idc 3 q
 
