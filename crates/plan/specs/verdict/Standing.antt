@@ -8,8 +8,8 @@ use Rattle.order.specs.Order.{picture_ok}
 use Rattle.order.specs.Good.{Good}
 use Rattle.plan.specs.declared.tiling.Frame.{Frame}
 use Rattle.plan.specs.declared.tiling.Block.{Block}
-use Rattle.plan.specs.declared.tiling.Verdict.{Verdict}
-use Rattle.plan.specs.declared.verdict.Checking.{Checking}
+use Rattle.plan.specs.Answers.{Verdict}
+use Rattle.plan.specs.Answers.{Checking}
 use Rattle.plan.specs.tiling.Tiling.{picture_of}
 use Rattle.plan.specs.tiling.Plan.{Plan}
 use Rattle.plan.specs.tiling.Check.{block_number}

@@ -1,8 +1,8 @@
--- `block_check::block_no` meets its contract, test by test.
+-- `block_check::check_block` meets its contract, test by test.
 use mathlib.Core.Path.{sym, ◌∙◌}
 use mathlib.Core.Bool.{true, false}
 use Rattle.plan.specs.tiling.Tests.{no_2, no_3, no_6, no_last}
-use Rattle.plan.proofs.block_check.block_no.Goals as goal
+use Rattle.plan.proofs.block_check.check_block.Goals as goal
 
 pub returns-then-not-size_ok : goal.returns-then-not-size_ok
 returns-then-not-size_ok c = no_2 _ _ _ (sym c.size_ok.ensures ∙ c.if-not-size_ok.true)
