@@ -25,7 +25,7 @@ use Rattle.errors.specs.declared.Counted.{Counted}
 use Rattle.errors.specs.Errors.{counted_by}
 use Rattle.errors.specs.RecordBytes.{Entered, count_entry}
 use Rattle.predict.specs.refusals.Refusals.{lengths}
-use Rattle.plan.specs.declared.tiling.Verdict.{Verdict}
+use Rattle.plan.specs.Answers.{Verdict}
 use Rattle.plan.specs.tiling.Plan.{plan_of, listed}
 use Rattle.walk.specs.declared.checks.Still.{Still}
 use Rattle.walk.specs.Lent.{tables, scratch_tables, world}

@@ -7,7 +7,7 @@ use Rattle.laws.specs.FillLaws.{length_fill}
 use Rattle.plan.specs.declared.tiling.Block.{Block}
 use Rattle.plan.specs.tiling.Tiling.{place}
 use Rattle.plan.specs.tiling.Plan.{Plan}
-use Rattle.walk.specs.declared.Stepped.{Stepped}
+use Rattle.walk.specs.Answers.{Stepped}
 use Rattle.walk.specs.block.Walked.{World}
 use Rattle.walk.specs.calls.Door.{walk_verdict, walk_after}
 use Rattle.walk.specs.Door.{stepped_by}

@@ -2,7 +2,7 @@
 use Rattle.std.specs.Prelude.{ℕ, zero, suc, ◌*◌, cond, List, [], ◌++◌, eqb, ℤ, pos, length, replicate}
 use Rattle.std.specs.Borrow.{Bor}
 use denote.Triple.Both.{Both}
-use Rattle.plan.specs.declared.tiling.Verdict.{Verdict}
+use Rattle.plan.specs.Answers.{Verdict}
 use Rattle.plan.specs.declared.tiling.Block.{Block}
 use Rattle.plan.specs.tiling.Tiling.{place}
 use Rattle.plan.specs.tiling.Plan.{Plan}

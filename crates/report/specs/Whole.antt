@@ -11,12 +11,12 @@ use Rattle.laws.specs.Choose.{if_yes, if_no, both_true, unserved}
 use Rattle.domain.specs.Facts.{size_small}
 use Rattle.report.specs.declared.file.Trailer.{Trailer}
 use Rattle.report.specs.file.File.{trailer_of, area_of, regions_ok, file_ok, tabulated, source_of, plan_in}
-use Rattle.plan.specs.declared.tiling.Verdict.{Verdict}
+use Rattle.plan.specs.Answers.{Verdict}
 use Rattle.plan.specs.tiling.Plan.{Plan, plan_of}
 use Rattle.plan.specs.tiling.Cover.{area as plan-area}
 use Rattle.walk.specs.declared.checks.Still.{Still}
 use Rattle.walk.specs.declared.Progress.{Progress}
-use Rattle.walk.specs.declared.Stepped.{Stepped}
+use Rattle.walk.specs.Answers.{Stepped}
 use Rattle.walk.specs.block.Walked.{World}
 use Rattle.walk.specs.calls.Door.{walk_verdict, walk_after, replay_after}
 use Rattle.walk.specs.calls.Ready.{Sound}

@@ -10,7 +10,7 @@ use Rattle.laws.specs.Choose.{worked, unserved}
 use Rattle.laws.specs.Chain.{units}
 use Rattle.octets.specs.Bytes.{samples_of, bytes_of, residuals_of}
 use Rattle.octets.specs.Laws.{AreBytes, length_samples, length_residuals, bytes_back}
-use Rattle.plan.specs.declared.tiling.Verdict.{Verdict}
+use Rattle.plan.specs.Answers.{Verdict}
 use Rattle.plan.specs.RecordPlan.{records_of}
 use Rattle.walk.specs.declared.checks.Still.{Still}
 use Rattle.walk.specs.checks.Checks.{largest_in, call_no, residual_checks, replay_fits}

@@ -18,7 +18,7 @@ use Rattle.plan.specs.tiling.Plan.{plan_of, listed}
 use Rattle.plan.specs.tiling.Tiling.{In, Of, Covered}
 use Rattle.walk.specs.declared.checks.Still.{Still}
 use Rattle.walk.specs.declared.Progress.{Progress}
-use Rattle.walk.specs.declared.Stepped.{Stepped}
+use Rattle.walk.specs.Answers.{Stepped}
 use Rattle.walk.specs.checks.Checks.{Tables, is_roomy, largest_in}
 use Rattle.walk.specs.block.Predicted.{sample_at, predicted_at}
 use Rattle.walk.specs.block.Walked.{World}

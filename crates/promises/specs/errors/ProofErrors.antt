@@ -6,7 +6,7 @@ use mathlib.Core.List.{List, [], ◌∷◌, Permᴰ}
 use contract.Monad.{fact_mono}
 use Rattle.laws.specs.Choose.{worked, unserved, both_same}
 use Rattle.laws.specs.Sum.{total, total_same, total_plus}
-use Rattle.plan.specs.declared.tiling.Verdict.{Verdict}
+use Rattle.plan.specs.Answers.{Verdict}
 use Rattle.plan.specs.declared.tiling.Frame.{Frame}
 use Rattle.plan.specs.tiling.Plan.{Plan, listed}
 use Rattle.plan.specs.tiling.PlanCheck.{plan_verdict}

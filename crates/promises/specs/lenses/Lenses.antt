@@ -20,7 +20,7 @@ use Rattle.plan.specs.tiling.Plan.{Plan, plan_of, listed}
 use Rattle.plan.specs.tiling.Tiling.{Covered}
 use Rattle.walk.specs.declared.checks.Still.{Still}
 use Rattle.walk.specs.declared.Progress.{Progress}
-use Rattle.walk.specs.declared.Stepped.{Stepped}
+use Rattle.walk.specs.Answers.{Stepped}
 use Rattle.walk.specs.checks.Checks.{Tables}
 use Rattle.walk.specs.block.Predicted.{sample_at}
 use Rattle.walk.specs.block.Walked.{World}

@@ -13,13 +13,13 @@ use Rattle.laws.specs.Every.{every}
 use Rattle.domain.specs.Facts.{Depth, Size}
 use Rattle.plan.specs.declared.tiling.Frame.{Frame}
 use Rattle.plan.specs.declared.tiling.Block.{Block}
-use Rattle.plan.specs.declared.tiling.Verdict.{Verdict}
+use Rattle.plan.specs.Answers.{Verdict}
 use Rattle.plan.specs.tiling.Tiling.{picture_of, In, Covered, Next}
 use Rattle.plan.specs.tiling.Plan.{Plan}
 use Rattle.plan.specs.tiling.PlanCheck.{blocks_verdict}
 use Rattle.walk.specs.declared.checks.Still.{Still}
 use Rattle.walk.specs.declared.Progress.{Progress}
-use Rattle.walk.specs.declared.Stepped.{Stepped}
+use Rattle.walk.specs.Answers.{Stepped}
 use Rattle.walk.specs.checks.Checks.{largest_in, Tables, opening_no, settle}
 use Rattle.promises.specs.tables.Exact.{Row, ◌when◌, ◌or◌, Exact, ExactFirst, Tells, exact_none, exact_row}
 use Rattle.promises.specs.tables.Exact.{first_exact, first_test, all_of, at-most, same}

@@ -3,8 +3,8 @@ use Rattle.std.specs.Prelude.{◌≡◌, ℕ, min, ◌+◌, ◌-◌}
 use Rattle.std.proofs.Common.{◌∙◌}
 use Rattle.std.proofs.Math.Path.{ap}
 use Rattle.laws.specs.Choose.{served, worked, unserved}
-use Rattle.plan.specs.declared.tiling.Verdict.{Verdict}
-use Rattle.walk.specs.declared.calls.Step.{Step}
+use Rattle.plan.specs.Answers.{Verdict}
+use Rattle.walk.specs.Answers.{Step}
 
 -- what a call that is served does: the lesser of the grant and what remains
 abbrev pub doing_of : ℕ → ℕ → ℕ → ℕ

@@ -12,7 +12,7 @@ use Rattle.domain.specs.Facts.{Depth, depth_of}
 use Rattle.fmt.specs.depth.Depth.{largest_of}
 use Rattle.fmt.specs.depth.Laws.{largest_of_is}
 use Rattle.order.specs.Order.{picture_ok}
-use Rattle.plan.specs.declared.tiling.Verdict.{Verdict}
+use Rattle.plan.specs.Answers.{Verdict}
 use Rattle.plan.specs.tiling.Tiling.{picture_of}
 use Rattle.samples.specs.deltas.Deltas.{residual_ok, residual_within}
 use Rattle.walk.specs.declared.checks.Still.{Still}

@@ -2,7 +2,7 @@
 use mathlib.Core.Path.{◌≡◌, sym, ap, ◌∙◌}
 use Prim.Native.Nat.{ℕ, ◌%◌}
 use lib.ListN.{length}
-use Rattle.plan.specs.declared.tiling.Verdict.{Verdict}
+use Rattle.plan.specs.Answers.{Verdict}
 use Rattle.camera.specs.replay.Verdict.{Lent}
 use Rattle.camera.specs.replay.Laws.{serves, plane_kept, result_refused, plane_done, result_served, all_three}
 use borrow.Author.Rules.{rules}

@@ -3,7 +3,7 @@ use mathlib.Core.Path.{◌≡◌, sym, ap, ap₂, ◌∙◌}
 use mathlib.Core.Bool.{Bool, ◌&&◌}
 use Prim.Native.Nat.{ℕ}
 use lib.ListN.{length}
-use Rattle.plan.specs.declared.tiling.Verdict.{Verdict}
+use Rattle.plan.specs.Answers.{Verdict}
 use Rattle.plan.specs.tiling.Plan.{plan_of}
 use Rattle.plan.specs.tiling.Tests.{picture_good}
 use Rattle.errors.specs.Errors.{pair_tally, planes_fit, pair_verdict, pair_no, settle_full, room_for_pair, at_most, top_of}

@@ -1,8 +1,8 @@
--- `checks::residuals_no` meets its contract: residuals that keep the tighter limit keep the other. Assumes nothing.
+-- `checks::check_residuals` meets its contract: residuals that keep the tighter limit keep the other. Assumes nothing.
 use mathlib.Core.Path.{sym, ◌∙◌}
 use native.Mathlib.Omega.{arith}
 use Rattle.walk.specs.checks.Laws.{all_within}
-use Rattle.walk.proofs.checks.residuals_no.Goals as goal
+use Rattle.walk.proofs.checks.check_residuals.Goals as goal
 
 pub returns-then-residuals_within : goal.returns-then-residuals_within
 returns-then-residuals_within c = let a = c.args in
