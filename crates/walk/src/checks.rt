@@ -7,8 +7,9 @@ ghost use Rattle.samples.specs.deltas.Deltas.{residual_within};
 ghost use Rattle.walk.specs.checks.Checks.{is_whole, is_roomy, opening_no, residual_checks, replay_no, walk_no, settle};
 
 use fmt::depth;
+use octets::lent;
 use plan::tiling::{Frame, Verdict};
-use samples::{deltas, ranges};
+use samples::deltas;
 
 // A still: its depth, its luma sides and its CTU.
 #[derive(Clone, Copy)]
@@ -114,7 +115,7 @@ pub(crate) fn walk_no(
     if no != 0 {
         return no;
     }
-    if ranges::samples_ok(source, depth::largest_of(s.bits)) {
+    if lent::samples_ok(source, depth::largest_of(s.bits)) {
         0
     } else {
         7
