@@ -164,9 +164,9 @@ fn put(out: &mut [u8], at: usize, v: u16)
     requires { 2 * at + 1 < length out.old }
     ensures { out.new ≡ set (set out.old (2 * at) (v % 256)) (2 * at + 1) (byte1 v) }
 {
-    let low = 2 * at;
-    out[low] = octets::byte_0(v as u32);
-    out[low + 1] = octets::byte_1(v as u32);
+    let [low, high] = v.to_le_bytes();
+    out[2 * at] = low;
+    out[2 * at + 1] = high;
 }
 
 // Stores one value `count` times.

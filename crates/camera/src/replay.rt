@@ -46,8 +46,9 @@ fn put_sample(b: &mut [u8], i: usize, v: u16)
     ensures { samples_of b.new ≡ set (samples_of b.old) i v }
 {
     let at = 2 * i;
-    b[at] = octets::byte_0(v as u32);
-    b[at + 1] = octets::byte_1(v as u32);
+    let [low, high] = v.to_le_bytes();
+    b[at] = low;
+    b[at + 1] = high;
 }
 
 // A row of n samples from base on, its predictions from `from` on, its residuals from `at` on.
@@ -237,10 +238,11 @@ pub(crate) fn put_word(b: &mut [u8], at: usize, v: u32)
     requires { at + 3 < length b.old }
     ensures { b.new ≡ put_word b.old at v }
 {
-    b[at] = octets::byte_0(v);
-    b[at + 1] = octets::byte_1(v);
-    b[at + 2] = octets::byte_2(v);
-    b[at + 3] = octets::byte_3(v);
+    let [first, second, third, fourth] = v.to_le_bytes();
+    b[at] = first;
+    b[at + 1] = second;
+    b[at + 2] = third;
+    b[at + 3] = fourth;
 }
 
 // Writes the block number and the progress record into a result buffer that has room for them.

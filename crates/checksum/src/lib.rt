@@ -13,7 +13,7 @@ ghost use Rattle.checksum.specs.Laws.{sample_adds, column_adds};
 
 use domain::helpers;
 use fmt::depth;
-use samples::ranges;
+use octets::lent;
 
 // A plane of a depth, its sides, and the rows from first up to end.
 #[derive(Clone, Copy)]
@@ -145,7 +145,7 @@ pub(crate) fn number_by(r: RowRange, fit: bool, ok: bool) -> u32
 pub fn picture_checksum(plane: &[u16], r: RowRange, sum: u32) -> Summed
     ensures { result ≡ checksum_of r plane.now sum }
 {
-    let ok = ranges::samples_ok(plane, depth::largest_of(r.bits));
+    let ok = lent::samples_ok(plane, depth::largest_of(r.bits));
     let no = number_by(r, plane.len() == area(r), ok);
     if no != 0 {
         return Summed { no, sum: 0 };

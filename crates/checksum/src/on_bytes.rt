@@ -9,6 +9,7 @@ ghost use Rattle.checksum.specs.Laws.{column_adds};
 
 use crate::{RowRange, Summed};
 use fmt::depth;
+use octets::lent;
 
 // The sample of two bytes, the lower first.
 fn sample_at(plane: &[u8], i: usize) -> u16
@@ -57,7 +58,7 @@ fn rows_sum(plane: &[u8], r: RowRange, roomy: bool, sum: u32) -> u32
 pub fn picture_checksum_bytes(plane: &[u8], r: RowRange, sum: u32, roomy: bool) -> Summed
     ensures { result ≡ checksum_on_bytes r roomy plane.now sum }
 {
-    let ok = octets::samples_ok(plane, depth::largest_of(r.bits));
+    let ok = lent::samples_ok(plane, depth::largest_of(r.bits));
     let whole = octets::whole_in(plane.len(), crate::area(r));
     let no = crate::number_by(r, roomy & whole, ok);
     if no != 0 {

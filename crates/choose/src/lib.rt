@@ -19,8 +19,9 @@ ghost use Rattle.choose.specs.Early.{source_from, UpTo, Upward};
 ghost use Rattle.choose.specs.Sums.{turned_at, TurnedSource, SmoothRows};
 
 use fmt::depth;
+use octets::lent;
 use predict::{angular, planar_dc};
-use samples::{filters, ranges};
+use samples::filters;
 
 // A call's number, and the mode with its sum of absolute differences, both 0 where it is refused.
 #[derive(Clone, Copy)]
@@ -553,7 +554,7 @@ fn choose_no(
     if !lends_enough(n, source.len(), above, left, pred, refs, indices, fractions) {
         return 5;
     }
-    if !ranges::samples_ok(&source[..n * n], depth::largest_of(bits)) {
+    if !lent::samples_ok(&source[..n * n], depth::largest_of(bits)) {
         return 7;
     }
     0

@@ -19,7 +19,7 @@ ghost use Rattle.errors.specs.Listed.{with_block, Addable, start_on, pair_answer
 
 use fmt::depth;
 use plan::tiling::{Block, Frame, Verdict};
-use samples::ranges;
+use octets::lent;
 
 // Depth, picture and CTU of the pairs that are counted, how many they are, and for each mode its blocks, their samples, and the squares of
 // the differences in them.
@@ -232,7 +232,7 @@ fn early_no(r: Report, whole: bool, a: &[u16], b: &[u16]) -> u32
 {
     let size = area(r);
     let largest = depth::largest_of(r.bits);
-    let ok = ranges::samples_ok(a, largest) & ranges::samples_ok(b, largest);
+    let ok = lent::samples_ok(a, largest) & lent::samples_ok(b, largest);
     pair_no(r, whole & ((a.len() == size) & (b.len() == size)), ok)
 }
 

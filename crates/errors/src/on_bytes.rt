@@ -10,6 +10,7 @@ ghost use Rattle.errors.specs.Served.{SamplesLow, BlockPair, Countable};
 
 use crate::{Counted, Report};
 use fmt::depth;
+use octets::lent;
 use plan::records;
 use plan::tiling::Block;
 
@@ -105,7 +106,7 @@ fn early_no(r: Report, whole: bool, a: &[u8], b: &[u8]) -> u32
 {
     let size = crate::area(r);
     let largest = depth::largest_of(r.bits);
-    let ok = octets::samples_ok(a, largest) & octets::samples_ok(b, largest);
+    let ok = lent::samples_ok(a, largest) & lent::samples_ok(b, largest);
     let fit = octets::whole_in(a.len(), size) & octets::whole_in(b.len(), size);
     crate::pair_no(r, whole & fit, ok)
 }

@@ -1,5 +1,5 @@
 // Samples that are lent: as a list of them, or as bytes, two a sample, the lower first. What holds of samples of either form is said
-// and proved once, over the list that they stand for. Rests on crate bytes.
+// and proved once, over the list that they stand for. Rests on the laws of bytes.
 ghost use Rattle.std.specs.Prelude.{◌≡◌, ℕ, ◌*◌, ◌<◌, Bool, true, List, eqb, leb, length, get_or};
 ghost use Rattle.std.proofs.Common.{eqb-true};
 ghost use Rattle.laws.specs.Every.{every};

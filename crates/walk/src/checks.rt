@@ -9,8 +9,9 @@ ghost use Rattle.walk.specs.checks.Checks.{is_whole, is_roomy, opening_no, resid
 
 use domain::refusal::Refusal;
 use fmt::depth;
+use octets::lent;
 use plan::tiling::Frame;
-use samples::{deltas, ranges};
+use samples::deltas;
 
 // A still: its depth, its luma sides and its CTU.
 #[derive(Clone, Copy, Debug, PartialEq, Eq)]
@@ -108,7 +109,7 @@ pub(crate) fn check_walk(
 {
     let fit = records & is_whole(s, source.len()) & is_whole(s, work) & is_whole(s, residuals);
     check_opening(s, fit & is_roomy(refs, indices, fractions))?;
-    if ranges::samples_ok(source, depth::largest_of(s.bits)) {
+    if lent::samples_ok(source, depth::largest_of(s.bits)) {
         Ok(())
     } else {
         Err(Refusal::Sample)

@@ -25,19 +25,14 @@ use Rattle.camera.specs.replay.Door.{After}
 use Rattle.camera.specs.Written.{Written, wrote}
 use Rattle.octets.proofs.sample.Reads as bytes-sample
 use Rattle.octets.proofs.whole_in.Reads as bytes-whole-in
-use Rattle.octets.proofs.samples_ok.Reads as bytes-samples-ok
 use Rattle.octets.proofs.residual.Reads as bytes-residual
-use Rattle.octets.proofs.byte_0.Reads as bytes-byte-0
-use Rattle.octets.proofs.byte_1.Reads as bytes-byte-1
-use Rattle.octets.proofs.byte_2.Reads as bytes-byte-2
-use Rattle.octets.proofs.byte_3.Reads as bytes-byte-3
+use Rattle.octets.proofs.lent.samples_ok.Reads as lent-samples-ok
 use Rattle.domain.proofs.depth_ok.Reads as domain-depth-ok
 use Rattle.domain.proofs.size_ok.Reads as domain-size-ok
 use Rattle.domain.proofs.mode_ok.Reads as domain-mode-ok
 use Rattle.domain.proofs.plane_side_ok.Reads as domain-plane-side-ok
 use Rattle.domain.proofs.picture_ok.Reads as domain-picture-ok
 use Rattle.domain.proofs.unit_ok.Reads as domain-unit-ok
-use Rattle.samples.proofs.ranges.samples_ok.Reads as ranges-samples-ok
 use Rattle.samples.proofs.taps.interp.Reads as taps-interp
 use Rattle.samples.proofs.taps.mean.Reads as taps-mean
 use Rattle.samples.proofs.taps.edge.Reads as taps-edge
@@ -239,23 +234,13 @@ bytes_sample_once a x y s t p q = p ∙ sym q
 bytes_whole_in_once : Once (bytes-whole-in.Post tt)
 bytes_whole_in_once a x y s t p q = p ∙ sym q
 
-bytes_samples_ok_once : (κs : Lfts 1) → Once (bytes-samples-ok.Post κs)
-bytes_samples_ok_once κs a x y s t p q = p ∙ sym q
-
 bytes_residual_once : Once (bytes-residual.Post tt)
 bytes_residual_once a x y s t p q = p ∙ sym q
 
-bytes_byte_0_once : Once (bytes-byte-0.Post tt)
-bytes_byte_0_once a x y s t p q = p ∙ sym q
-
-bytes_byte_1_once : Once (bytes-byte-1.Post tt)
-bytes_byte_1_once a x y s t p q = p ∙ sym q
-
-bytes_byte_2_once : Once (bytes-byte-2.Post tt)
-bytes_byte_2_once a x y s t p q = p ∙ sym q
-
-bytes_byte_3_once : Once (bytes-byte-3.Post tt)
-bytes_byte_3_once a x y s t p q = p ∙ sym q
+-- of any lent samples: as a list of them, or as their bytes
+lent_samples_ok_once : (S : _) (laws : _) (copy : _) (samples : _) (methods : _) (clone : _) (cloned : _) (κs : Lfts 1)
+    → Once (lent-samples-ok.Post S laws copy samples methods clone cloned κs)
+lent_samples_ok_once S laws copy samples methods clone cloned κs a x y s t p q = p ∙ sym q
 
 pairs_read_once : (κs : Lfts 2) → OnceLeft (λ s. s.1.1.0.now) (pairs-read.Post κs)
 pairs_read_once κs a x y s t p q = (refl, p ∙ sym q)
@@ -281,10 +266,6 @@ domain_picture_ok_once a x y s t p q = p ∙ sym q
 
 domain_unit_ok_once : Once (domain-unit-ok.Post tt)
 domain_unit_ok_once a x y s t p q = p ∙ sym q
-
--- ranges
-ranges_samples_ok_once : (κs : Lfts 1) → Once (ranges-samples-ok.Post κs)
-ranges_samples_ok_once κs a x y s t p q = p ∙ sym q
 
 -- taps
 taps_interp_once : Once (taps-interp.Post tt)
