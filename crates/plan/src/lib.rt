@@ -43,6 +43,7 @@ pub fn is_whole(rows: &[u32], cols: &[u32], sides: &[u32], modes: &[u32]) -> boo
 }
 
 // The first rule that a plan breaks: its picture's, that its slices are of one length, its blocks' in list order, then that they cover all.
+#[tactic(auto, using(crate::specs::verdict::Standing::standing))]
 pub fn check_plan_numbers(
     frame: Frame,
     rows: &[u32],
@@ -54,38 +55,34 @@ pub fn check_plan_numbers(
 {
     let count = rows.len();
     let mut t = verdict::check_start(frame, is_whole(rows, cols, sides, modes));
-    let mut i: usize = 0;
-    while i < count {
+    for i in 0..count {
         let b = block_at(rows, cols, sides, modes, i);
         t = verdict::check_step(frame, t, b, i);
-        i += 1;
     }
     verdict::check_end(frame, t)
 }
 
 // The same of a list of block records.
+#[tactic(auto, using(crate::specs::verdict::Standing::standing))]
 pub fn check_plan(frame: Frame, plan: &[Block]) -> Verdict
     ensures { result ≡ plan_verdict frame (listed plan.now) }
 {
     let mut t = verdict::check_start(frame, true);
-    let mut i: usize = 0;
-    while i < plan.len() {
-        t = verdict::check_step(frame, t, plan[i], i);
-        i += 1;
+    for (i, &b) in plan.iter().enumerate() {
+        t = verdict::check_step(frame, t, b, i);
     }
     verdict::check_end(frame, t)
 }
 
 // The same of the records that bytes spell: 5 where they are not whole records.
+#[tactic(auto, using(crate::specs::verdict::Standing::standing))]
 pub fn check_plan_bytes(frame: Frame, plan: &[u8]) -> Verdict
     ensures { result ≡ plan_verdict frame (records_of plan.now) }
 {
     let count = plan.len() / 6;
     let mut t = verdict::check_start(frame, plan.len() % 6 == 0);
-    let mut i: usize = 0;
-    while i < count {
+    for i in 0..count {
         t = verdict::check_step(frame, t, records::record_at(plan, i), i);
-        i += 1;
     }
     verdict::check_end(frame, t)
 }

@@ -3,7 +3,7 @@
 // the verdict in verdict. Rests on the decode order's definitions and on the domain's tests.
 
 // A still's luma sides and its CTU; its least unit is 4.
-#[derive(Clone, Copy)]
+#[derive(Clone, Copy, Debug, PartialEq, Eq)]
 pub struct Frame {
     pub width: u32,
     pub height: u32,
@@ -12,7 +12,7 @@ pub struct Frame {
 
 // A block of a plan.
 #[repr(C)]
-#[derive(Clone, Copy)]
+#[derive(Clone, Copy, Debug, PartialEq, Eq)]
 pub struct Block {
     pub row: u32,
     pub col: u32,
@@ -21,7 +21,7 @@ pub struct Block {
 }
 
 // A plan's number, and the list number of the block that it is about.
-#[derive(Clone, Copy)]
+#[derive(Clone, Copy, Debug, PartialEq, Eq)]
 pub struct Verdict {
     pub no: u32,
     pub block: u32,

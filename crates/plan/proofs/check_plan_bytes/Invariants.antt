@@ -1,11 +1,6 @@
-use Prim.Native.Nat.{◌-◌, ◌≤◌, ◌/◌}
-use lib.ListN.{length}
 use Rattle.plan.specs.RecordPlan.{records_of}
 use Rattle.plan.specs.verdict.Standing.{Standing}
 use Rattle.plan.proofs.check_plan_bytes.Given as goal
 
 abbrev pub invariant-loop-i : goal.invariant-loop-i
-invariant-loop-i l = (l.i ≤ length l.plan / 6) × Standing l.frame (records_of l.plan) l.i l.t
-
-abbrev pub decreases-loop-i : goal.decreases-loop-i
-decreases-loop-i l = length l.plan / 6 - l.i
+invariant-loop-i l = Standing l.frame (records_of l.plan) l.i l.t
