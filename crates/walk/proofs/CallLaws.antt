@@ -1,13 +1,15 @@
 -- How far a call goes: one that has a block to do is served. So what its loop asks holds, and it leaves what the door says. Rests on the laws
 -- of calls.
-use Rattle.std.specs.Prelude.{◌≡◌, refl, List, ℕ, ◌+◌, ◌-◌, ◌≤◌, ◌<◌, length, ℤ}
+use Rattle.std.specs.Prelude.{◌≡◌, refl, List, ℕ, ◌+◌, ◌-◌, ◌≤◌, ◌<◌, length, take, get_or, ℤ}
 use Rattle.std.proofs.Math.Path.{sym, ap}
 use Rattle.std.proofs.Common.{◌∙◌, arith}
 use Rattle.std.proofs.Math.Decide.{ℕ_discrete}
+use Rattle.std.proofs.lemmas.List.{get_or-take, length-take}
 use Rattle.laws.specs.Chain.{units}
 use Rattle.laws.specs.Choose.{served, worked, unserved}
+use Rattle.plan.specs.declared.tiling.Block.{Block}
 use Rattle.plan.specs.declared.tiling.Verdict.{Verdict}
-use Rattle.plan.specs.tiling.Plan.{Plan}
+use Rattle.plan.specs.tiling.Plan.{Plan, no_block, listed}
 use Rattle.walk.specs.declared.checks.Still.{Still}
 use Rattle.walk.specs.checks.Checks.{Tables}
 use Rattle.walk.specs.declared.calls.Step.{Step}
@@ -17,6 +19,18 @@ use Rattle.walk.specs.block.Walked.{World, walk_unit}
 use Rattle.walk.specs.calls.Door.{replay_verdict, replay_after, walk_verdict, walk_after}
 use Rattle.walk.specs.calls.Ready.{ReplayReady, WalkReady}
 use Rattle.walk.specs.calls.Laws.{replay_sound, walk_sound, refused_upto}
+
+-- a block among the first `upto` of a list is a block of the list, and the same one
+pub record Among (plan : List Block) (upto k : ℕ) : Type 0 where
+  pub goes : k < upto
+  pub there : k < length plan
+  pub same : get_or (take upto plan) k no_block ≡ (listed plan).block k
+
+pub among : (plan : List Block) (upto k : ℕ) → k < length (take upto plan) → Among plan upto k
+among plan upto k l =
+    let e = length-take upto plan in
+    let goes : k < upto = omega arith in
+    record { goes = goes; there = omega arith; same = get_or-take upto plan k no_block goes }
 
 module _ (v : Verdict) (count done grant : ℕ) where
   -- a call goes up to no more blocks than there are

@@ -7,7 +7,7 @@ use domain::helpers;
 use plan::tiling::Verdict;
 
 // A call's number and the block that it is about, how many blocks it does, and the block that it goes up to; refused, it does none.
-#[derive(Clone, Copy)]
+#[derive(Clone, Copy, Debug, PartialEq, Eq)]
 pub struct Step {
     pub no: u32,
     pub block: u32,

@@ -11,7 +11,7 @@ use plan::tiling::{Frame, Verdict};
 use samples::{deltas, ranges};
 
 // A still: its depth, its luma sides and its CTU.
-#[derive(Clone, Copy)]
+#[derive(Clone, Copy, Debug, PartialEq, Eq)]
 pub struct Still {
     pub bits: u32,
     pub frame: Frame,
@@ -48,15 +48,13 @@ pub fn opening_no(s: Still, fit: bool) -> u32
 }
 
 // Whether no residual is larger than a limit.
+#[tactic(auto, using(crate::specs::checks::Laws::passing))]
 fn residuals_within(residuals: &[i32], limit: u16) -> bool
     ensures { result ≡ every (residual_within limit) residuals.now }
 {
-    let count = residuals.len();
     let mut ok = true;
-    let mut i = 0;
-    while i < count {
-        ok = ok & deltas::residual_within(residuals[i], limit);
-        i += 1;
+    for &residual in residuals {
+        ok = ok & deltas::residual_within(residual, limit);
     }
     ok
 }

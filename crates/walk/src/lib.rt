@@ -25,13 +25,13 @@ use plan::tiling::{Block, Verdict};
 use predict::scratch::AngularScratch;
 
 // How many blocks of the plan are done; 0 when fresh.
-#[derive(Clone, Copy)]
+#[derive(Clone, Copy, Debug, PartialEq, Eq)]
 pub struct Progress {
     pub done: u32,
 }
 
 // What a call gives: its number and the block that it is about, how many blocks it did, and the next record.
-#[derive(Clone, Copy)]
+#[derive(Clone, Copy, Debug, PartialEq, Eq)]
 pub struct Stepped {
     pub no: u32,
     pub block: u32,
@@ -40,7 +40,7 @@ pub struct Stepped {
 }
 
 // What a call comes to, before the first write: its answer, and the block that it goes up to, 0 when refused.
-#[derive(Clone, Copy)]
+#[derive(Clone, Copy, Debug, PartialEq, Eq)]
 struct Call {
     answer: Stepped,
     upto: usize,
@@ -213,8 +213,7 @@ fn replay_blocks(
         plane.old plane.new (Untouched refs indices fractions) }
 {
     let mut at: usize = 0;
-    let mut k: usize = 0;
-    while k < upto {
+    for k in 0..upto {
         let b = plan::block_at(rows, cols, sides, modes, k);
         at = replay_turn(
             s,
@@ -228,7 +227,6 @@ fn replay_blocks(
             &mut *indices,
             &mut *fractions,
         );
-        k += 1;
     }
 }
 
@@ -254,8 +252,7 @@ fn walk_blocks(
         (world_before work residuals) (world_after work residuals) (Untouched refs indices fractions) }
 {
     let mut at: usize = 0;
-    let mut k: usize = 0;
-    while k < upto {
+    for k in 0..upto {
         let b = plan::block_at(rows, cols, sides, modes, k);
         at = walk_turn(
             s,
@@ -270,7 +267,6 @@ fn walk_blocks(
             &mut *indices,
             &mut *fractions,
         );
-        k += 1;
     }
 }
 
@@ -288,11 +284,10 @@ fn replay_listed(
     ensures { ReplayBlocks s (listed plan.now) residuals.now from upto plane.entry.now plane.new (scratch.new ≡ scratch.old) }
 {
     let mut at: usize = 0;
-    let mut k: usize = 0;
-    while k < upto {
+    for (k, &b) in plan[..upto].iter().enumerate() {
         at = replay_turn(
             s,
-            plan[k],
+            b,
             at,
             k,
             from,
@@ -302,7 +297,6 @@ fn replay_listed(
             &mut scratch.indices,
             &mut scratch.fractions,
         );
-        k += 1;
     }
     at
 }
@@ -323,11 +317,10 @@ fn walk_listed(
         (world_before work residuals) (world_after work residuals) (scratch.new ≡ scratch.old) }
 {
     let mut at: usize = 0;
-    let mut k: usize = 0;
-    while k < upto {
+    for (k, &b) in plan[..upto].iter().enumerate() {
         at = walk_turn(
             s,
-            plan[k],
+            b,
             at,
             k,
             from,
@@ -338,7 +331,6 @@ fn walk_listed(
             &mut scratch.indices,
             &mut scratch.fractions,
         );
-        k += 1;
     }
     at
 }

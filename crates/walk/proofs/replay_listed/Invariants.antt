@@ -1,4 +1,4 @@
-use Rattle.std.proofs.Common.{◌≡◌, ◌-◌, ◌≤◌, length}
+use Rattle.std.proofs.Common.{◌≡◌, ◌-◌}
 use Rattle.laws.specs.Chain.{units}
 use Rattle.plan.specs.tiling.Plan.{listed}
 use Rattle.plan.specs.tiling.Tiling.{place}
@@ -7,9 +7,6 @@ use Rattle.walk.proofs.replay_listed.Given as goal
 
 abbrev pub invariant-loop-k : goal.invariant-loop-k
 invariant-loop-k l =
-    (l.k ≤ l.upto) × ((length l.plane ≡ length l.initial.plane) × ((l.at ≡ place (listed l.plan).block l.k)
+    (l.at ≡ place (listed l.plan).block l.k)
     × ((l.plane ≡ units (replay_unit l.s (listed l.plan).block l.residuals) l.from (l.k - l.from) l.initial.plane)
-    × (l.upto ≡ 0 → l.scratch ≡ l.initial.scratch))))
-
-abbrev pub decreases-loop-k : goal.decreases-loop-k
-decreases-loop-k l = l.upto - l.k
+    × (l.upto ≡ 0 → l.scratch ≡ l.initial.scratch))

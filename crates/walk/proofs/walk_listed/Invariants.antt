@@ -1,4 +1,4 @@
-use Rattle.std.proofs.Common.{◌≡◌, ◌-◌, ◌≤◌, length}
+use Rattle.std.proofs.Common.{◌≡◌, ◌-◌}
 use Rattle.laws.specs.Chain.{units}
 use Rattle.plan.specs.tiling.Plan.{listed}
 use Rattle.plan.specs.tiling.Tiling.{place}
@@ -8,11 +8,7 @@ use Rattle.walk.proofs.walk_listed.Given as goal
 
 abbrev pub invariant-loop-k : goal.invariant-loop-k
 invariant-loop-k l =
-    (l.k ≤ l.upto) × ((length l.work ≡ length l.initial.work) × ((length l.residuals ≡ length l.initial.residuals)
-    × ((l.at ≡ place (listed l.plan).block l.k)
+    (l.at ≡ place (listed l.plan).block l.k)
     × ((world l.work l.residuals
     ≡ units (walk_unit l.s (listed l.plan).block l.source) l.from (l.k - l.from) (world l.initial.work l.initial.residuals))
-    × (l.upto ≡ 0 → l.scratch ≡ l.initial.scratch)))))
-
-abbrev pub decreases-loop-k : goal.decreases-loop-k
-decreases-loop-k l = l.upto - l.k
+    × (l.upto ≡ 0 → l.scratch ≡ l.initial.scratch))
