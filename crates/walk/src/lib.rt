@@ -193,6 +193,7 @@ fn walk_turn(
 }
 
 // The blocks of a plan up to block `upto`: those from block `from` on are rebuilt.
+#[tactic(auto, using(crate::specs::calls::Turns::turns))]
 fn replay_blocks(
     s: Still,
     rows: &[u32],
@@ -231,6 +232,7 @@ fn replay_blocks(
 }
 
 // The same of the walk.
+#[tactic(auto, using(crate::specs::calls::Turns::turns))]
 fn walk_blocks(
     s: Still,
     rows: &[u32],
@@ -271,6 +273,7 @@ fn walk_blocks(
 }
 
 // The records of a plan up to block `upto`: those from block `from` on are rebuilt. Gives the place after the last.
+#[tactic(auto, using(crate::specs::calls::Turns::turns, crate::proofs::CallLaws::among))]
 fn replay_listed(
     s: Still,
     plan: &[Block],
@@ -302,6 +305,7 @@ fn replay_listed(
 }
 
 // The same of the walk.
+#[tactic(auto, using(crate::specs::calls::Turns::turns, crate::proofs::CallLaws::among))]
 fn walk_listed(
     s: Still,
     plan: &[Block],

@@ -1,40 +1,15 @@
 -- `walk::replay_blocks` meets its contract. The loop's invariant: the blocks from `from` on that are passed are done, `at` is the place of
 -- the next, and the tables are as they were if there is no block. Rests on `replay_turn`.
-use Rattle.std.proofs.Common.{ℕ, ◌<◌, refl, ap₂, ◌∙◌, cond, length, arith}
-use Rattle.std.specs.Prelude.{leb}
-use Rattle.plan.specs.declared.tiling.Block.{Block}
-use Rattle.plan.specs.tiling.Plan.{plan_of}
-use Rattle.walk.specs.block.Rebuilt.{rebuilt, replay_unit}
-use Rattle.walk.specs.calls.Places.{place_none, place_more}
+use Rattle.std.proofs.Common.{◌<◌, length, arith}
 use Rattle.walk.specs.calls.Laws.{lies, ready}
-use Rattle.walk.specs.calls.Turns.{turn_none, turn_more}
 use Rattle.walk.proofs.replay_blocks.Goals as goal
-use Rattle.walk.proofs.replay_blocks.Goals.{In-loop-k}
-
-in_plan : (c : In-loop-k) → c.loop-k.k < length c.args.rows.now
-in_plan c = omega (arith, (c.requires (omega arith)).1)
-
-pub loop-k-init : goal.loop-k-init
-loop-k-init c = (place_none _, (turn_none _ _ _, λ _. (refl, (refl, refl))))
 
 pub replay_turn-at-requires : goal.replay_turn-at-requires
 replay_turn-at-requires c =
     let l = c.loop-k in
     let a = l.auto in
-    let p = (c.requires (omega arith)).0 in
+    let p = c.requires (omega arith) in
+    let k : l.k < length c.args.rows.now = omega (arith, p.1) in
     let b = c.block_at-b.ensures in
-    let k = in_plan (goal.at.replay_turn-at-requires c).In-loop-k in
     let e = l.invariant.0 in
-    (ready _ _ _ _ _ p l.k l.at _ k e b _ _ _ _ a.plane a.refs a.indices a.fractions, lies _ _ _ _ _ p l.k l.at _ k e b)
-
-pub loop-k-preserved : goal.loop-k-preserved
-loop-k-preserved c =
-    let l = c.loop-k in
-    let i = l.invariant in
-    let a = c.args in
-    let b = c.block_at-b.ensures in
-    let t = c.replay_turn-at.ensures in
-    let under = c.loop-k-test.true in
-    let unit = replay_unit a.s (plan_of a.rows.now a.cols.now a.sides.now a.modes.now).block a.residuals.now in
-    let done = t.1 ∙ ap₂ (λ (x : Block) (n : ℕ). cond (leb a.from l.k) (rebuilt a.s x n a.residuals.now l.plane) l.plane) b i.0 in
-    (t.0 ∙ place_more _ l.k l.at _ i.0 b, (turn_more unit a.from l.k a.plane.now l.plane _ i.1.0 done, λ z. absurd (omega (arith, z, under))))
+    (ready _ _ _ _ _ p.0 l.k l.at _ k e b _ _ _ _ a.plane a.refs a.indices a.fractions, lies _ _ _ _ _ p.0 l.k l.at _ k e b)

@@ -1,19 +1,9 @@
 -- `walk::walk_listed` meets its contract. The loop's invariant: the blocks from `from` on that are passed are done, `at` is the place of the
 -- next, and the scratch is as it was if there is no block. Rests on `walk_turn`.
-use Rattle.std.proofs.Common.{ℕ, refl, sym, ap₂, ◌∙◌, cond, arith, rules}
-use Rattle.std.specs.Prelude.{leb}
-use Rattle.plan.specs.declared.tiling.Block.{Block}
-use Rattle.plan.specs.tiling.Plan.{listed}
-use Rattle.walk.specs.Lent.{world}
-use Rattle.walk.specs.block.Walked.{World, walked, walk_unit}
-use Rattle.walk.specs.calls.Places.{place_none, place_more}
+use Rattle.std.proofs.Common.{sym, ◌∙◌, arith, rules}
 use Rattle.walk.specs.calls.Laws.{lies, ready}
-use Rattle.walk.specs.calls.Turns.{turn_none, turn_more}
 use Rattle.walk.proofs.CallLaws.{among}
 use Rattle.walk.proofs.walk_listed.Goals as goal
-
-pub loop-k-init : goal.loop-k-init
-loop-k-init c = (place_none _, (turn_none _ _ _, λ _. refl))
 
 pub walk_turn-at-requires : goal.walk_turn-at-requires
 walk_turn-at-requires c =
@@ -25,18 +15,4 @@ walk_turn-at-requires c =
     let o = lies _ _ _ _ _ p.0 l.k l.at _ m.there e m.same in (
       ready _ _ _ _ _ p.0 l.k l.at _ m.there e m.same _ _ _ _ a.work (search rules) (search rules) (search rules),
       (record { resid_in = omega (arith, o.resid_in, a.residuals) }, p.1.0 ∙ sym a.work),
-    )
-
-pub loop-k-preserved : goal.loop-k-preserved
-loop-k-preserved c =
-    let m = among _ _ _ c.loop-k-test.true in
-    let l = c.loop-k in
-    let i = l.invariant in
-    let a = c.args in
-    let t = c.walk_turn-at.ensures in
-    let w : World = world l.work l.residuals in
-    let unit = walk_unit a.s (listed a.plan.now).block a.source.now in
-    let done = t.1 ∙ ap₂ (λ (x : Block) (n : ℕ). cond (leb a.from l.k) (walked a.s a.source.now x n w) w) m.same i.0 in (
-      t.0 ∙ place_more _ l.k l.at _ i.0 m.same,
-      (turn_more unit a.from l.k (world a.work.now a.residuals.now) w _ i.1.0 done, λ z. absurd (omega (arith, z, m.goes))),
     )
