@@ -29,15 +29,14 @@ fn lent_no(bits: u32, n: usize, above: usize, left: usize, source: usize, out: u
 }
 
 // The first `count` samples of a source.
+#[tactic(auto, using(laws::specs::FillLaws::fill_none, laws::specs::FillLaws::fill_more))]
 fn read_samples(source: &[u8], count: usize, out: &mut [u16])
     requires { (count ≤ length (samples_of source.now)) × (count ≤ length out.old) }
     ensures { out.new
         ≡ fill (λ (i : ℕ). get_or (samples_of source.now) i 0) count out.old }
 {
-    let mut i = 0;
-    while i < count {
+    for i in 0..count {
         out[i] = gather::sample_in(source, i);
-        i += 1;
     }
 }
 

@@ -24,7 +24,7 @@ use order::Reach;
 use refs::{ChromaRefGeometry, Layout, LumaRefGeometry, Spot};
 
 // An edge of a block: where its entry 0 stands in the plane, how far apart its entries do, how many are there, and what the others have.
-#[derive(Clone, Copy)]
+#[derive(Clone, Copy, Debug, PartialEq, Eq)]
 struct Border {
     at: usize,
     step: usize,
@@ -117,6 +117,7 @@ fn look_around(plane: &[u8], s: Spot, r: Reach, n: usize) -> Around
 }
 
 // Reads an edge into a row: the entries that are there, then what the others have up to entry 2n.
+#[tactic(auto, using(laws::specs::FillLaws::fill_none, laws::specs::FillLaws::fill_more, octets::specs::Laws::length_samples))]
 fn read_edge(plane: &[u8], e: Border, n: usize, row: &mut [u16])
     requires { Kept e (length (samples_of plane.now)) n × (65 ≤ length row.old) }
     ensures { row.new ≡ padded (2 * n + 1) e.have e.rest (fill (on_edge (samples_of plane.now) e.at e.step) e.have row.old) }
@@ -126,15 +127,10 @@ fn read_edge(plane: &[u8], e: Border, n: usize, row: &mut [u16])
     let have = e.have;
     let rest = e.rest;
     let end = 2 * n + 1;
-    let mut i = 0;
-    while i < have {
+    for i in 0..have {
         row[i] = sample_in(plane, from + i * step);
-        i += 1;
     }
-    while i < end {
-        row[i] = rest;
-        i += 1;
-    }
+    row[have..end].fill(rest);
 }
 
 // The rows of a plane, from how far the neighbours reach.
@@ -170,18 +166,18 @@ fn put(out: &mut [u8], at: usize, v: u16)
 }
 
 // Stores one value `count` times.
+#[tactic(auto, using(crate::specs::gather::Bytes::storing))]
 fn store_level(v: u16, count: usize, out: &mut [u8], at: usize)
     requires { 2 * (at + count) ≤ length out.old }
     ensures { out.new ≡ run (byte_of 2 (λ (i : ℕ). v)) (2 * at) (2 * count) out.old }
 {
-    let mut i = 0;
-    while i < count {
+    for i in 0..count {
         put(&mut *out, at + i, v);
-        i += 1;
     }
 }
 
 // Stores the entries of an edge that are there.
+#[tactic(auto, using(crate::specs::gather::Bytes::storing))]
 fn store_seen(plane: &[u8], e: Border, out: &mut [u8], at: usize)
     requires { (2 * (at + e.have) ≤ length out.old) × ((i : ℕ) → i < e.have → e.at + i * e.step < length
         (samples_of plane.now)) }
@@ -191,10 +187,8 @@ fn store_seen(plane: &[u8], e: Border, out: &mut [u8], at: usize)
     let from = e.at;
     let step = e.step;
     let have = e.have;
-    let mut i = 0;
-    while i < have {
+    for i in 0..have {
         put(&mut *out, at + i, sample_in(plane, from + i * step));
-        i += 1;
     }
 }
 

@@ -52,6 +52,7 @@ fn put_sample(b: &mut [u8], i: usize, v: u16)
 }
 
 // A row of n samples from base on, its predictions from `from` on, its residuals from `at` on.
+#[tactic(auto, using(crate::specs::replay::Laws::storing_bytes))]
 fn rebuild_row(
     plane: &mut [u8],
     pred: &[u16],
@@ -67,19 +68,18 @@ fn rebuild_row(
     ensures { samples_of plane.new ≡ run (λ (c : ℕ). clip_to largest (pos (get_or pred.now
         (from + c) 0) +ℤ get_or (residuals_of residuals.now) (at + c) (pos 0))) base n (samples_of plane.old) }
 {
-    let mut c = 0;
-    while c < n {
+    for c in 0..n {
         let r = residual_at(residuals, at + c);
         put_sample(
             plane,
             base + c,
             deltas::restored(pred[from + c], r, largest),
         );
-        c += 1;
     }
 }
 
 // All rows of a block.
+#[tactic(auto, using(crate::specs::replay::Laws::storing_bytes, walk::specs::block_rows::Laws::row_in))]
 fn rebuild_rows(
     plane: &mut [u8],
     pred: &[u16],
@@ -95,8 +95,7 @@ fn rebuild_rows(
     ensures { samples_of plane.new ≡ paint base width n (λ (r c : ℕ). clip_to largest (pos (get_or pred.now (r * n + c) 0) +ℤ get_or (residuals_of residuals.now) (at + r * n + c) (pos 0))) n
         (samples_of plane.old) }
 {
-    let mut r = 0;
-    while r < n {
+    for r in 0..n {
         rebuild_row(
             plane,
             pred,
@@ -107,20 +106,18 @@ fn rebuild_rows(
             at + r * n,
             largest,
         );
-        r += 1;
     }
 }
 
 // Whether no residual is larger than a limit.
+#[tactic(auto, using(walk::specs::checks::Laws::passing, octets::specs::Laws::length_residuals))]
 fn residuals_within(residuals: &[u8], limit: u16) -> bool
     ensures { result ≡ every (residual_within limit) (residuals_of residuals.now) }
 {
     let count = residuals.len() / 4;
     let mut ok = true;
-    let mut i = 0;
-    while i < count {
+    for i in 0..count {
         ok = ok & deltas::residual_within(residual_at(residuals, i), limit);
-        i += 1;
     }
     ok
 }
@@ -292,6 +289,7 @@ fn replay_turn(
 }
 
 // The records of a plan up to block `upto`: those from block `from` on are rebuilt.
+#[tactic(auto, using(walk::specs::calls::Turns::turns))]
 fn replay_blocks(
     s: Still,
     plan: &[u8],
@@ -309,8 +307,7 @@ fn replay_blocks(
         (residuals_of residuals.now)) from (upto - from) (samples_of plane.old) }
 {
     let mut at: usize = 0;
-    let mut k: usize = 0;
-    while k < upto {
+    for k in 0..upto {
         let b = records::record_at(plan, k);
         at = replay_turn(
             s,
@@ -324,7 +321,6 @@ fn replay_blocks(
             &mut *indices,
             &mut *fractions,
         );
-        k += 1;
     }
 }
 
