@@ -1,6 +1,6 @@
--- `choose::upward` meets its contract. The loop's sum is that of the rows from the first one on. Rests on the rows of a vertical mode.
+-- `choose::Block::upward` meets its contract. The loop's sum is that of the rows from the first one on. Rests on the rows of a vertical mode.
 use mathlib.Core.Path.{◌≡◌, refl, sym, ap, ◌∙◌}
-use mathlib.Core.Bool.{true}
+use Rattle.std.specs.Prelude.{Some}
 use mathlib.Core.List.{List}
 use Prim.Native.Nat.{ℕ, ◌+◌, ◌-◌, ◌≤◌, ◌<◌}
 use native.Mathlib.Omega.{arith}
@@ -13,8 +13,8 @@ use Rattle.predict.specs.angular.Parts.{laid_at}
 use Rattle.choose.specs.Early.{tail, tail_none, tail_done, row_apart, by_eights, group_step, upward_sum, up_to_same, as_lent}
 use Rattle.choose.specs.Early.{refs_serve, rows_serve, none_left, length_laid}
 use borrow.Author.Rules.{rules}
-use Rattle.choose.proofs.upward.Goals as goal
-use Rattle.choose.proofs.upward.Goals.{After-loop-first, In-loop-first}
+use Rattle.choose.proofs.Block.upward.Goals as goal
+use Rattle.choose.proofs.Block.upward.Goals.{After-loop-first, In-loop-first}
 
 some : (c : In-loop-first) → 8 ≤ c.loop-first.first
 some c =
@@ -35,12 +35,14 @@ pub loop-first-preserved : goal.loop-first-preserved
 loop-first-preserved c = let a = c.args in
     let u = c.requires in
     let l = c.loop-first in
+    let k = a.self.now in
+    let b = a.border in
     let first = l.first - 8 in
     let few = some (goal.at.loop-first-preserved c).In-loop-first in
     let number₀ = c.vertical_refs.ensures.0 ∙ refs_serve u in
     let laid = c.vertical_refs.ensures.1 ∙ sym (worked _ _ _ number₀) in
-    let now = as_lent u l.invariant.1.0 (ap length laid ∙ length_laid a.corner a.above.now a.left.now a.n (a.mode - 18) a.refs.now) in
-    let inside : first + 8 ≤ a.n = omega (arith, l.invariant.0.0) in
+    let now = as_lent u l.invariant.1.0 (ap length laid ∙ length_laid b.corner b.above.now b.left.now k.n (a.mode - 18) a.refs.now) in
+    let inside : first + 8 ≤ k.n = omega (arith, l.invariant.0.0) in
     let number = c.vertical_rows-sum.ensures.0 ∙ rows_serve now first (first + 8) (omega arith) inside in
     let made = c.vertical_rows-sum.ensures.1 ∙ sym (worked _ _ _ number) in
     let count : first + 8 - first ≡ 8 = omega arith in
@@ -50,8 +52,8 @@ loop-first-preserved c = let a = c.args in
         search rules,
         (
           omega (arith, c.eight_sum-sum.ensures.1, l.invariant.1.1.0, l.invariant.0.0),
-          group_step a.n first 8 a.source.now _ _ inside now.room (rw count at made)
-              (l.invariant.1.1.1 ∙ ap (tail _ a.n) back)
+          group_step k.n first 8 k.samples.now _ _ inside now.room (rw count at made)
+              (l.invariant.1.1.1 ∙ ap (tail _ k.n) back)
               c.eight_sum-sum.ensures.0,
         ),
       ),
@@ -61,9 +63,10 @@ pub returns : goal.returns
 returns c = let a = c.args in
     let u = c.requires in
     let l = c.loop-first in
+    let k = a.self.now in
+    let b = a.border in
     let laid = c.vertical_refs.ensures.1 ∙ sym (worked _ _ _ (c.vertical_refs.ensures.0 ∙ refs_serve u)) in
-    λ bits.
-    up_to_same true a.limit
-    (ap (λ (r : List ℕ). total (row_apart a.n a.source.now (laid_at a.above.now r (a.mode - 18))) a.n) laid
-    ∙ upward_sum bits a.n a.mode a.corner a.above.now a.left.now a.refs.now u.size u.low u.high u.bent u.refs a.source.now)
-    (tail_done _ a.n a.limit l.first l.sum l.invariant.0.0 l.invariant.1.1.1 (λ h. ended (goal.at.returns c).After-loop-first h))
+    up_to_same (Some a.limit)
+    (ap (λ (r : List ℕ). total (row_apart k.n k.samples.now (laid_at b.above.now r (a.mode - 18))) k.n) laid
+    ∙ upward_sum k.bits k.n a.mode b.corner b.above.now b.left.now a.refs.now u.size u.low u.high u.bent u.refs k.samples.now)
+    (tail_done _ k.n a.limit l.first l.sum l.invariant.0.0 l.invariant.1.1.1 (λ h. ended (goal.at.returns c).After-loop-first h))
