@@ -208,9 +208,11 @@ impl Block<'_> {
             &mut *refs,
         );
         let mut sum: u32 = 0;
-        let mut first = self.n;
-        while (first > 0) & (sum < limit) {
-            first -= 8;
+        for eight in (0..self.n / 8).rev() {
+            if sum >= limit {
+                break;
+            }
+            let first = 8 * eight;
             angular::vertical_rows(
                 border.above,
                 &*refs,

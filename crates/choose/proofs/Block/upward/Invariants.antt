@@ -1,14 +1,10 @@
 use mathlib.Core.Path.{◌≡◌}
-use Prim.Native.Nat.{◌-◌, ◌*◌, ◌%◌, ◌≤◌}
-use lib.ListN.{length}
+use Prim.Native.Nat.{◌-◌, ◌*◌, ◌/◌, ◌≤◌}
 use Rattle.predict.specs.angular.Parts.{laid_at}
 use Rattle.choose.specs.Early.{tail, row_apart}
 use Rattle.choose.proofs.Block.upward.Given as goal
 
-abbrev pub invariant-loop-first : goal.invariant-loop-first
-invariant-loop-first l =
-    ((l.first ≤ l.self.n) × (l.first % 8 ≡ 0)) × ((length l.pred ≡ length l.initial.pred) × ((l.sum ≤ (l.self.n - l.first) * 2097120)
-    × (l.sum ≡ tail (row_apart l.self.n l.self.samples.now (laid_at l.border.above.now l.refs (l.mode - 18))) l.self.n l.first)))
-
-abbrev pub decreases-loop-first : goal.decreases-loop-first
-decreases-loop-first l = l.first
+abbrev pub invariant-loop-eight : goal.invariant-loop-eight
+invariant-loop-eight l = let k = l.self in
+    (l.sum ≤ (k.n / 8 - l.eight) * 16776960)
+    × (l.sum ≡ tail (row_apart k.n k.samples.now (laid_at l.border.above.now l.refs (l.mode - 18))) k.n (8 * l.eight))
