@@ -145,10 +145,10 @@ impl Block<'_> {
     ghost use Rattle.choose.specs.Given.{neighbours, distance};
 
     // The block that is predicted from a border as it is.
-    fn predict(&self, mode: u8, border: Border, pred: &mut [u16], tables: &mut Tables)
+    fn predict(&self, mode: u8, border: &Border, pred: &mut [u16], tables: &mut Tables)
         requires { (mode ≤ 34) × (self.now.n * self.now.n ≤ length pred.old) }
         ensures { pred.new
-            ≡ block (λ (y x : ℕ). predicted_by_mode self.now.bits true true self.now.n mode (neighbours border.entry) x y)
+            ≡ block (λ (y x : ℕ). predicted_by_mode self.now.bits true true self.now.n mode (neighbours border.now) x y)
             self.now.n pred.old }
     {
         match mode {
@@ -177,9 +177,9 @@ impl Block<'_> {
     }
 
     // How far it is from the samples.
-    fn tried(&self, mode: u8, border: Border, pred: &mut [u16], tables: &mut Tables) -> u32
+    fn tried(&self, mode: u8, border: &Border, pred: &mut [u16], tables: &mut Tables) -> u32
         requires { (mode ≤ 34) × (self.now.n * self.now.n ≤ length pred.old) }
-        ensures { result ≡ distance self.now border.entry mode }
+        ensures { result ≡ distance self.now border.now mode }
     {
         self.predict(mode, border, &mut *pred, tables);
         block_sum(self.samples, &*pred, self.n)
@@ -190,14 +190,14 @@ impl Block<'_> {
     fn upward(
         &self,
         mode: u8,
-        border: Border,
+        border: &Border,
         limit: u32,
         pred: &mut [u16],
         refs: &mut [u16],
     ) -> u32
-        requires { Upward self.now.n mode (length border.above.now) (length border.left.now) (length self.now.samples.now)
+        requires { Upward self.now.n mode (length border.now.above.now) (length border.now.left.now) (length self.now.samples.now)
             (length pred.old) (length refs.old) }
-        ensures { UpTo (Some limit) (distance self.now border.entry mode) result }
+        ensures { UpTo (Some limit) (distance self.now border.now mode) result }
     {
         angular::vertical_refs(
             border.corner,
@@ -232,13 +232,13 @@ impl Block<'_> {
     fn until(
         &self,
         mode: u8,
-        border: Border,
+        border: &Border,
         limit: Option<u32>,
         pred: &mut [u16],
         tables: &mut Tables,
     ) -> u32
         requires { (mode ≤ 34) × (self.now.n * self.now.n ≤ length pred.old) }
-        ensures { UpTo limit (distance self.now border.entry mode) result }
+        ensures { UpTo limit (distance self.now border.now mode) result }
     {
         match limit {
             Some(0) => 0,
@@ -271,13 +271,13 @@ impl Search<'_, '_> {
     fn mirrored(
         &self,
         mode: u8,
-        border: Border,
+        border: &Border,
         limit: Option<u32>,
         pred: &mut [u16],
         tables: &mut Tables,
     ) -> u32
         requires { (mode ≤ 34) × (self.now.block.n * self.now.block.n ≤ length pred.old) }
-        ensures { UpTo limit (distance self.now.block border.entry mode) result }
+        ensures { UpTo limit (distance self.now.block border.now mode) result }
     {
         if (mode >= 2) & (mode < 18) {
             let turned = Block {
@@ -290,7 +290,7 @@ impl Search<'_, '_> {
                 above: border.left,
                 left: border.above,
             };
-            return turned.until(36 - mode, exchanged, limit, &mut *pred, tables);
+            return turned.until(36 - mode, &exchanged, limit, &mut *pred, tables);
         }
         self.block.until(mode, border, limit, &mut *pred, tables)
     }
@@ -301,9 +301,9 @@ impl Search<'_, '_> {
         ensures { UpTo limit (sum_of self.now mode) result }
     {
         if filters::smooths(mode, self.block.n) {
-            return self.mirrored(mode, self.smooth, limit, &mut *pred, tables);
+            return self.mirrored(mode, &self.smooth, limit, &mut *pred, tables);
         }
-        self.mirrored(mode, self.border, limit, &mut *pred, tables)
+        self.mirrored(mode, &self.border, limit, &mut *pred, tables)
     }
 
     // The first of the modes whose sum is the least: a later one takes over where it does better, so that one which may be dropped early

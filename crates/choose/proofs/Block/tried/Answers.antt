@@ -13,7 +13,7 @@ pub returns : goal.returns
 returns c = let a = c.args in
     let k = a.self.now in
     let source = source_at k.n k.samples.now in
-    let samples = predicted_by_mode k.bits true true k.n a.mode (neighbours a.border) in
+    let samples = predicted_by_mode k.bits true true k.n a.mode (neighbours a.border.now) in
     c.block_sum.ensures
     ∙ ap (λ (p : List ℕ). differences source (source_at k.n p) k.n k.n) c.predict.ensures
     ∙ made_sum k.n source samples a.pred.now c.requires.1

@@ -13,17 +13,17 @@ use Rattle.choose.specs.Early.{refs_serve, rows_serve, length_laid}
 use Rattle.choose.proofs.Block.upward.Goals as goal
 use Rattle.choose.proofs.Block.upward.Goals.{After-vertical_refs}
 
-laid : (c : After-vertical_refs) → let a = c.args in let b = a.border in
+laid : (c : After-vertical_refs) → let a = c.args in let b = a.border.now in
     c.vertical_refs.new.refs ≡ laid_refs b.corner b.above.now b.left.now a.self.now.n (a.mode - 18) a.refs.now
 laid c = c.vertical_refs.ensures.1 ∙ sym (worked _ _ _ (c.vertical_refs.ensures.0 ∙ refs_serve c.requires))
 
 -- all rows are the mode's block
 whole : (c : After-vertical_refs) → let a = c.args in let k = a.self.now in
-    total (row_apart k.n k.samples.now (laid_at a.border.above.now c.vertical_refs.new.refs (a.mode - 18))) k.n
-    ≡ distance k a.border a.mode
+    total (row_apart k.n k.samples.now (laid_at a.border.now.above.now c.vertical_refs.new.refs (a.mode - 18))) k.n
+    ≡ distance k a.border.now a.mode
 whole c = let a = c.args in
     let k = a.self.now in
-    let b = a.border in
+    let b = a.border.now in
     let u = c.requires in
     ap (λ (r : List ℕ). total (row_apart k.n k.samples.now (laid_at b.above.now r (a.mode - 18))) k.n) (laid c)
     ∙ upward_sum k.bits k.n a.mode b.corner b.above.now b.left.now a.refs.now u.size u.low u.high u.bent u.refs k.samples.now
@@ -35,7 +35,7 @@ loop-eight-init c = let n = c.args.self.now.n in
 pub loop-eight-preserved : goal.loop-eight-preserved
 loop-eight-preserved c = let a = c.args in
     let k = a.self.now in
-    let b = a.border in
+    let b = a.border.now in
     let l = c.loop-eight in
     let first = 8 * (l.eight - 1) in
     let refs = ap length (laid (goal.at.loop-eight-preserved c).After-vertical_refs)

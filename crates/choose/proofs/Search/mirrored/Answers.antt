@@ -22,5 +22,5 @@ returns-then-mode c = let a = c.args in
     let k = s.block in
     let h = horizontal (goal.at.returns-then-mode c).Then-mode in
     up_to_same _
-    (mirrored_sum k.bits k.n a.mode (neighbours a.border) k.samples.now s.turned.now (size_of k.n k.size) h.0 h.1 s.turns)
+    (mirrored_sum k.bits k.n a.mode (neighbours a.border.now) k.samples.now s.turned.now (size_of k.n k.size) h.0 h.1 s.turns)
     c.until.ensures
