@@ -1,8 +1,9 @@
 -- A mode that is dropped once it has lost: sums of its last rows, some at a time upward. A part of a sum is never more than the whole.
 -- Assumes nothing.
-use Rattle.std.specs.Prelude.{◌≡◌, Bool, false, cond, ◌&&◌, List, ltb, length, get_or}
+use Rattle.std.specs.Prelude.{◌≡◌, Bool, false, cond, ◌&&◌, List, Option, Some, IfSome, ltb, length, get_or}
+use Rattle.std.specs.Bool.{then_some}
 use Rattle.std.proofs.Math.Path.{refl, sym, ap}
-use Rattle.std.proofs.Common.{subst, ◌∙◌, true≢false, zero-add, add_assoc, add-mul, suc-mul, mul-le-mul_right}
+use Rattle.std.proofs.Common.{◌∙◌, true≢false, zero-add, add_assoc, add-mul, suc-mul, mul-le-mul_right}
 use Rattle.std.proofs.Math.Bool.{true}
 use Prim.Native.Nat.{ℕ, zero, suc, ◌+◌, ◌-◌, ◌*◌, ◌%◌, ◌≤◌, ◌<◌}
 use Rattle.std.proofs.Math.Nat.{zero-mul}
@@ -20,23 +21,28 @@ use Rattle.predict.specs.modes.Modes.{predicted_by_mode}
 use Rattle.choose.specs.Choose.{apart, differences, source_at}
 use Rattle.choose.specs.Sums.{same_sum}
 
--- What is added up of a sum, where it may be dropped early once it is no longer below a limit: never more than the whole, and the whole
--- unless it was dropped.
-pub record UpTo (early : Bool) (limit whole part : ℕ) : Type 0 where
+-- What is added up of a sum, where it is dropped once it is no longer below a limit, if there is one: never more than the whole, and the
+-- whole unless it was dropped.
+pub record UpTo (limit : Option ℕ) (whole part : ℕ) : Type 0 where
   pub within : part ≤ whole
-  pub all : (early ≡ true → part < limit) → part ≡ whole
+  pub all : IfSome limit (λ most. part < most) → part ≡ whole
+
+-- all of it
+pub up_to_all : (limit : Option ℕ) {whole part : ℕ} → part ≡ whole → UpTo limit whole part
+up_to_all limit e = record { within = omega (arith, e); all = λ h. e }
 
 -- a sum that was dropped before anything was added up
-pub up_to_none : (early : Bool) (limit whole : ℕ) → early ≡ true → limit ≡ 0 → UpTo early limit whole 0
-up_to_none early limit whole t e = record { within = omega arith; all = λ h. absurd (let l : 0 < limit = h t in omega arith) }
-
--- one that may be
-pub up_to_early : (early : Bool) (limit whole s : ℕ) → early ≡ true → UpTo true limit whole s → UpTo early limit whole s
-up_to_early early limit whole s t u = subst (λ (b : Bool). UpTo b limit whole s) (sym t) u
+pub up_to_none : (whole : ℕ) → UpTo (Some 0) whole 0
+up_to_none whole = record { within = omega arith; all = λ h. absurd (let l : 0 < 0 = h in omega arith) }
 
 -- the same of a number that is the same
-pub up_to_same : (early : Bool) (limit : ℕ) {v w s : ℕ} → v ≡ w → UpTo early limit v s → UpTo early limit w s
-up_to_same early limit e u = record { within = omega (arith, u.within, e); all = λ h. u.all h ∙ e }
+pub up_to_same : (limit : Option ℕ) {v w s : ℕ} → v ≡ w → UpTo limit v s → UpTo limit w s
+up_to_same limit e u = record { within = omega (arith, u.within, e); all = λ h. u.all h ∙ e }
+
+-- one that is below the best, where that is the limit, was not dropped
+pub up_to_below : (early : Bool) (best : ℕ) {whole part : ℕ} → UpTo (then_some early best) whole part → part < best → part ≡ whole
+up_to_below true best u l = u.all l
+up_to_below false best u l = u.all tt
 
 module _ (f : ℕ → ℕ) (n : ℕ) where
   -- f a + .. + f (n - 1)
@@ -71,11 +77,11 @@ module _ (f : ℕ → ℕ) (n : ℕ) where
       whole_first e = omega (arith, total_none f, e)
 
   -- the loop ends: at row 0, or once the sum is no longer below the limit
-  pub tail_done : (limit a s : ℕ) → a ≤ n → s ≡ tail a → (s < limit → a ≡ 0) → UpTo true limit (total f n) s
+  pub tail_done : (limit a s : ℕ) → a ≤ n → s ≡ tail a → (s < limit → a ≡ 0) → UpTo (Some limit) (total f n) s
   tail_done limit a s h e z =
       record {
         within = omega (arith, e, tail_part a h);
-        all = λ l. e ∙ ap tail (z (l refl)) ∙ tail_whole;
+        all = λ l. e ∙ ap tail (z l) ∙ tail_whole;
       }
 
 -- a row of a block whose sample in row y and column x is g y x: its sum of absolute differences

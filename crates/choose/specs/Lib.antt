@@ -5,3 +5,4 @@ pub mod Ready
 pub mod Mirror
 pub mod Sums
 pub mod Early
+pub mod Given

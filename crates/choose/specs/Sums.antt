@@ -9,7 +9,7 @@ use Rattle.laws.specs.Fill.{block}
 use Rattle.laws.specs.FillLaws.{length_rows, rows_at}
 use Rattle.laws.specs.Sum.{total_same, total_turned}
 use Rattle.domain.specs.Facts.{Size, size_small}
-use Rattle.h265.specs.Notation.{Neighbours, from_rows}
+use Rattle.h265.specs.Notation.{Neighbours}
 use Rattle.h265.specs.Setting.{luma_at, first_edition_strong}
 use Rattle.h265.specs.Filtering.{min_dist_ver_hor, filter_flag, filtered}
 use Rattle.h265.specs.Prediction.{filters, prepared}
@@ -68,11 +68,9 @@ mirrored_sum bits n mode nb source turned s low high t =
     (λ x y hx hy. sym (mirrored mode low high bits n y x true nb (size_small n s).1 hy hx))
     ∙ turned_sum n (source_at n source) (predicted_by_mode bits true true n mode nb)
 
--- smoothed rows beside rows as they are: the standard's, as far as any mode asks for them
-pub record SmoothRows (bits n : ℕ) (nb : Neighbours) (corner : ℕ) (above left : List ℕ) : Type 0 where
-  pub above_long : 65 ≤ length above
-  pub left_long : 65 ≤ length left
-  pub smooth : (mode : ℕ) → filter_flag n mode ≡ true → Agree n (from_rows corner above left) (filtered true bits n nb)
+-- smoothed neighbours beside neighbours as they are: the standard's, as far as any mode asks for them
+pub record Smooths (bits n : ℕ) (nb smoothed : Neighbours) : Type 0 where
+  pub smooth : (mode : ℕ) → filter_flag n mode ≡ true → Agree n smoothed (filtered true bits n nb)
 
 -- no mode of side 4 asks for them
 pub never_smoothed : (n mode : ℕ) → n ≡ 4 → filter_flag n mode ≡ true → ⊥

@@ -9,14 +9,14 @@ ghost use Rattle.laws.specs.Fill.{run, block};
 ghost use Rattle.laws.specs.Sum.{total};
 ghost use Rattle.laws.specs.Least.{FirstLeast};
 ghost use Rattle.h265.specs.Notation.{from_rows};
+ghost use Rattle.domain.specs.Domain.{depth_ok, size_ok};
 ghost use Rattle.domain.specs.Facts.{Size};
 ghost use Rattle.predict.specs.Lent.{entry_at, lent_neighbours};
 ghost use Rattle.predict.specs.modes.Modes.{predicted_by_mode};
 ghost use Rattle.predict.specs.refusals.Refusals.{lengths};
 ghost use Rattle.choose.specs.Choose.{apart, differences, source_at, mode_sum, lends_enough, choose_no, Chooses, lends, ScratchKept};
-ghost use Rattle.choose.specs.Ready.{held_by, Ready};
 ghost use Rattle.choose.specs.Early.{source_from, UpTo, Upward};
-ghost use Rattle.choose.specs.Sums.{turned_at, TurnedSource, SmoothRows};
+ghost use Rattle.choose.specs.Sums.{turned_at, TurnedSource, Smooths};
 
 use fmt::depth;
 use octets::lent;
@@ -24,11 +24,51 @@ use predict::{angular, planar_dc};
 use samples::filters;
 
 // A call's number, and the mode with its sum of absolute differences, both 0 where it is refused.
-#[derive(Clone, Copy)]
+#[derive(Clone, Copy, Debug, PartialEq, Eq)]
 pub struct Chosen {
     pub no: u32,
     pub mode: u8,
     pub sum: u32,
+}
+
+// The samples that a block is predicted from: the corner, the row above and the column to the left.
+#[derive(Clone, Copy)]
+struct Border<'a> {
+    corner: u16,
+    above: &'a [u16],
+    left: &'a [u16],
+    ghost long: { (65 ≤ length above.now) × (65 ≤ length left.now) },
+}
+
+// A block that modes are tried against: its samples, row by row, its side and its bit depth.
+#[derive(Clone, Copy)]
+struct Block<'a> {
+    samples: &'a [u16],
+    n: usize,
+    bits: u32,
+    ghost size: { size_ok n ≡ true },
+    ghost depth: { depth_ok bits ≡ true },
+    ghost room: { n * n ≤ length samples.now },
+}
+
+// The tables of the angular predictor, which are lent.
+#[derive(Drop)]
+struct Tables<'a> {
+    refs: &'a mut [u16],
+    indices: &'a mut [u32],
+    fractions: &'a mut [u32],
+    ghost long: { (193 ≤ length refs.now) × ((32 ≤ length indices.now) × (32 ≤ length fractions.now)) },
+}
+
+// How long all is that a call lends, but for the source.
+#[derive(Clone, Copy)]
+struct Lent {
+    above: usize,
+    left: usize,
+    pred: usize,
+    refs: usize,
+    indices: usize,
+    fractions: usize,
 }
 
 // How far apart two samples are, in 16 bits, in which twice as many are done at once.
@@ -101,449 +141,263 @@ fn turn(source: &[u16], n: usize, turned: &mut [u16])
     }
 }
 
-// The block of a mode from rows as they are, its edge filtered.
-fn mode_block(
-    mode: u8,
-    corner: u16,
-    above: &[u16],
-    left: &[u16],
-    n: usize,
-    bits: u32,
-    pred: &mut [u16],
-    refs: &mut [u16],
-    indices: &mut [u32],
-    fractions: &mut [u32],
-)
-    requires { Ready bits n (held_by above left pred refs indices fractions) × (mode ≤ 34) }
-    ensures { pred.new
-        ≡ block (λ (y x : ℕ). predicted_by_mode bits true true n mode (lent_neighbours corner above left) x y) n
-        pred.old }
-{
-    match mode {
-        0 => {
-            planar_dc::predict_planar_into(above, left, n, &mut *pred);
+// The block of a mode, its edge filtered, and how far it is from the samples. The block that is made stands in a buffer that is lent.
+impl Block<'_> {
+    ghost use Rattle.choose.specs.Given.{neighbours, distance};
+
+    // The block that is predicted from a border as it is.
+    fn predict(&self, mode: u8, border: &Border, pred: &mut [u16], tables: &mut Tables)
+        requires { (mode ≤ 34) × (self.now.n * self.now.n ≤ length pred.old) }
+        ensures { pred.new
+            ≡ block (λ (y x : ℕ). predicted_by_mode self.now.bits true true self.now.n mode (neighbours border.now) x y)
+            self.now.n pred.old }
+    {
+        match mode {
+            0 => {
+                planar_dc::predict_planar_into(border.above, border.left, self.n, &mut *pred);
+            }
+            1 => {
+                planar_dc::predict_dc_into(border.above, border.left, self.n, true, &mut *pred);
+            }
+            _ => {
+                angular::predict_angular_slices(
+                    border.corner,
+                    border.above,
+                    border.left,
+                    self.n,
+                    mode,
+                    true,
+                    self.bits,
+                    &mut *pred,
+                    &mut *tables.refs,
+                    &mut *tables.indices,
+                    &mut *tables.fractions,
+                );
+            }
         }
-        1 => {
-            planar_dc::predict_dc_into(above, left, n, true, &mut *pred);
-        }
-        _ => {
-            angular::predict_angular_slices(
-                corner,
-                above,
-                left,
-                n,
+    }
+
+    // How far it is from the samples.
+    fn tried(&self, mode: u8, border: &Border, pred: &mut [u16], tables: &mut Tables) -> u32
+        requires { (mode ≤ 34) × (self.now.n * self.now.n ≤ length pred.old) }
+        ensures { result ≡ distance self.now border.now mode }
+    {
+        self.predict(mode, border, &mut *pred, tables);
+        block_sum(self.samples, &*pred, self.n)
+    }
+
+    // The same of a vertical mode that is not 26 and a side above 8, eight rows at a time and the last ones first: there, far from what
+    // they are predicted from, samples are the furthest off. It ends once the sum is no longer below a limit.
+    fn upward(
+        &self,
+        mode: u8,
+        border: &Border,
+        limit: u32,
+        pred: &mut [u16],
+        refs: &mut [u16],
+    ) -> u32
+        requires { Upward self.now.n mode (length border.now.above.now) (length border.now.left.now) (length self.now.samples.now)
+            (length pred.old) (length refs.old) }
+        ensures { UpTo (Some limit) (distance self.now border.now mode) result }
+    {
+        angular::vertical_refs(
+            border.corner,
+            border.above,
+            border.left,
+            self.n,
+            mode,
+            &mut *refs,
+        );
+        let mut sum: u32 = 0;
+        for eight in (0..self.n / 8).rev() {
+            if sum >= limit {
+                break;
+            }
+            let first = 8 * eight;
+            angular::vertical_rows(
+                border.above,
+                &*refs,
+                self.n,
                 mode,
-                true,
-                bits,
+                first,
+                first + 8,
                 &mut *pred,
-                &mut *refs,
-                &mut *indices,
-                &mut *fractions,
             );
+            sum += eight_sum(self.samples, first, &*pred, self.n);
+        }
+        sum
+    }
+
+    // The same of any mode, which is dropped early where there is a limit: once its sum is no longer below that it has lost. Nothing is
+    // below 0.
+    fn until(
+        &self,
+        mode: u8,
+        border: &Border,
+        limit: Option<u32>,
+        pred: &mut [u16],
+        tables: &mut Tables,
+    ) -> u32
+        requires { (mode ≤ 34) × (self.now.n * self.now.n ≤ length pred.old) }
+        ensures { UpTo limit (distance self.now border.now mode) result }
+    {
+        match limit {
+            Some(0) => 0,
+            Some(most) if (mode >= 18) & (mode != 26) & (self.n > 8) => {
+                self.upward(mode, border, most, &mut *pred, &mut *tables.refs)
+            }
+            _ => self.tried(mode, border, &mut *pred, tables),
         }
     }
 }
 
-// How far the block of a mode is from a source.
-fn tried(
-    mode: u8,
-    corner: u16,
-    above: &[u16],
-    left: &[u16],
-    source: &[u16],
-    n: usize,
-    bits: u32,
-    pred: &mut [u16],
-    refs: &mut [u16],
-    indices: &mut [u32],
-    fractions: &mut [u32],
-) -> u32
-    requires { Ready bits n (held_by above left pred refs indices fractions)
-        × ((mode ≤ 34) × (n * n ≤ length source.now)) }
-    ensures { result ≡ differences (source_at n source.now)
-        (predicted_by_mode bits true true n mode (lent_neighbours corner above left)) n n }
-{
-    mode_block(
-        mode,
-        corner,
-        above,
-        left,
-        n,
-        bits,
-        &mut *pred,
-        &mut *refs,
-        &mut *indices,
-        &mut *fractions,
-    );
-    block_sum(source, &*pred, n)
-}
-
-// The same of a vertical mode that is not 26 and a side above 8, eight rows at a time and the last ones first: there, far from what they
-// are predicted from, samples are the furthest off. It ends once the sum is no longer below a limit.
-fn upward(
-    mode: u8,
-    corner: u16,
-    above: &[u16],
-    left: &[u16],
-    source: &[u16],
-    n: usize,
-    limit: u32,
-    pred: &mut [u16],
-    refs: &mut [u16],
-) -> u32
-    requires { Upward n mode (length above.now) (length left.now) (length source.now) (length pred.old)
-        (length refs.old) }
-    ensures { (bits : ℕ) → UpTo true limit (differences (source_at n source.now)
-        (predicted_by_mode bits true true n mode (lent_neighbours corner above left)) n n) result }
-{
-    angular::vertical_refs(corner, above, left, n, mode, &mut *refs);
-    let mut sum: u32 = 0;
-    let mut first = n;
-    while (first > 0) & (sum < limit) {
-        first -= 8;
-        angular::vertical_rows(above, &*refs, n, mode, first, first + 8, &mut *pred);
-        sum += eight_sum(source, first, &*pred, n);
-    }
-    sum
-}
-
-// The same of any mode, which may be dropped early: once its sum is no longer below the limit it has lost. Nothing is below 0.
-fn until(
-    mode: u8,
-    corner: u16,
-    above: &[u16],
-    left: &[u16],
-    source: &[u16],
-    n: usize,
-    bits: u32,
+// A search over all modes: the border as it is, the same smoothed, the block, the block's samples with rows as columns, and whether a
+// mode may be dropped early.
+#[derive(Clone, Copy)]
+struct Search<'a, 's> {
+    border: Border<'a>,
+    smooth: Border<'s>,
+    block: Block<'a>,
+    turned: &'a [u16],
     early: bool,
-    limit: u32,
-    pred: &mut [u16],
-    refs: &mut [u16],
-    indices: &mut [u32],
-    fractions: &mut [u32],
-) -> u32
-    requires { Ready bits n (held_by above left pred refs indices fractions)
-        × ((mode ≤ 34) × (n * n ≤ length source.now)) }
-    ensures { UpTo early limit (differences (source_at n source.now)
-        (predicted_by_mode bits true true n mode (lent_neighbours corner above left)) n n) result }
-{
-    if early & (limit == 0) {
-        return 0;
-    }
-    if early & (mode >= 18) & (mode != 26) & (n > 8) {
-        return upward(
-            mode, corner, above, left, source, n, limit, &mut *pred, &mut *refs,
-        );
-    }
-    tried(
-        mode,
-        corner,
-        above,
-        left,
-        source,
-        n,
-        bits,
-        &mut *pred,
-        &mut *refs,
-        &mut *indices,
-        &mut *fractions,
-    )
+    ghost turns: { TurnedSource block.n block.samples.now turned.now },
+    ghost smooths: { Smooths block.bits block.n (from_rows border.corner border.above.now border.left.now)
+        (from_rows smooth.corner smooth.above.now smooth.left.now) },
 }
 
-// The same, a horizontal mode mirrored.
-fn mirrored(
-    mode: u8,
-    corner: u16,
-    above: &[u16],
-    left: &[u16],
-    source: &[u16],
-    turned: &[u16],
-    n: usize,
-    bits: u32,
-    early: bool,
-    limit: u32,
-    pred: &mut [u16],
-    refs: &mut [u16],
-    indices: &mut [u32],
-    fractions: &mut [u32],
-) -> u32
-    requires { Ready bits n (held_by above left pred refs indices fractions) × ((mode ≤ 34)
-        × TurnedSource n source.now turned.now) }
-    ensures { UpTo early limit (differences (source_at n source.now)
-        (predicted_by_mode bits true true n mode (lent_neighbours corner above left)) n n) result }
-{
-    if (mode >= 2) & (mode < 18) {
-        return until(
-            36 - mode,
-            corner,
-            left,
-            above,
-            turned,
-            n,
-            bits,
-            early,
-            limit,
-            &mut *pred,
-            &mut *refs,
-            &mut *indices,
-            &mut *fractions,
-        );
-    }
-    until(
-        mode,
-        corner,
-        above,
-        left,
-        source,
-        n,
-        bits,
-        early,
-        limit,
-        &mut *pred,
-        &mut *refs,
-        &mut *indices,
-        &mut *fractions,
-    )
-}
+impl Search<'_, '_> {
+    ghost use Rattle.choose.specs.Given.{distance, sum_of};
 
-// The sum of a mode: from the smoothed rows where the rule says so, and from the rows as they are where it does not.
-fn mode_sum(
-    mode: u8,
-    corner: u16,
-    above: &[u16],
-    left: &[u16],
-    smooth_corner: u16,
-    smooth_above: &[u16],
-    smooth_left: &[u16],
-    source: &[u16],
-    turned: &[u16],
-    n: usize,
-    bits: u32,
-    early: bool,
-    limit: u32,
-    pred: &mut [u16],
-    refs: &mut [u16],
-    indices: &mut [u32],
-    fractions: &mut [u32],
-) -> u32
-    requires { Ready bits n (held_by above left pred refs indices fractions) × ((mode ≤ 34)
-        × (TurnedSource n source.now turned.now × SmoothRows bits n (from_rows corner above.now left.now)
-        smooth_corner smooth_above.now smooth_left.now)) }
-    ensures { UpTo early limit
-        (mode_sum bits n (lent_neighbours corner above left) source.now mode) result }
-{
-    if filters::smooths(mode, n) {
-        return mirrored(
-            mode,
-            smooth_corner,
-            smooth_above,
-            smooth_left,
-            source,
-            turned,
-            n,
-            bits,
-            early,
-            limit,
-            &mut *pred,
-            &mut *refs,
-            &mut *indices,
-            &mut *fractions,
-        );
-    }
-    mirrored(
-        mode,
-        corner,
-        above,
-        left,
-        source,
-        turned,
-        n,
-        bits,
-        early,
-        limit,
-        &mut *pred,
-        &mut *refs,
-        &mut *indices,
-        &mut *fractions,
-    )
-}
-
-// The first of the modes whose sum is the least: a later one takes over where it does better, so that one which may be dropped early has
-// lost once it is not below the best.
-fn least<'a>(
-    corner: u16,
-    above: &[u16],
-    left: &[u16],
-    smooth_corner: u16,
-    smooth_above: &'a [u16],
-    smooth_left: &'a [u16],
-    source: &[u16],
-    turned: &[u16],
-    n: usize,
-    bits: u32,
-    early: bool,
-    pred: &mut [u16],
-    refs: &mut [u16],
-    indices: &mut [u32],
-    fractions: &mut [u32],
-) -> Chosen
-    requires { Ready bits n (held_by above left pred refs indices fractions)
-        × (TurnedSource n source.now turned.now × SmoothRows bits n (from_rows corner above.now left.now)
-        smooth_corner smooth_above.now smooth_left.now) }
-    ensures { (result.no ≡ 0) × FirstLeast
-        (mode_sum bits n (lent_neighbours corner above left) source.now) 35 result.mode result.sum }
-{
-    let mut best = mode_sum(
-        0,
-        corner,
-        above,
-        left,
-        smooth_corner,
-        smooth_above,
-        smooth_left,
-        source,
-        turned,
-        n,
-        bits,
-        false,
-        0,
-        &mut *pred,
-        &mut *refs,
-        &mut *indices,
-        &mut *fractions,
-    );
-    let mut chosen: u8 = 0;
-    let mut mode: u8 = 1;
-    while mode < 35 {
-        let sum = mode_sum(
-            mode,
-            corner,
-            above,
-            left,
-            smooth_corner,
-            smooth_above,
-            smooth_left,
-            source,
-            turned,
-            n,
-            bits,
-            early,
-            best,
-            &mut *pred,
-            &mut *refs,
-            &mut *indices,
-            &mut *fractions,
-        );
-        if sum < best {
-            best = sum;
-            chosen = mode;
+    // What is added up of a mode's sum, from one of the two borders. A horizontal mode is mirrored.
+    fn mirrored(
+        &self,
+        mode: u8,
+        border: &Border,
+        limit: Option<u32>,
+        pred: &mut [u16],
+        tables: &mut Tables,
+    ) -> u32
+        requires { (mode ≤ 34) × (self.now.block.n * self.now.block.n ≤ length pred.old) }
+        ensures { UpTo limit (distance self.now.block border.now mode) result }
+    {
+        if (mode >= 2) & (mode < 18) {
+            let turned = Block {
+                samples: self.turned,
+                n: self.block.n,
+                bits: self.block.bits,
+            };
+            let exchanged = Border {
+                corner: border.corner,
+                above: border.left,
+                left: border.above,
+            };
+            return turned.until(36 - mode, &exchanged, limit, &mut *pred, tables);
         }
-        mode += 1;
+        self.block.until(mode, border, limit, &mut *pred, tables)
     }
-    Chosen {
-        no: 0,
-        mode: chosen,
-        sum: best,
+
+    // The same, from the smoothed border where the rule says so, and from the border as it is where it does not.
+    fn mode_sum(&self, mode: u8, limit: Option<u32>, pred: &mut [u16], tables: &mut Tables) -> u32
+        requires { (mode ≤ 34) × (self.now.block.n * self.now.block.n ≤ length pred.old) }
+        ensures { UpTo limit (sum_of self.now mode) result }
+    {
+        if filters::smooths(mode, self.block.n) {
+            return self.mirrored(mode, &self.smooth, limit, &mut *pred, tables);
+        }
+        self.mirrored(mode, &self.border, limit, &mut *pred, tables)
+    }
+
+    // The first of the modes whose sum is the least: a later one takes over where it does better, so that one which may be dropped early
+    // has lost once it is not below the best.
+    fn least(&self, pred: &mut [u16], tables: &mut Tables) -> Chosen
+        requires { self.now.block.n * self.now.block.n ≤ length pred.old }
+        ensures { (result.no ≡ 0) × FirstLeast (sum_of self.now) 35 result.mode result.sum }
+    {
+        let mut best = self.mode_sum(0, None, &mut *pred, tables);
+        let mut chosen: u8 = 0;
+        for mode in 1..35u8 {
+            let sum = self.mode_sum(mode, self.early.then_some(best), &mut *pred, tables);
+            if sum < best {
+                best = sum;
+                chosen = mode;
+            }
+        }
+        Chosen {
+            no: 0,
+            mode: chosen,
+            sum: best,
+        }
     }
 }
 
 // The search, with rows that are smoothed once for all modes. No mode of side 4 asks for them.
-fn search(
-    corner: u16,
-    above: &[u16],
-    left: &[u16],
-    source: &[u16],
-    turned: &[u16],
-    n: usize,
-    bits: u32,
+fn search_all<'a>(
+    border: Border<'a>,
+    block: Block<'a>,
+    turned: &'a [u16],
     early: bool,
     pred: &mut [u16],
-    refs: &mut [u16],
-    indices: &mut [u32],
-    fractions: &mut [u32],
+    tables: &mut Tables,
 ) -> Chosen
-    requires { Ready bits n (held_by above left pred refs indices fractions)
-        × TurnedSource n source.now turned.now }
-    ensures { (result.no ≡ 0) × FirstLeast
-        (mode_sum bits n (lent_neighbours corner above left) source.now) 35 result.mode result.sum }
+    requires { TurnedSource block.n block.samples.now turned.now × (block.n * block.n ≤ length pred.old) }
+    ensures { (result.no ≡ 0) × FirstLeast (mode_sum block.entry.bits block.entry.n
+        (from_rows border.entry.corner border.entry.above.now border.entry.left.now) block.entry.samples.now)
+        35 result.mode result.sum }
 {
-    if n == 4 {
-        return least(
-            corner,
-            above,
-            left,
-            corner,
-            above,
-            above,
-            source,
+    if block.n == 4 {
+        let all = Search {
+            border,
+            smooth: border,
+            block,
             turned,
-            n,
-            bits,
             early,
-            &mut *pred,
-            &mut *refs,
-            &mut *indices,
-            &mut *fractions,
-        );
+        };
+        return all.least(&mut *pred, tables);
     }
-    let rows = smooth::filter_luma_refs(corner, above, left, n, bits).rows;
-    least(
-        corner,
-        above,
-        left,
-        rows.corner,
-        &rows.above,
-        &rows.left,
-        source,
-        turned,
-        n,
-        bits,
-        early,
-        &mut *pred,
-        &mut *refs,
-        &mut *indices,
-        &mut *fractions,
+    let rows = smooth::filter_luma_refs(
+        border.corner,
+        border.above,
+        border.left,
+        block.n,
+        block.bits,
     )
+    .rows;
+    let smooth = Border {
+        corner: rows.corner,
+        above: &rows.above,
+        left: &rows.left,
+    };
+    let all = Search {
+        border,
+        smooth,
+        block,
+        turned,
+        early,
+    };
+    all.least(&mut *pred, tables)
 }
 
 // Number 5: whether each list that is lent is long enough.
-fn lends_enough(
-    n: usize,
-    source: usize,
-    above: usize,
-    left: usize,
-    pred: usize,
-    refs: usize,
-    indices: usize,
-    fractions: usize,
-) -> bool
+fn lends_enough(n: usize, source: usize, lent: Lent) -> bool
     requires { Size n }
-    ensures { result ≡ lends_enough n source (lengths above left pred refs indices fractions) }
+    ensures { result
+        ≡ lends_enough n source (lengths lent.above lent.left lent.pred lent.refs lent.indices lent.fractions) }
 {
     let samples = n * n;
-    (above >= 65)
-        & (left >= 65)
+    (lent.above >= 65)
+        & (lent.left >= 65)
         & (source >= samples)
-        & (pred >= samples)
-        & (refs >= 193)
-        & (indices >= 32)
-        & (fractions >= 32)
+        & (lent.pred >= samples)
+        & (lent.refs >= 193)
+        & (lent.indices >= 32)
+        & (lent.fractions >= 32)
 }
 
 // The number that refuses a choice, or 0.
-fn choose_no(
-    bits: u32,
-    n: usize,
-    source: &[u16],
-    above: usize,
-    left: usize,
-    pred: usize,
-    refs: usize,
-    indices: usize,
-    fractions: usize,
-) -> u32
-    ensures { result ≡ choose_no bits n source.now (lengths above left pred refs indices fractions) }
+#[tactic(auto, using(fmt::specs::depth::Laws::largest_of_is, domain::specs::Facts::depth_of), unfolding(crate::specs::Choose::choose_no))]
+fn choose_no(bits: u32, n: usize, source: &[u16], lent: Lent) -> u32
+    ensures { result
+        ≡ choose_no bits n source.now (lengths lent.above lent.left lent.pred lent.refs lent.indices lent.fractions) }
 {
     if !domain::depth_ok(bits) {
         return 1;
@@ -551,7 +405,7 @@ fn choose_no(
     if !domain::size_ok(n) {
         return 2;
     }
-    if !lends_enough(n, source.len(), above, left, pred, refs, indices, fractions) {
+    if !lends_enough(n, source.len(), lent) {
         return 5;
     }
     if !lent::samples_ok(&source[..n * n], depth::largest_of(bits)) {
@@ -578,17 +432,15 @@ fn answer(
         (mode_sum bits n (lent_neighbours corner above left) source.now) result
         × ((result.no ≡ 0 → ⊥) → ScratchKept pred refs indices fractions) }
 {
-    let no = choose_no(
-        bits,
-        n,
-        source,
-        above.len(),
-        left.len(),
-        pred.len(),
-        refs.len(),
-        indices.len(),
-        fractions.len(),
-    );
+    let lent = Lent {
+        above: above.len(),
+        left: left.len(),
+        pred: pred.len(),
+        refs: refs.len(),
+        indices: indices.len(),
+        fractions: fractions.len(),
+    };
+    let no = choose_no(bits, n, source, lent);
     if no != 0 {
         return Chosen {
             no,
@@ -598,20 +450,22 @@ fn answer(
     }
     let mut turned = [0u16; 1024];
     turn(source, n, &mut turned);
-    search(
+    let border = Border {
         corner,
         above,
         left,
-        source,
-        &turned,
+    };
+    let block = Block {
+        samples: source,
         n,
         bits,
-        early,
-        &mut *pred,
-        &mut *refs,
-        &mut *indices,
-        &mut *fractions,
-    )
+    };
+    let mut tables = Tables {
+        refs: &mut *refs,
+        indices: &mut *indices,
+        fractions: &mut *fractions,
+    };
+    search_all(border, block, &turned, early, &mut *pred, &mut tables)
 }
 
 // The luma mode whose prediction from a corner and two rows is nearest to a block of side n, the lowest on a tie. The last four slices

@@ -1,14 +1,14 @@
--- `choose::mirrored` meets its contract. A horizontal mode's sum is that of the vertical one that it mirrors. Rests on `until`.
+-- `choose::Search::mirrored` meets its contract. A horizontal mode's sum is that of the vertical one that it mirrors. Rests on `until`.
 use Prim.Native.Nat.{◌≤◌, ◌<◌}
 use lib.Dec.{leb, ltb}
 use borrow.Author.Tests.{leb-true, ltb-true}
 use Rattle.laws.specs.Choose.{both_true}
-use Rattle.h265.specs.Notation.{from_rows}
-use Rattle.choose.specs.Ready.{side-of}
+use Rattle.domain.specs.Facts.{size_of}
+use Rattle.choose.specs.Given.{neighbours}
 use Rattle.choose.specs.Sums.{mirrored_sum}
 use Rattle.choose.specs.Early.{up_to_same}
-use Rattle.choose.proofs.mirrored.Goals as goal
-use Rattle.choose.proofs.mirrored.Goals.{Then-mode}
+use Rattle.choose.proofs.Search.mirrored.Goals as goal
+use Rattle.choose.proofs.Search.mirrored.Goals.{Then-mode}
 
 horizontal : (c : Then-mode) → (2 ≤ c.args.mode) × (c.args.mode < 18)
 horizontal c =
@@ -18,8 +18,9 @@ horizontal c =
 
 pub returns-then-mode : goal.returns-then-mode
 returns-then-mode c = let a = c.args in
-    let p = c.requires in
+    let s = a.self.now in
+    let k = s.block in
     let h = horizontal (goal.at.returns-then-mode c).Then-mode in
-    up_to_same _ _ (mirrored_sum a.bits a.n a.mode (from_rows a.corner a.above.now a.left.now) a.source.now a.turned.now
-    (side-of p.0) h.0 h.1 p.1.1)
+    up_to_same _
+    (mirrored_sum k.bits k.n a.mode (neighbours a.border.now) k.samples.now s.turned.now (size_of k.n k.size) h.0 h.1 s.turns)
     c.until.ensures

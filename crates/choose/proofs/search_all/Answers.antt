@@ -1,0 +1,26 @@
+-- `choose::search_all` meets its contract. The smoothed border is the standard's where a mode asks for it. Rests on `least`.
+use mathlib.Core.Path.{sym, subst}
+use mathlib.Core.Bool.{true}
+use Rattle.h265.specs.Notation.{from_rows}
+use Rattle.h265.specs.Filtering.{filtered}
+use Rattle.h265.specs.Mean.{Agree}
+use Rattle.domain.specs.rows.Neighbours.{neighbours_of}
+use Rattle.smooth.specs.declared.Smoothed.{Smoothed}
+use Rattle.smooth.specs.Standard.{door_is_standard}
+use Rattle.choose.specs.Ready.{smoothing_serves}
+use Rattle.choose.specs.Sums.{never_smoothed}
+use Rattle.choose.proofs.search_all.Goals as goal
+
+pub invariant_of-all-clause-smooths : goal.invariant_of-all-clause-smooths
+invariant_of-all-clause-smooths c = record { smooth = λ m e. absurd (never_smoothed c.args.block.n m c.if-block-eq4.true e) }
+
+pub invariant_of-all-2-clause-smooths : goal.invariant_of-all-2-clause-smooths
+invariant_of-all-2-clause-smooths c = let b = c.args.border in
+    let k = c.args.block in
+    record {
+      smooth = λ m e.
+          subst (λ (s : Smoothed). Agree k.n (neighbours_of s.rows)
+          (filtered true k.bits k.n (from_rows b.corner b.above.now b.left.now)))
+          (sym c.filter_luma_refs.ensures)
+          (door_is_standard true b.corner b.above.now b.left.now k.n k.bits (smoothing_serves k.bits k.n _ _ k.depth k.size b.long.0 b.long.1));
+    }
