@@ -3,10 +3,13 @@
 ghost use Rattle.std.specs.Prelude.{◌≡◌, ℕ, ◌+◌, ◌-◌, ◌*◌, ◌≤◌, ◌<◌, get_or, replicate};
 ghost use Rattle.laws.specs.Fill.{fill};
 ghost use Rattle.laws.specs.Bytes.{le_at};
-ghost use Rattle.report.specs.file.File.{trailer_of, area_of, regions_ok, file_ok};
+ghost use Rattle.plan.specs.tiling.Plan.{no_block};
+ghost use Rattle.report.specs.file.File.{trailer_of, area_of, regions_ok, file_ok, block_in};
+
+use plan::tiling::Block;
 
 // The last 16 bytes of the input.
-#[derive(Clone, Copy)]
+#[derive(Clone, Copy, Debug, PartialEq, Eq)]
 pub struct Trailer {
     pub samples: u32,
     pub plan: u32,
@@ -114,44 +117,40 @@ pub(crate) fn read_samples(b: &[u8], at: u32, many: usize) -> [u16; 8192]
 {
     let mut source = [0u16; 8192];
     let start = at as usize;
-    let mut i = 0;
-    while i < many {
+    for i in 0..many {
         source[i] = two_at(b, start + 2 * i);
-        i += 1;
     }
     source
 }
 
-fn wide(x: u8) -> u32
-    ensures { result ≡ x }
+// A block record of six bytes from `i` on: row and column of two bytes, side and mode of one.
+fn block_at(b: &[u8], i: usize) -> Block
+    requires { i + 6 < 18446744073709551616 }
+    ensures { result ≡ block_in b.now i }
 {
-    x as u32
+    Block {
+        row: u32::from(two_at(b, i)),
+        col: u32::from(two_at(b, i + 2)),
+        side: u32::from(byte_at(b, i + 4)),
+        mode: u32::from(byte_at(b, i + 5)),
+    }
 }
 
-// A field of so many block records: two bytes of each, from `at` on, six bytes apart.
-pub(crate) fn read_twos(b: &[u8], at: usize, many: usize) -> [u32; 512]
-    requires { (at ≤ 4294967300) × (many ≤ 512) }
-    ensures { result ≡ fill (λ (k : ℕ). le_at 2 b.now (at + 6 * k)) many (replicate 512 0) }
+// So many block records from `at` on.
+pub(crate) fn read_plan(b: &[u8], at: u32, many: usize) -> [Block; 512]
+    requires { many ≤ 512 }
+    ensures { result ≡ fill (λ (k : ℕ). block_in b.now (at + 6 * k)) many (replicate 512 no_block) }
 {
-    let mut field = [0u32; 512];
-    let mut k = 0;
-    while k < many {
-        field[k] = two_at(b, at + 6 * k) as u32;
-        k += 1;
+    let none = Block {
+        row: 0,
+        col: 0,
+        side: 0,
+        mode: 0,
+    };
+    let mut plan = [none; 512];
+    let start = at as usize;
+    for k in 0..many {
+        plan[k] = block_at(b, start + 6 * k);
     }
-    field
-}
-
-// The same of one byte.
-pub(crate) fn read_ones(b: &[u8], at: usize, many: usize) -> [u32; 512]
-    requires { (at ≤ 4294967300) × (many ≤ 512) }
-    ensures { result ≡ fill (λ (k : ℕ). get_or b.now (at + 6 * k) 0) many (replicate 512 0) }
-{
-    let mut field = [0u32; 512];
-    let mut k = 0;
-    while k < many {
-        field[k] = wide(byte_at(b, at + 6 * k));
-        k += 1;
-    }
-    field
+    plan
 }
