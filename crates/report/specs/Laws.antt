@@ -1,4 +1,4 @@
--- What joins the functions that lay the lines of all blocks, and what the walk gives them. Rests on the laws of laid text.
+-- What joins the lines of all blocks, and what the walk gives them. Rests on the laws of places.
 use Rattle.std.specs.Prelude.{◌≡◌, refl, List, [], ◌++◌, ℕ, zero, suc, ◌+◌, ◌-◌, ◌*◌, ◌≤◌, ◌<◌, length, set, take, replicate, ℤ}
 use Rattle.std.proofs.Common.{sym, ap, ap₂, ◌∙◌, mul-le-mul, add-one, arith, take_at}
 use Rattle.std.proofs.lemmas.List.{length-replicate, replicate-append-replicate, set-append_left}

@@ -207,7 +207,8 @@ listed_is b t =
     λ i. record { whole = whole i; count = count i; block = λ k. block k i }
 
 -- what is read is what the file asks to be walked
-pub job_is : (b : List ℕ) (t : Trailer) (s : Still) (n : ℕ) (plan : List Block) (source : List ℕ) → GoodFile b t → s ≡ still_in t → n ≡ area_of t
+pub job_is : (b : List ℕ) (t : Trailer) (s : Still) (n : ℕ) (plan : List Block) (source : List ℕ) → GoodFile b t → s ≡ still_in t
+    → n ≡ area_of t
     → plan ≡ fill (λ (k : ℕ). block_in b (t.plan + 6 * k)) t.blocks (replicate 512 no_block)
     → source ≡ fill (λ (i : ℕ). le_at 2 b (t.samples + 2 * i)) n (replicate 8192 0)
     → record { still = s; plan = listed (take t.blocks plan); source = take n source } ≡ job_of b

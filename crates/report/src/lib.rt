@@ -10,13 +10,13 @@ ghost use Rattle.std.specs.Prelude.{◌≡◌, ◌≤◌, ◌<◌, [], replicate
 ghost use Rattle.plan.specs.tiling.Plan.{listed};
 ghost use Rattle.walk.specs.Lent.{scratch_tables, world, world_before, world_after};
 ghost use Rattle.walk.specs.calls.Door.{replay_after};
-ghost use Rattle.report.specs.Told.{still_in, held_job, lines, told, job_of, printed, report_of};
+ghost use Rattle.report.specs.Told.{held_job, lines, told, job_of, printed, report_of};
 ghost use Rattle.report.specs.Laws.{Listed, WholeWalk};
 ghost use Rattle.report.specs.Whole.{Blank, GoodFile};
 
 use crate::file::Trailer;
 use crate::text::Text;
-use plan::tiling::{Block, Frame};
+use plan::tiling::Block;
 use predict::scratch::AngularScratch;
 use walk::checks::Still;
 use walk::{Progress, Stepped};
@@ -122,27 +122,13 @@ fn tell(text: &mut Text, job: &Job, work: &mut [u16], residuals: &mut [i32], pla
     text::push_ending(text, job.plan.len(), same);
 }
 
-fn still_in(t: Trailer) -> Still
-    ensures { result ≡ still_in t }
-{
-    let frame = Frame {
-        width: u32::from(t.width),
-        height: u32::from(t.height),
-        ctu: u32::from(t.ctu),
-    };
-    Still {
-        bits: u32::from(t.bits),
-        frame,
-    }
-}
-
 // The text of a file that number 12 is not given for.
 fn tell_file(text: &mut Text, b: &[u8], t: Trailer)
     requires good { GoodFile b.now t }
     requires empty { text.old.bytes ≡ [] }
     ensures { text.new.bytes ≡ told (job_of b.now) }
 {
-    let samples = file::area_of(t);
+    let samples = t.area();
     let blocks = t.blocks as usize;
     let source = file::read_samples(b, t.samples, samples);
     let plan = file::read_plan(b, t.plan, blocks);
@@ -150,7 +136,7 @@ fn tell_file(text: &mut Text, b: &[u8], t: Trailer)
     let mut residuals = blank_residuals();
     let mut plane = blank_plane();
     let job = Job {
-        still: still_in(t),
+        still: t.still(),
         plan: &plan[..blocks],
         source: &source[..samples],
     };
@@ -168,10 +154,9 @@ fn push_report(text: &mut Text, input: &[u8])
     requires { text.old.bytes ≡ [] }
     ensures { text.new.bytes ≡ printed input.now }
 {
-    if file::file_ok(input) {
-        tell_file(text, input, file::trailer_of(input));
-    } else {
-        text::push_refusal(text, 12, 0);
+    match Trailer::read(input) {
+        Some(t) => tell_file(text, input, t),
+        None => text::push_refusal(text, 12, 0),
     }
 }
 

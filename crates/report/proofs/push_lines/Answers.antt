@@ -11,8 +11,11 @@ use Rattle.report.proofs.push_lines.Goals as goal
 
 pub loop-b-init : goal.loop-b-init
 loop-b-init c =
-    let v = c.args.residuals.now in
-    record { rest_is = ap (λ i. drop i v) (place_none _); bytes = c.requires.empty ∙ lines_none _ _; short = omega (arith, ap length c.requires.empty) }
+    record {
+      rest_is = ap (λ i. drop i c.args.residuals.now) (place_none _);
+      bytes = c.requires.empty ∙ lines_none _ _;
+      short = omega (arith, ap length c.requires.empty);
+    }
 
 pub split_at-requires : goal.split_at-requires
 split_at-requires c =
@@ -23,7 +26,8 @@ split_at-requires c =
 
 pub sum_of-requires : goal.sum_of-requires
 sum_of-requires c =
-    omega (arith, c.split_at.ensures.front_len, square (listed c.args.plan.now) c.args.residuals.now c.requires.plan c.loop-b.b-index c.loop-b-test.true)
+    let few = square (listed c.args.plan.now) c.args.residuals.now c.requires.plan c.loop-b.b-index c.loop-b-test.true in
+    omega (arith, c.split_at.ensures.front_len, few)
 
 pub loop-b-preserved : goal.loop-b-preserved
 loop-b-preserved c =
@@ -36,7 +40,8 @@ loop-b-preserved c =
     let part = among p v c.requires.plan k c.loop-b-test.true in
     let sum = c.sum_of.ensures ∙ ap (sum_by nat_abs) (c.split_at.ensures.front ∙ ap (take n) e) ∙ sum_is v (place p.block k) n part in
     record {
-      rest_is = c.split_at.ensures.back ∙ ap (drop n) e ∙ drop-drop n (place p.block k) v ∙ ap (λ i. drop i v) (place_more p.block k _ _ refl refl);
+      rest_is = c.split_at.ensures.back ∙ ap (drop n) e ∙ drop-drop n (place p.block k) v
+          ∙ ap (λ i. drop i v) (place_more p.block k _ _ refl refl);
       bytes = lines_more p.block v k l.invariant.bytes sum c.push_line.ensures.bytes;
       short = omega (arith, l.invariant.short, c.push_line.ensures.short);
     }

@@ -23,5 +23,6 @@ push_lines-requires-clause-plan c =
 pub returns : goal.returns
 returns c =
     let p = c.requires.blank in
-    let told = served_told c.walk_all-walked.ensures p.world c.if-walked-ne0.false _ _ _ p.plane_zero c.replay_all.ensures c.agrees-same.ensures in
+    let z = c.if-walked-ne0.false in
+    let told = served_told c.walk_all-walked.ensures p.world z _ _ _ p.plane_zero c.replay_all.ensures c.agrees-same.ensures in
     c.push_ending.ensures ∙ ap (λ d. d ++ ending (length c.args.job.now.plan.now) c.agrees-same.result) c.push_lines.ensures.bytes ∙ told

@@ -1,4 +1,4 @@
--- The kit's decimal digits are those of `spell`, and they are few. Rests on the kit's laws of decimal digits.
+-- The kit's decimal digits are those of `spell`. Rests on the kit's laws of decimal digits.
 use Rattle.std.specs.Prelude.{◌≡◌, refl, List, [], ◌∷◌, ◌++◌, ℕ, zero, suc, ◌+◌, ◌/◌, ◌%◌, ◌^◌, ◌≤◌, ◌<◌, decimal}
 use Rattle.std.proofs.Common.{ap, arith, lt-ltb}
 use Rattle.std.proofs.Math.Nat.{pow-succ'}
