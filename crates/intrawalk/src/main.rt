@@ -43,7 +43,5 @@ fn main(rt: HostRuntime) -> io::Result<()> {
     let mut buffer = [0u8; 65537];
     let n = read_input(&mut rt.stdin(), &mut buffer);
     let printout = report::report(&buffer[..n]);
-    let text = printout.text;
-    let length = printout.length;
-    rt.write_all(&text[..length])
+    rt.write_all(&printout.text[..printout.length])
 }

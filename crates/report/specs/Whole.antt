@@ -1,7 +1,9 @@
 -- What joins the walk, the replay and the text, and the file with what is walked. Rests on walk's laws of a call that is served.
-use Rattle.std.specs.Prelude.{◌≡◌, Bool, true, false, cond, ◌&&◌, ℕ, ◌+◌, ◌-◌, ◌*◌, ◌≤◌, leb, ltb, eqb, ℤ, pos, length, get_or, take, drop, replicate}
+use Rattle.std.specs.Prelude.{◌≡◌, Bool, true, false, cond, ◌&&◌, ℕ, ◌+◌, ◌-◌, ◌*◌, ◌≤◌, leb, ltb, eqb, ℤ, pos, length, get_or, take, drop}
+use Rattle.std.specs.Prelude.{replicate}
 use Rattle.std.proofs.Math.Path.{refl, ap, ap₂}
-use Rattle.std.proofs.Common.{sym, ◌∙◌, subst, arith, length-append, length-take-le, leb-true, ltb-true, ltb-false, eqb-true, eq-eqb, ne_eqb}
+use Rattle.std.proofs.Common.{sym, ◌∙◌, subst, arith, length-append, length-take-le, leb-true, ltb-true, ltb-false, eqb-true, eq-eqb}
+use Rattle.std.proofs.Common.{ne_eqb}
 use mathlib.Core.List.{List, ◌++◌}
 use Rattle.std.proofs.lemmas.List.{length-replicate, get_or_past}
 use Rattle.laws.specs.Fill.{fill}
@@ -128,18 +130,11 @@ held_file b t e q =
       plan-in = omega (arith, leb-true (t.plan + 6 * t.blocks) start a.1);
     }
 
-pub samples_fit : {b : List ℕ} {t : Trailer} {n : ℕ} → GoodFile b t → n ≡ area_of t → n ≤ 8192
-samples_fit h e = omega (arith, e, h.samples_few)
-
--- the parts of the arrays
-part_long : {A : Type 0} (n : ℕ) (d : List A) {m : ℕ} → length d ≡ m → n ≤ m → n ≡ length (take n d)
-part_long n d e h = sym (length-take-le n d (omega arith))
-
-pub zeros_long : {A : Type 0} (n m : ℕ) (z : A) {d : List A} → d ≡ replicate m z → n ≤ m → n ≡ length (take n d)
-zeros_long n m z {d} e h = part_long n d (ap length e ∙ length-replicate m z) h
-
+-- the part of an array that was filled
 pub fill_long : {A : Type 0} (f : ℕ → A) (k m : ℕ) (z : A) {d : List A} → d ≡ fill f k (replicate m z) → k ≤ m → k ≡ length (take k d)
-fill_long f k m z {d} e h = part_long k d (ap length e ∙ length_fill f k (replicate m z) ∙ length-replicate m z) h
+fill_long f k m z {d} e h =
+    let l : length d ≡ m = ap length e ∙ length_fill f k (replicate m z) ∙ length-replicate m z in
+    sym (length-take-le k d (omega (arith, l)))
 
 take_zeros : {A : Type 0} (n m : ℕ) (z : A) → n ≤ m → take n (replicate m z) ≡ replicate n z
 unfolding fill

@@ -6,7 +6,7 @@ pub mod file;
 mod sums;
 mod text;
 
-ghost use Rattle.std.specs.Prelude.{◌≡◌, ◌≤◌, ◌<◌, [], replicate, length as count, pos};
+ghost use Rattle.std.specs.Prelude.{◌≡◌, ◌≤◌, ◌<◌, [], length as count};
 ghost use Rattle.plan.specs.tiling.Plan.{listed};
 ghost use Rattle.walk.specs.Lent.{scratch_tables, world, world_before, world_after};
 ghost use Rattle.walk.specs.calls.Door.{replay_after};
@@ -34,26 +34,6 @@ struct Job<'a> {
     still: Still,
     plan: &'a [Block],
     source: &'a [u16],
-}
-
-// Room for a plane, for a picture's residuals and for the text, each of zeros.
-fn blank_plane() -> [u16; 8192]
-    ensures { result ≡ replicate 8192 0 }
-{
-    [0; 8192]
-}
-
-fn blank_residuals() -> [i32; 8192]
-    ensures { result ≡ replicate 8192 (pos 0) }
-{
-    [0; 8192]
-}
-
-fn blank_text() -> [u8; 65536]
-    ensures zeros { result ≡ replicate 65536 0 }
-    ensures len { count result ≡ 65536 }
-{
-    [0; 65536]
 }
 
 // The lines of all blocks.
@@ -132,9 +112,9 @@ fn tell_file(text: &mut Text, b: &[u8], t: Trailer)
     let blocks = t.blocks as usize;
     let source = file::read_samples(b, t.samples, samples);
     let plan = file::read_plan(b, t.plan, blocks);
-    let mut work = blank_plane();
-    let mut residuals = blank_residuals();
-    let mut plane = blank_plane();
+    let mut work = [0u16; 8192];
+    let mut residuals = [0i32; 8192];
+    let mut plane = [0u16; 8192];
     let job = Job {
         still: t.still(),
         plan: &plan[..blocks],
@@ -167,7 +147,7 @@ pub fn report(input: &[u8]) -> Printout
     let mut written = Text::new();
     push_report(&mut written, input);
     let length = written.len();
-    let mut text = blank_text();
+    let mut text = [0u8; 65536];
     text[..length].copy_from_slice(written.as_str().as_bytes());
     Printout { text, length }
 }
