@@ -5,6 +5,7 @@ ghost use Rattle.std.specs.Prelude.{◌≡◌, ◌≤◌, ◌<◌, IfOk, length,
 ghost use Rattle.std.specs.Io.{ReadsAtMost};
 ghost use Rattle.std.specs.Io.KnownBytes.{Consumes, IsAtEnd};
 
+use report::Printout;
 use std::io;
 use std::io::Read;
 
@@ -42,8 +43,6 @@ fn read_input<R: Read>(input: &mut R, buffer: &mut [u8]) -> usize
 fn main(rt: HostRuntime) -> io::Result<()> {
     let mut buffer = [0u8; 65537];
     let n = read_input(&mut rt.stdin(), &mut buffer);
-    let printout = report::report(&buffer[..n]);
-    let text = printout.text;
-    let length = printout.length;
+    let Printout { text, length } = report::report(&buffer[..n]);
     rt.write_all(&text[..length])
 }
