@@ -3,7 +3,7 @@
 // the verdict in verdict. Rests on the decode order's definitions and on the domain's tests.
 
 // A still's luma sides and its CTU; its least unit is 4.
-#[derive(Clone, Copy)]
+#[derive(Clone, Copy, PartialEq, Eq, Debug)]
 pub struct Frame {
     pub width: u32,
     pub height: u32,
@@ -12,7 +12,7 @@ pub struct Frame {
 
 // A block of a plan.
 #[repr(C)]
-#[derive(Clone, Copy)]
+#[derive(Clone, Copy, PartialEq, Eq, Debug)]
 pub struct Block {
     pub row: u32,
     pub col: u32,
