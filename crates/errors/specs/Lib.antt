@@ -5,8 +5,8 @@ pub mod Errors
 pub mod Served
 pub mod Limits
 pub mod Added
--- Listed: a pair under a plan of records, block by block.
-pub mod Listed
+-- Blocks: a pair block by block.
+pub mod Blocks
 -- RecordBytes: a report as bytes, with RecordLaws, how it is read and stored.
 pub mod RecordBytes
 pub mod RecordLaws
