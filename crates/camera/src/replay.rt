@@ -17,19 +17,22 @@ ghost use Rattle.walk.specs.block.Predicted.{predicted_at};
 ghost use Rattle.walk.specs.block.Ready.{Ready, Lies};
 ghost use Rattle.walk.specs.block_rows.Ready.{RowIn, RowsIn};
 ghost use Rattle.walk.specs.block.Rebuilt.{rebuilt, replay_unit};
-ghost use Rattle.walk.specs.calls.Steps.{doing_of};
+ghost use Rattle.domain.specs.Refusal.{no_of};
+ghost use Rattle.walk.specs.Answers.{step_in};
+ghost use Rattle.walk.specs.calls.Steps.{step_of};
 ghost use Rattle.walk.specs.calls.Ready.{Sound};
 ghost use Rattle.camera.specs.replay.Verdict.{whole_by, lent_bytes, byte_no, byte_verdict, answered};
 ghost use Rattle.camera.specs.replay.VerdictLaws.{put_word};
 ghost use Rattle.camera.specs.replay.Door.{replayed};
 
 use crate::gather;
+use domain::refusal::Refusal;
 use fmt::depth;
 use plan::records;
-use plan::tiling::{Block, Verdict};
+use plan::tiling::{Block, Fault};
 use samples::deltas;
 use walk::checks::Still;
-use walk::{block, calls, checks};
+use walk::{Advance, Progress, block, checks};
 
 // Residual i.
 fn residual_at(b: &[u8], i: usize) -> i32
@@ -123,16 +126,16 @@ fn residuals_within(residuals: &[u8], limit: u16) -> bool
 }
 
 // Numbers 8 and 14 over all residuals. The tighter limit is asked first: where all keep it, each is looked at once.
-fn residuals_no(residuals: &[u8], largest: u16) -> u32
-    ensures { result ≡ first_fail (residual_checks largest (residuals_of residuals.now)) }
+fn check_residuals(residuals: &[u8], largest: u16) -> Result<(), Refusal>
+    ensures { no_of result ≡ first_fail (residual_checks largest (residuals_of residuals.now)) }
 {
     if residuals_within(residuals, largest) {
-        return 0;
+        return Ok(());
     }
     if residuals_within(residuals, 65535) {
-        14
+        Err(Refusal::Excess)
     } else {
-        8
+        Err(Refusal::Residual)
     }
 }
 
@@ -209,25 +212,36 @@ fn are_whole(s: Still, plane: usize, residuals: usize) -> bool
     samples & ((residuals % 4 == 0) & (residuals / 4 == area))
 }
 
-// The number of the checks before the plan's: 1, 4, 5, 8, 14.
-fn byte_no(s: Still, plan: &[u8], residuals: &[u8], plane: usize, res: usize) -> u32
-    ensures { result ≡ byte_no s (lent_bytes plan.now residuals.now plane res) }
+// The checks before the plan's: 1, 4, 5, 8, 14.
+fn check_bytes(
+    s: Still,
+    plan: &[u8],
+    residuals: &[u8],
+    plane: usize,
+    res: usize,
+) -> Result<(), Refusal>
+    ensures { no_of result ≡ byte_no s (lent_bytes plan.now residuals.now plane res) }
 {
     let planes = are_whole(s, plane, residuals.len());
-    let no = checks::opening_no(s, planes & (plan.len() % 6 == 0) & (res >= 8));
-    if no != 0 {
-        return no;
-    }
-    residuals_no(residuals, depth::largest_of(s.bits))
+    checks::check_opening(s, planes & (plan.len() % 6 == 0) & (res >= 8))?;
+    check_residuals(residuals, depth::largest_of(s.bits))
 }
 
-// The number of the checks before the plan's, then the plan's, then 11.
-fn verdict(done: u32, s: Still, plan: &[u8], residuals: &[u8], plane: usize, res: usize) -> Verdict
-    ensures { result ≡ byte_verdict s done (lent_bytes plan.now residuals.now plane res) }
+// How far a call goes: those checks, then the plan's, then 11.
+fn granted(
+    done: u32,
+    s: Still,
+    plan: &[u8],
+    residuals: &[u8],
+    plane: usize,
+    res: usize,
+    grant: u32,
+) -> Result<Advance, Fault>
+    ensures { step_in result ≡ step_of (byte_verdict s done (lent_bytes plan.now residuals.now plane res))
+        (records_of plan.now).count done grant }
 {
-    let early = byte_no(s, plan, residuals, plane, res);
-    let found = plan::check_plan_bytes(s.frame, plan);
-    checks::settled(done, plan.len() / 6, found, early)
+    let early = check_bytes(s, plan, residuals, plane, res);
+    walk::granted(Progress { done }, s.frame, plan, early, grant)
 }
 
 // Stores a number of four bytes.
@@ -324,16 +338,15 @@ fn replay_blocks(
     }
 }
 
-// A call that is served: the next blocks, with scratch of its own.
-fn serve(done: u32, s: Still, plan: &[u8], residuals: &[u8], plane: &mut [u8], grant: u32) -> u32
-    requires { Sound s (records_of plan.now) (length (samples_of plane.old)) (length (residuals_of residuals.now)) scratch_tables × ((done ≤ length plan.now / 6) × (length plane.old % 2 ≡ 0)) }
-    ensures { (result ≡ done + doing_of (records_of plan.now).count done grant) × (samples_of plane.new ≡ units (replay_unit s (records_of plan.now).block (residuals_of residuals.now))
-        done (doing_of (records_of plan.now).count done grant) (samples_of plane.old)) }
+// A call that is served: the blocks up to `next`, with scratch of its own.
+fn serve(done: u32, s: Still, plan: &[u8], residuals: &[u8], plane: &mut [u8], next: u32)
+    requires { Sound s (records_of plan.now) (length (samples_of plane.old)) (length (residuals_of residuals.now)) scratch_tables × ((next ≤ length plan.now / 6) × (length plane.old % 2 ≡ 0)) }
+    ensures { samples_of plane.new ≡ units (replay_unit s (records_of plan.now).block (residuals_of residuals.now))
+        done (next - done) (samples_of plane.old) }
 {
     let mut refs = [0u16; 193];
     let mut indices = [0u32; 32];
     let mut fractions = [0u32; 32];
-    let did = calls::doing_of(plan.len() / 6, done, grant);
     replay_blocks(
         s,
         plan,
@@ -343,9 +356,8 @@ fn serve(done: u32, s: Still, plan: &[u8], residuals: &[u8], plane: &mut [u8], g
         &mut indices,
         &mut fractions,
         done,
-        (done as usize) + (did as usize),
+        next as usize,
     );
-    done + did
 }
 
 // Decodes the next blocks of a plan in the plane's own bytes, as many as are granted; so many are done before it. It gives its number,
@@ -362,12 +374,24 @@ pub(crate) fn replay(
     ensures { record { number = result; plane = plane.new; result = res.new } ≡ replayed still
         done plan.now residuals.now grant plane.old res.old }
 {
-    let v = verdict(done, still, plan, residuals, plane.len(), res.len());
-    if v.no != 0 {
-        answer(res, v.block, done);
-        return v.no;
+    match granted(
+        done,
+        still,
+        plan,
+        residuals,
+        plane.len(),
+        res.len(),
+        grant,
+    ) {
+        Err(fault) => {
+            answer(res, fault.block, done);
+            fault.why.number()
+        }
+        Ok(advance) => {
+            let next = advance.next.done;
+            serve(done, still, plan, residuals, &mut *plane, next);
+            answer(res, 0, next);
+            0
+        }
     }
-    let next = serve(done, still, plan, residuals, &mut *plane, grant);
-    answer(res, 0, next);
-    0
 }

@@ -1,5 +1,5 @@
--- A report with one block more, and with the first blocks of a pair, and what reads the blocks of a plan. Assumes nothing.
-use Rattle.std.specs.Prelude.{◌≡◌, List, ℕ, ◌<◌}
+-- A report with one block more, and with the first blocks of a pair. Assumes nothing.
+use Rattle.std.specs.Prelude.{List, ℕ}
 use Rattle.plan.specs.declared.tiling.Block.{Block}
 use Rattle.plan.specs.tiling.Plan.{Plan}
 use Rattle.errors.specs.declared.Report.{Report}
@@ -24,7 +24,3 @@ first_blocks plan k = record { whole = plan.whole; count = k; block = plan.block
 
 abbrev pub with_first : Report → List ℕ → List ℕ → Plan → ℕ → Report
 with_first r a b plan k = tallied r (pair_tally r.frame a b (first_blocks plan k))
-
--- what may be called for each block of a plan, and gives it
-abbrev pub Reads : (ℕ → Type 0) → (ℕ → Block → Type 0) → Plan → Type 0
-Reads may gives plan = (k : ℕ) → k < plan.count → may k × ((t : Block) → gives k t → t ≡ plan.block k)

@@ -17,8 +17,8 @@ use Rattle.plan.specs.tiling.PlanCheck.{plan_verdict}
 use Rattle.plan.specs.RecordPlan.{records_of}
 use Rattle.octets.specs.Bytes.{samples_of}
 use Rattle.errors.specs.declared.Report.{Report}
-use Rattle.errors.specs.declared.Counted.{Counted}
-use Rattle.errors.specs.declared.Joined.{Joined}
+use Rattle.errors.specs.Answers.{Counted}
+use Rattle.errors.specs.Answers.{Joined}
 
 -- the square of how far two samples are apart: of the two differences one is 0
 abbrev pub square_apart : ℕ → ℕ → ℕ

@@ -1,4 +1,6 @@
 -- Errors: what a report counts, and what a pair of planes or another report adds to it.
+-- Answers: what the calls' answers say.
+pub mod Answers
 pub mod Errors
 -- Served: what a counted pair rests on. Limits: number 15. Added: any order, any parts. In proofs/, ByMode: sums by
 -- mode add up to the whole; Limits: no sum is too large.

@@ -5,22 +5,27 @@
 pub mod on_bytes;
 pub mod record;
 
-ghost use Rattle.std.specs.Prelude.{◌≡◌, ◌&&◌, ℕ, ◌+◌, ◌-◌, ◌*◌, ◌≤◌, ◌<◌, length, get_or};
+ghost use Rattle.std.specs.Prelude.{◌≡◌, ◌&&◌, ℕ, ◌+◌, ◌-◌, ◌*◌, ◌≤◌, ◌<◌, cond, length, get_or};
 ghost use Rattle.domain.specs.Facts.{Depth};
 ghost use Rattle.order.specs.Good.{Good};
 ghost use Rattle.plan.specs.tiling.Tiling.{picture_of};
 ghost use Rattle.laws.specs.Sum.{total};
-ghost use Rattle.plan.specs.tiling.Plan.{Plan, plan_of, listed};
+ghost use Rattle.plan.specs.tiling.Plan.{plan_of, listed};
 ghost use Rattle.errors.specs.Errors.{square_apart, squares_in, tallied, pair_tally, fresh_report, plane_area, top_of};
-ghost use Rattle.errors.specs.Errors.{at_most, keeps_limits, room_for_pair, pair_no, settle_full, pair_verdict, counted_by, count_pair};
+ghost use Rattle.errors.specs.Errors.{at_most, keeps_limits, room_for_pair, pair_no, pair_verdict, counted_by, count_pair};
 ghost use Rattle.errors.specs.Errors.{same_settings, join_no, join_reports, raised, tally_of};
-ghost use Rattle.errors.specs.Served.{SamplesLow, BlockPair, RoomFor, Limitable, Countable};
-ghost use Rattle.errors.specs.Blocks.{with_block, Reads};
+ghost use Rattle.errors.specs.Served.{SamplesLow, BlockPair, RoomFor, Limitable};
+ghost use Rattle.errors.specs.Blocks.{with_block};
+ghost use Rattle.errors.specs.Answers.{counted_of, joined_of};
+ghost use Rattle.domain.specs.Refusal.{no_of};
+ghost use Rattle.plan.specs.Answers.{verdict_of};
 
+use domain::refusal::Refusal;
 use fmt::depth;
 use octets::lent;
 use octets::lent::Samples;
-use plan::tiling::{Block, Frame, Verdict};
+use plan::blocks::{Blocks, Numbers};
+use plan::tiling::{Block, Fault, Frame};
 
 // Depth, picture and CTU of the pairs that are counted, how many they are, and for each mode its blocks, their samples, and the squares of
 // the differences in them.
@@ -34,19 +39,11 @@ pub struct Report {
     pub squares: [u64; 35],
 }
 
-// A call's number, the block that it is about, and the next record.
-#[derive(Drop)]
-pub struct Counted {
-    pub no: u32,
-    pub block: u32,
-    pub next: Report,
-}
-
-// A call's number and the sum of two records, the first where it is refused.
-#[derive(Drop)]
-pub struct Joined {
-    pub no: u32,
-    pub next: Report,
+// Why a call is refused, the block that this is about, and the report as it was given.
+#[derive(Clone, Copy, PartialEq, Eq, Debug)]
+pub struct Rejected {
+    pub fault: Fault,
+    pub report: Report,
 }
 
 // The square of how far two samples are apart. The remainder changes nothing: it shows the compiler a number of 12 bits, whose square is
@@ -154,41 +151,43 @@ impl Report {
         cols: &[u32],
         sides: &[u32],
         modes: &[u32],
-    ) -> Counted
-        ensures { result ≡ count_pair self a.now b.now (plan_of rows.now cols.entry.now sides.now modes.now) }
+    ) -> Result<Report, Rejected>
+        ensures { counted_of result ≡ count_pair self a.now b.now (plan_of rows.now cols.now sides.now modes.now) }
     {
-        let found = plan::check_plan_numbers(self.frame, rows, cols, sides, modes);
-        let verdict = self.verdict(a, b, plan::is_whole(rows, cols, sides, modes), found);
-        self.counted(
-            a,
-            b,
-            verdict,
-            rows.len(),
-            |k| plan::block_at(rows, cols, sides, modes, k),
-        )
+        let plan = Numbers {
+            rows,
+            cols,
+            sides,
+            modes,
+        };
+        self.count_pair(a, b, plan)
     }
 
     // The same under a plan of records.
-    pub fn count(self, a: &[u16], b: &[u16], plan: &[Block]) -> Counted
-        ensures { result ≡ count_pair self a.now b.now (listed plan.now) }
+    pub fn count(self, a: &[u16], b: &[u16], plan: &[Block]) -> Result<Report, Rejected>
+        ensures { counted_of result ≡ count_pair self a.now b.now (listed plan.now) }
     {
-        let found = plan::check_plan(self.frame, plan);
-        let verdict = self.verdict(a, b, true, found);
-        self.counted(a, b, verdict, plan.len(), |k| plan[k])
+        self.count_pair(a, b, plan)
     }
 
     // Adds another report of the same depth, picture and CTU: what was counted apart is counted together.
-    #[tactic(auto, unfolding(crate::specs::Errors::join_reports))]
-    pub fn join(self, other: Report) -> Joined
-        ensures { result ≡ join_reports self other }
+    #[tactic(auto, unfolding(crate::specs::Errors::join_reports), using(domain::specs::Refused::never_0))]
+    pub fn join(self, other: Report) -> Result<Report, Rejected>
+        ensures { joined_of result ≡ join_reports self other }
     {
-        let no = self.join_no(other);
-        if no != 0 {
-            return Joined { no, next: self };
+        match self.check_join(other) {
+            Err(why) => Err(self.rejected(Fault::from(why))),
+            Ok(()) => Ok(self.added(other)),
         }
-        Joined {
-            no: 0,
-            next: self.added(other),
+    }
+
+    // What a refused call hands back: the report as it was given.
+    fn rejected(self, fault: Fault) -> Rejected
+        ensures { result ≡ record { fault = fault; report = self } }
+    {
+        Rejected {
+            fault,
+            report: self,
         }
     }
 
@@ -214,100 +213,82 @@ impl Report {
 
     // Numbers 1, 4, 5, 7: `fit` says whether what is lent is as long as it must be, `ok` whether all samples are of the depth.
     #[tactic(auto, unfolding(crate::specs::Errors::pair_no))]
-    fn pair_no(self, fit: bool, ok: bool) -> u32
-        ensures { result ≡ pair_no self fit ok }
+    fn check_settings(self, fit: bool, ok: bool) -> Result<(), Refusal>
+        ensures { no_of result ≡ pair_no self fit ok }
     {
         if !domain::depth_ok(self.bits) {
-            return 1;
+            return Err(Refusal::Depth);
         }
         if !domain::picture_ok(self.frame.width, self.frame.height, self.frame.ctu) {
-            return 4;
+            return Err(Refusal::Picture);
         }
         if !fit {
-            return 5;
+            return Err(Refusal::Buffer);
         }
-        if ok { 0 } else { 7 }
+        if ok { Ok(()) } else { Err(Refusal::Sample) }
     }
 
-    // The number of the checks before the plan's. `whole` says whether the plan is of whole records.
-    fn early_no<S: Samples>(self, whole: bool, a: S, b: S) -> u32
-        ensures { result ≡ pair_no self (whole && (S.exactly a (plane_area self) && S.exactly b (plane_area self)))
+    // The checks before the plan's. `whole` says whether the plan is of whole records.
+    fn check_lent<S: Samples>(self, whole: bool, a: S, b: S) -> Result<(), Refusal>
+        ensures { no_of result ≡ pair_no self (whole && (S.exactly a (plane_area self) && S.exactly b (plane_area self)))
             (at_most (top_of self) (S.list a) && at_most (top_of self) (S.list b)) }
     {
         let size = self.area();
         let largest = depth::largest_of(self.bits);
         let ok = lent::samples_ok(a, largest) & lent::samples_ok(b, largest);
-        self.pair_no(whole & (a.exactly(size) & b.exactly(size)), ok)
+        self.check_settings(whole & (a.exactly(size) & b.exactly(size)), ok)
     }
 
-    // The number of the checks before the plan's, then the plan's verdict, then 15: the count first, so that no limit is too large.
-    #[tactic(auto, unfolding(crate::specs::Errors::settle_full, crate::specs::Errors::room_for_pair))]
-    fn settled(self, early: u32, found: Verdict) -> Verdict
-        requires { early ≡ 0 → Depth self.bits × Good (picture_of self.frame) }
-        ensures { result ≡ settle_full early found (room_for_pair self) }
+    // Number 15: whether there is room for a pair more. The count comes first, so that no limit is too large.
+    #[tactic(auto, unfolding(crate::specs::Errors::room_for_pair))]
+    fn check_room(self) -> Result<(), Refusal>
+        requires { Depth self.bits × Good (picture_of self.frame) }
+        ensures { no_of result ≡ cond (room_for_pair self) 0 15 }
     {
-        if early != 0 {
-            return Verdict {
-                no: early,
-                block: 0,
-            };
-        }
-        if found.no != 0 {
-            return found;
-        }
         if self.pairs >= 65536 {
-            return Verdict { no: 15, block: 0 };
+            return Err(Refusal::Limit);
         }
-        let no = if self.keeps_limits() { 0 } else { 15 };
-        Verdict { no, block: 0 }
+        if self.keeps_limits() {
+            Ok(())
+        } else {
+            Err(Refusal::Limit)
+        }
     }
 
-    // The verdict on a pair of planes, the plan's in hand. `whole` says whether the plan is of whole records.
-    #[tactic(auto, using(crate::specs::Served::opened, plan::specs::tiling::Tests::picture_good))]
-    pub(crate) fn verdict<S: Samples>(self, a: S, b: S, whole: bool, found: Verdict) -> Verdict
-        ensures { result ≡ settle_full (pair_no self (whole && (S.exactly a (plane_area self) && S.exactly b (plane_area self)))
-            (at_most (top_of self) (S.list a) && at_most (top_of self) (S.list b))) found (room_for_pair self) }
+    // The checks on a pair: those before the plan's, then the plan's, then 15.
+    fn check_pair<S: Samples, P: Blocks>(self, a: S, b: S, plan: P) -> Result<(), Fault>
+        ensures { verdict_of result ≡ pair_verdict self (S.exactly a (plane_area self) && S.exactly b (plane_area self))
+            (S.list a) (S.list b) (P.plan plan) }
     {
-        self.settled(self.early_no(whole, a, b), found)
+        self.check_lent(plan.whole(), a, b)?;
+        plan::check(self.frame, plan)?;
+        Ok(self.check_room()?)
     }
 
-    // What a pair of planes gives whose verdict is in hand, under a plan of `count` blocks that `block_at` reads: unless it is refused, its
-    // blocks, each under its mode.
-    #[tactic(auto, using(crate::specs::Served::countable, crate::specs::Served::counted_block), unfolding(crate::specs::Errors::counted_by))]
-    pub(crate) fn counted<S: Samples, F: Fn(usize) -> Block>(
+    // Counts a pair of planes under a plan, in whatever form they are lent: unless it is refused, its blocks, each under its mode.
+    pub(crate) fn count_pair<S: Samples, P: Blocks>(
         self,
         a: S,
         b: S,
-        verdict: Verdict,
-        count: usize,
-        block_at: F,
-    ) -> Counted
-        ghost plan: { Plan }
-        requires { let fit = S.exactly a (plane_area self) && S.exactly b (plane_area self) in
-            (verdict ≡ pair_verdict self fit (S.list a) (S.list b) plan)
-            × ((count ≡ plan.count) × Reads (F.pre block_at) (F.post block_at) plan) }
-        ensures { result ≡ counted_by self verdict (pair_tally self.frame (S.list a) (S.list b) plan) }
+        plan: P,
+    ) -> Result<Report, Rejected>
+        ensures { counted_of result ≡ counted_by self (pair_verdict self (S.exactly a (plane_area self) && S.exactly b (plane_area self))
+            (S.list a) (S.list b) (P.plan plan)) (pair_tally self.frame (S.list a) (S.list b) (P.plan plan)) }
     {
-        if verdict.no != 0 {
-            return Counted {
-                no: verdict.no,
-                block: verdict.block,
-                next: self,
-            };
-        }
-        let mut next = Report {
-            pairs: self.pairs + 1,
-            ..self
-        };
-        for k in 0..count {
-            let t = block_at(k);
-            let squares = block_squares(a, b, self.frame.width, t);
-            next.add_block(t, squares);
-        }
-        Counted {
-            no: 0,
-            block: 0,
-            next,
+        match self.check_pair(a, b, plan) {
+            Err(fault) => Err(self.rejected(fault)),
+            Ok(()) => {
+                let mut next = Report {
+                    pairs: self.pairs + 1,
+                    ..self
+                };
+                for k in 0..plan.count() {
+                    let t = plan.block(k);
+                    let squares = block_squares(a, b, self.frame.width, t);
+                    next.add_block(t, squares);
+                }
+                Ok(next)
+            }
         }
     }
 
@@ -330,25 +311,25 @@ impl Report {
         (other.bits == self.bits) & (other.frame == self.frame)
     }
 
-    // The number that refuses the sum of two reports, or 0. The count comes first here too.
+    // Numbers 1, 4, 15 of the sum of two reports. The count comes first here too.
     #[tactic(auto, unfolding(crate::specs::Errors::join_no))]
-    fn join_no(self, other: Report) -> u32
-        ensures { result ≡ join_no self other }
+    fn check_join(self, other: Report) -> Result<(), Refusal>
+        ensures { no_of result ≡ join_no self other }
     {
         if !domain::depth_ok(self.bits) {
-            return 1;
+            return Err(Refusal::Depth);
         }
         let good = domain::picture_ok(self.frame.width, self.frame.height, self.frame.ctu);
         if !(good & self.same_settings(other)) {
-            return 4;
+            return Err(Refusal::Picture);
         }
         if (self.pairs as u64) + (other.pairs as u64) > 65536 {
-            return 15;
+            return Err(Refusal::Limit);
         }
         if self.keeps_limits() & other.keeps_limits() {
-            0
+            Ok(())
         } else {
-            15
+            Err(Refusal::Limit)
         }
     }
 

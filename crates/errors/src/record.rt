@@ -97,13 +97,17 @@ pub fn count_into(a: &[u8], b: &[u8], plan: &[u8], report: &mut [u8]) -> u32
     if report.len() < 864 {
         return 5;
     }
-    let v = on_bytes::count_bytes(report_at(&*report), a, b, plan);
-    put_number(&mut *report, 20, 4, v.block as u64);
-    if v.no != 0 {
-        return v.no;
+    match on_bytes::count_bytes(report_at(&*report), a, b, plan) {
+        Err(rejected) => {
+            put_number(&mut *report, 20, 4, rejected.fault.block as u64);
+            rejected.fault.why.number()
+        }
+        Ok(next) => {
+            put_number(&mut *report, 20, 4, 0);
+            put_report(&mut *report, next);
+            0
+        }
     }
-    put_report(&mut *report, v.next);
-    0
 }
 
 // Adds a record of bytes to another.
@@ -114,10 +118,11 @@ pub fn join_into(other: &[u8], report: &mut [u8]) -> u32
     if !((report.len() >= 864) & (other.len() >= 864)) {
         return 5;
     }
-    let v = report_at(&*report).join(report_at(other));
-    if v.no != 0 {
-        return v.no;
+    match report_at(&*report).join(report_at(other)) {
+        Err(rejected) => rejected.fault.why.number(),
+        Ok(next) => {
+            put_report(&mut *report, next);
+            0
+        }
     }
-    put_report(&mut *report, v.next);
-    0
 }

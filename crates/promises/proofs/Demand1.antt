@@ -21,7 +21,7 @@ use Rattle.fmt.specs.declared.depth.BitDepth.{BitDepth}
 use Rattle.fmt.specs.depth.Depth.{depth_from, depth_number}
 use Rattle.refs.specs.Door.{luma_block, luma_geometry, chroma_block, chroma_geometry}
 use Rattle.checksum.specs.Checksum.{row_range}
-use Rattle.errors.specs.declared.Counted.{Counted}
+use Rattle.errors.specs.Answers.{Counted}
 use Rattle.errors.specs.Errors.{counted_by}
 use Rattle.errors.specs.RecordBytes.{Entered, count_entry}
 use Rattle.predict.specs.refusals.Refusals.{lengths}

@@ -19,8 +19,8 @@ use Rattle.plan.specs.tiling.Plan.{Plan, plan_of, listed}
 use Rattle.plan.specs.tiling.Sums.{picture_total}
 use Rattle.plan.specs.RecordPlan.{records_of}
 use Rattle.errors.specs.declared.Report.{Report}
-use Rattle.errors.specs.declared.Counted.{Counted}
-use Rattle.errors.specs.declared.Joined.{Joined}
+use Rattle.errors.specs.Answers.{Counted}
+use Rattle.errors.specs.Answers.{Joined}
 use Rattle.errors.specs.Errors.{Tally, error_at, pair_tally, tallied, fresh_report, keeps_limits}
 use Rattle.errors.specs.Served.{Figured}
 use Rattle.errors.proofs.Report.count_numbers.Reads as door

@@ -14,8 +14,8 @@ use Rattle.plan.specs.tiling.Sums.{picture_total}
 use Rattle.plan.specs.RecordPlan.{records_of}
 use Rattle.octets.specs.Bytes.{samples_of}
 use Rattle.errors.specs.declared.Report.{Report}
-use Rattle.errors.specs.declared.Counted.{Counted}
-use Rattle.errors.specs.declared.Joined.{Joined}
+use Rattle.errors.specs.Answers.{Counted}
+use Rattle.errors.specs.Answers.{Joined}
 use Rattle.errors.specs.Errors.{Tally, error_at, pair_tally, tally_of, tallied, raised, keeps_limits}
 use Rattle.errors.specs.Errors.{room_for_pair, planes_fit, pair_verdict, settle_full, counted_by, join_no, join_reports, pair_no}
 use Rattle.errors.proofs.ByMode.{blocks_whole, samples_whole, picture_whole}

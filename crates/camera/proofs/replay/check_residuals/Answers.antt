@@ -1,9 +1,9 @@
--- `replay::residuals_no` meets its contract: residuals that keep the tighter limit keep the other. Assumes nothing.
+-- `replay::check_residuals` meets its contract: residuals that keep the tighter limit keep the other. Assumes nothing.
 use mathlib.Core.Path.{sym, ◌∙◌}
 use native.Mathlib.Omega.{arith}
 use Rattle.octets.specs.Bytes.{residuals_of}
 use Rattle.walk.specs.checks.Laws.{all_within}
-use Rattle.camera.proofs.replay.residuals_no.Goals as goal
+use Rattle.camera.proofs.replay.check_residuals.Goals as goal
 
 pub returns-then-residuals_within : goal.returns-then-residuals_within
 returns-then-residuals_within c = let a = c.args in
