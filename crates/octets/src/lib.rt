@@ -2,6 +2,7 @@
 // Rests on nothing.
 #![tactic(auto)]
 
+pub mod lent;
 pub mod pairs;
 
 ghost use Rattle.std.specs.Prelude.{◌≡◌, ℕ, ◌+◌, ◌*◌, ◌/◌, ◌%◌, ◌<◌, eqb, leb, length, get_or};
