@@ -23,7 +23,7 @@ use Rattle.refs.specs.declared.ChromaRefGeometry.{ChromaRefGeometry}
 use Rattle.refs.specs.substitution.Door.{substitute_refs}
 use Rattle.refs.specs.Door as gather
 use Rattle.checksum.specs.declared.RowRange.{RowRange}
-use Rattle.checksum.specs.declared.Summed.{Summed}
+use Rattle.checksum.specs.Answers.{Summed}
 use Rattle.checksum.specs.Checksum.{checksum_of}
 use Rattle.choose.specs.declared.Chosen.{Chosen}
 use Rattle.probes.specs.declared.predict_probes.Choice.{Choice}

@@ -429,9 +429,11 @@ pub extern "C" fn salvrunde_probe_picture_checksum(
         first,
         end,
     };
-    let a = checksum::picture_checksum(plane, range, sum);
-    Answer {
-        no: a.no,
-        value: a.sum,
+    match checksum::picture_checksum(plane, range, sum) {
+        Ok(value) => Answer { no: 0, value },
+        Err(why) => Answer {
+            no: why.number(),
+            value: 0,
+        },
     }
 }
