@@ -11,10 +11,11 @@ use checksum::{RowRange, on_bytes};
 pub(crate) fn store_checksum(plane: &[u8], r: RowRange, sum: u32, out: &mut [u8]) -> u32
     ensures { wrote result out.new ≡ checksum_entry r sum plane.now out.old }
 {
-    let a = on_bytes::picture_checksum_bytes(plane, r, sum, out.len() >= 4);
-    if a.no != 0 {
-        return a.no;
+    match on_bytes::picture_checksum_bytes(plane, r, sum, out.len() >= 4) {
+        Ok(told) => {
+            replay::put_word(out, 0, told);
+            0
+        }
+        Err(why) => why.number(),
     }
-    replay::put_word(out, 0, a.sum);
-    0
 }

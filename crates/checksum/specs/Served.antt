@@ -1,12 +1,11 @@
 -- What a sum that is not refused rests on. Assumes nothing.
-use Rattle.std.specs.Prelude.{◌≡◌, ℕ, ◌+◌, ◌-◌, ◌*◌, ◌%◌, ◌^◌, ◌<◌, ◌≤◌, Bool, true, false, ◌&&◌, leb, List, [], ◌∷◌, length, ◌==◌, nat_eq, nat_le, refl}
-use Rattle.std.proofs.Common.{sym, ap, ◌∙◌, mul-le-mul_right, suc-mul, arith, leb-true, eqb-true}
+use Rattle.std.specs.Prelude.{◌≡◌, ℕ, ◌+◌, ◌-◌, ◌*◌, ◌%◌, ◌^◌, ◌<◌, ◌≤◌, Bool, true, false, ◌&&◌, leb, List, [], ◌∷◌, ◌==◌, nat_le, refl}
+use Rattle.std.proofs.Common.{sym, ap, ◌∙◌, mul-le-mul_right, suc-mul, arith, leb-true}
 use Rattle.laws.specs.Choose.{◌unless◌, first_fail, passed, both_true, worked}
 use Rattle.laws.specs.Every.{every}
 use Rattle.h265.specs.Checksum.{sum_of_rows}
 use Rattle.domain.specs.Domain.{depth_ok, plane_side_ok}
 use Rattle.domain.specs.Facts.{depth_of}
-use Rattle.octets.specs.Bytes.{samples_of}
 use Rattle.fmt.specs.depth.Depth.{largest_of}
 use Rattle.fmt.specs.depth.Laws.{largest_of_is}
 use Rattle.checksum.specs.declared.RowRange.{RowRange}
@@ -47,20 +46,18 @@ row_inside {r} f y h = row (omega (arith, f.inside))
     row : y < r.height → y * r.width + r.width ≤ r.height * r.width
     row l = rw suc-mul at (mul-le-mul_right r.width l)
 
-pub row_in : (r : RowRange) (entries : ℕ) (ok : Bool) → checksum_no_by r (entries == r.height * r.width) ok ≡ 0 → (y : ℕ) → y < r.end
-    → y * r.width + r.width ≤ entries
-row_in r entries ok e y h =
-    let f = fine r (entries == r.height * r.width) ok e in
-    omega (arith, eqb-true entries (r.height * r.width) f.whole, row_inside f y h)
+-- and begins low in it
+pub row_low : {r : RowRange} {fit : Bool} → Summable r fit → (y : ℕ) → y < r.end → y * r.width ≤ 4096 * 4096
+row_low {r} f y h =
+    let l : y ≤ 4096 = omega (arith, h, f.inside, f.low) in
+    omega (arith, mul-le-mul_right r.width l, f.narrow)
 
--- the same of bytes, two a sample
-pub bytes_in : (r : RowRange) (bytes : List ℕ) (roomy : Bool)
-    → checksum_no r (roomy && length bytes == 2 * (r.height * r.width)) (samples_of bytes) ≡ 0
-    → (y : ℕ) → y < r.end → 2 * (y * r.width + r.width) ≤ length bytes
-bytes_in r bytes roomy e y h =
-    let whole = nat_eq (length bytes) (2 * (r.height * r.width)) in
-    let f = fine r (roomy && whole) (every (λ v. leb v (2 ^ r.bits - 1)) (samples_of bytes)) e in
-    omega (arith, eqb-true (length bytes) (2 * (r.height * r.width)) (both_true roomy whole f.whole).1, row_inside f y h)
+-- the same of what is lent, where it is as many samples as the sides tell
+pub row_in : (r : RowRange) (fit ok : Bool) (entries : ℕ) → checksum_no_by r fit ok ≡ 0 → (fit ≡ true → entries ≡ r.height * r.width)
+    → (y : ℕ) → y < r.end → y * r.width + r.width ≤ entries
+row_in r fit ok entries e long y h =
+    let f = fine r fit ok e in
+    omega (arith, long f.whole, row_inside f y h)
 
 -- the number by a test of the samples against the figure of the depth: where the depth is none, that test is not looked at
 abbrev five_checks : Bool → Bool → Bool → Bool → Bool → ℕ

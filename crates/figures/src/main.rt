@@ -72,7 +72,10 @@ fn opening_row(first: u16) -> [u16; 65]
 fn order_at(picture: Picture, row: u32, col: u32) -> u32
     ensures { result ≡ order_at picture row col }
 {
-    order::decode_order(LumaRow(row), LumaCol(col), picture).value
+    match order::decode_order(LumaRow(row), LumaCol(col), picture) {
+        Ok(number) => number,
+        Err(_) => 0,
+    }
 }
 
 // Whether a mode is smoothed; 2 would be a refused call.
@@ -136,7 +139,8 @@ fn restored(sample: u16, residual: i32) -> u16
     let pred = [sample; 16];
     let rest = [residual; 16];
     let mut out = [9u16; 16];
-    residual::reconstruct_into(&pred, &rest, 4, 8, &mut out);
+    // A refusal leaves the block as it was.
+    let _ = residual::reconstruct_into(&pred, &rest, 4, 8, &mut out);
     out[0]
 }
 

@@ -8,8 +8,7 @@ use Rattle.fmt.specs.depth.Depth.{bits_of, max_val, neutral, depth_from}
 use Rattle.fmt.specs.Fmt.{format_from, sub_width, sub_height}
 use Rattle.fmt.specs.Places.{luma_row, luma_col, chroma_row, chroma_col}
 use Rattle.order.specs.declared.Picture.{Picture}
-use Rattle.order.specs.declared.Numbered.{Numbered}
-use Rattle.order.specs.declared.Flagged.{Flagged}
+use Rattle.order.specs.Answers.{Numbered, Flagged}
 use Rattle.order.specs.Order.{decode_order, is_available}
 use Rattle.smooth.specs.declared.Rule.{Rule}
 use Rattle.smooth.specs.declared.FilteredRows.{FilteredRows}
@@ -24,7 +23,7 @@ use Rattle.refs.specs.declared.ChromaRefGeometry.{ChromaRefGeometry}
 use Rattle.refs.specs.substitution.Door.{substitute_refs}
 use Rattle.refs.specs.Door as gather
 use Rattle.checksum.specs.declared.RowRange.{RowRange}
-use Rattle.checksum.specs.declared.Summed.{Summed}
+use Rattle.checksum.specs.Answers.{Summed}
 use Rattle.checksum.specs.Checksum.{checksum_of}
 use Rattle.choose.specs.declared.Chosen.{Chosen}
 use Rattle.probes.specs.declared.predict_probes.Choice.{Choice}

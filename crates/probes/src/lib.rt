@@ -153,19 +153,18 @@ pub extern "C" fn salvrunde_probe_decode_order(
 ) -> Answer
     ensures { result ≡ order_answer row col width height ctu unit }
 {
-    let a = order::decode_order(
-        LumaRow(row),
-        LumaCol(col),
-        Picture {
-            width,
-            height,
-            ctu,
-            unit,
+    let picture = Picture {
+        width,
+        height,
+        ctu,
+        unit,
+    };
+    match order::decode_order(LumaRow(row), LumaCol(col), picture) {
+        Ok(value) => Answer { no: 0, value },
+        Err(why) => Answer {
+            no: why.number(),
+            value: 0,
         },
-    );
-    Answer {
-        no: a.no,
-        value: a.value,
     }
 }
 
@@ -184,20 +183,21 @@ pub extern "C" fn salvrunde_probe_is_available(
     ensures { result ≡ available_answer nr nc row col width height ctu unit }
 {
     let at = LumaNeighbour { row: nr, col: nc };
-    let a = order::is_available(
-        at,
-        LumaRow(row),
-        LumaCol(col),
-        Picture {
-            width,
-            height,
-            ctu,
-            unit,
+    let picture = Picture {
+        width,
+        height,
+        ctu,
+        unit,
+    };
+    match order::is_available(at, LumaRow(row), LumaCol(col), picture) {
+        Ok(yes) => Answer {
+            no: 0,
+            value: yes as u32,
         },
-    );
-    Answer {
-        no: a.no,
-        value: a.yes as u32,
+        Err(why) => Answer {
+            no: why.number(),
+            value: 0,
+        },
     }
 }
 
@@ -429,9 +429,11 @@ pub extern "C" fn salvrunde_probe_picture_checksum(
         first,
         end,
     };
-    let a = checksum::picture_checksum(plane, range, sum);
-    Answer {
-        no: a.no,
-        value: a.sum,
+    match checksum::picture_checksum(plane, range, sum) {
+        Ok(value) => Answer { no: 0, value },
+        Err(why) => Answer {
+            no: why.number(),
+            value: 0,
+        },
     }
 }

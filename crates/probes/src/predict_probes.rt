@@ -13,6 +13,7 @@ ghost use Rattle.predict.specs.Lent.{len, mut_len, with_tables, with_scratch, le
 ghost use Rattle.choose.specs.Choose.{mode_sum, choose_no, Chooses, lends, ScratchKept};
 ghost use Rattle.probes.specs.Probes.{chosen_of};
 
+use domain::refusal::no_of;
 use domain::rows::Rows;
 use predict::{angular, planar_dc, scratch_angular, scratch_predict};
 
@@ -86,7 +87,7 @@ pub extern "C" fn salvrunde_probe_compute_residual_i32_into(
     ensures { (result ≡ residual_no n (len orig) (len pred) (length residual.old))
         × (residual.new ≡ residuals_after n orig.now pred.now residual.old) }
 {
-    residual::compute_residual_i32_into(orig, pred, n, &mut *residual)
+    no_of(residual::compute_residual_i32_into(orig, pred, n, &mut *residual))
 }
 
 #[unsafe(no_mangle)]
@@ -100,7 +101,7 @@ pub extern "C" fn salvrunde_probe_reconstruct_into(
     ensures { (result ≡ reconstruct_no bits n (len pred) residual.now (mut_len out))
         × (out.new ≡ reconstructed bits n pred.now residual.now out.old) }
 {
-    residual::reconstruct_into(pred, residual, n, bits, &mut *out)
+    no_of(residual::reconstruct_into(pred, residual, n, bits, &mut *out))
 }
 
 #[unsafe(no_mangle)]

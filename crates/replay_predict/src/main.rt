@@ -14,6 +14,7 @@
 ghost use Rattle.std.specs.Prelude.{◌+◌, ◌≤◌, ◌<◌, ◌≡◌, true, Ok};
 ghost use Rattle.std.specs.Io.KnownBytes.{Consumes};
 
+use domain::refusal::no_of;
 use domain::rows::Rows;
 use listing::Count;
 use predict::scratch::AngularScratch;
@@ -173,8 +174,8 @@ fn residual_same(line: &[u8], call: Call) -> bool {
     let pred = block_of(call.seed, call.top);
     let orig = block_of(listing::other(call.seed), call.top);
     let mut residual = [4660i32; 1024];
-    let no = residual::compute_residual_i32_into(&orig, &pred, call.n, &mut residual);
-    (no == call.no) & same_residuals(line, &residual, call)
+    let answer = residual::compute_residual_i32_into(&orig, &pred, call.n, &mut residual);
+    (no_of(answer) == call.no) & same_residuals(line, &residual, call)
 }
 
 // The residual of the two blocks, added to the first: the number is that of the second call, the value that of the first.
@@ -184,8 +185,8 @@ fn rebuilt_same(line: &[u8], call: Call) -> bool {
     let mut residual = [0i32; 1024];
     let mut out = [4660u16; 1024];
     let first = residual::compute_residual_i32_into(&orig, &pred, call.n, &mut residual);
-    let no = residual::reconstruct_into(&pred, &residual, call.n, call.bits, &mut out);
-    (first == call.value) & (no == call.no) & same(line, &out, call)
+    let answer = residual::reconstruct_into(&pred, &residual, call.n, call.bits, &mut out);
+    (no_of(first) == call.value) & (no_of(answer) == call.no) & same(line, &out, call)
 }
 
 fn chroma_block_same(line: &[u8], call: Call, above: &[u16], left: &[u16]) -> bool {

@@ -6,12 +6,14 @@ ghost use Rattle.std.specs.Prelude.{◌≡◌, ℕ, ◌+◌, ◌*◌, ◌<◌, �
 ghost use Rattle.laws.specs.Fill.{fill, run};
 ghost use Rattle.h265.specs.Notation.{clip_to};
 ghost use Rattle.domain.specs.Facts.{Size};
+ghost use Rattle.domain.specs.Refusal.{no_of};
 ghost use Rattle.residual.specs.Residual.{difference_at, rebuilt_to, all_in_range, residual_no, reconstruct_no, residuals_after};
 ghost use Rattle.residual.specs.Residual.{reconstructed};
 ghost use Rattle.residual.specs.Laws.{RunsFit};
 ghost use Rattle.residual.specs.Narrow.{high_part};
 
 use domain::helpers;
+use domain::refusal::Refusal;
 use fmt::depth;
 use samples::deltas;
 
@@ -36,19 +38,19 @@ fn rebuilt(p: u16, r: i32, largest: u16) -> u16
     helpers::clamp((p as i32) + r, largest)
 }
 
-// Number 2, then 5, of three block buffers with so many entries.
-fn residual_no(n: usize, orig: usize, pred: usize, residual: usize) -> u32
-    ensures { result ≡ residual_no n orig pred residual }
+// Whether three buffers with so many entries each hold a block of side n.
+#[tactic(auto, unfolding(crate::specs::Residual::residual_no))]
+fn check_block(n: usize, orig: usize, pred: usize, residual: usize) -> Result<(), Refusal>
+    ensures { no_of result ≡ residual_no n orig pred residual }
 {
     if !domain::size_ok(n) {
-        return 2;
+        return Err(Refusal::Size);
     }
     let k = runs_of(n) * 16;
-    let long = (orig >= k) & (pred >= k) & (residual >= k);
-    if !long {
-        return 5;
+    if !((orig >= k) & (pred >= k) & (residual >= k)) {
+        return Err(Refusal::Buffer);
     }
-    0
+    Ok(())
 }
 
 // A run of 16 residuals goes by way of an array of its own, so that every sample is read before the first is written.
@@ -84,15 +86,18 @@ fn residuals(orig: &[u16], pred: &[u16], runs: usize, residual: &mut [i32])
 }
 
 // Original less prediction, into the first n×n entries.
-pub fn compute_residual_i32_into(orig: &[u16], pred: &[u16], n: usize, residual: &mut [i32]) -> u32
-    ensures { (result ≡ residual_no n (length orig.now) (length pred.now) (length residual.old)) × (residual.new ≡ residuals_after n orig.now pred.now residual.old) }
+pub fn compute_residual_i32_into(
+    orig: &[u16],
+    pred: &[u16],
+    n: usize,
+    residual: &mut [i32],
+) -> Result<(), Refusal>
+    ensures { (no_of result ≡ residual_no n (length orig.now) (length pred.now) (length residual.old))
+        × (residual.new ≡ residuals_after n orig.now pred.now residual.old) }
 {
-    let no = residual_no(n, orig.len(), pred.len(), residual.len());
-    if no != 0 {
-        return no;
-    }
+    check_block(n, orig.len(), pred.len(), residual.len())?;
     residuals(orig, pred, runs_of(n), &mut *residual);
-    0
+    Ok(())
 }
 
 // Whether so many runs of residuals are in range; no early way out, so that many are tested at once.
@@ -137,21 +142,25 @@ fn runs_in_range(residual: &[i32], runs: usize) -> bool
     all_in_range(residual, runs)
 }
 
-// Number 1 before those of the buffers, and 8 after them.
-fn reconstruct_no(bits: u32, n: usize, pred: usize, residual: &[i32], out: usize) -> u32
-    ensures { result ≡ reconstruct_no bits n pred residual.now out }
+// The depth before the buffers, and the residuals' range after them.
+#[tactic(auto, unfolding(crate::specs::Residual::reconstruct_no, crate::specs::Residual::residual_no))]
+fn check_rebuilding(
+    bits: u32,
+    n: usize,
+    pred: usize,
+    residual: &[i32],
+    out: usize,
+) -> Result<(), Refusal>
+    ensures { no_of result ≡ reconstruct_no bits n pred residual.now out }
 {
     if !domain::depth_ok(bits) {
-        return 1;
+        return Err(Refusal::Depth);
     }
-    let no = residual_no(n, pred, residual.len(), out);
-    if no != 0 {
-        return no;
-    }
+    check_block(n, pred, residual.len(), out)?;
     if !runs_in_range(residual, runs_of(n)) {
-        return 8;
+        return Err(Refusal::Residual);
     }
-    0
+    Ok(())
 }
 
 fn rebuilt_run(pred: &[u16], residual: &[i32], at: usize, largest: u16) -> [u16; 16]
@@ -190,13 +199,17 @@ fn rebuild(pred: &[u16], residual: &[i32], runs: usize, largest: u16, out: &mut 
 }
 
 // Prediction plus residual, brought to the depth's samples, into the first n×n entries.
-pub fn reconstruct_into(pred: &[u16], residual: &[i32], n: usize, bits: u32, out: &mut [u16]) -> u32
-    ensures { (result ≡ reconstruct_no bits n (length pred.now) residual.now (length out.entry.now)) × (out.new ≡ reconstructed bits n pred.now residual.now out.entry.now) }
+pub fn reconstruct_into(
+    pred: &[u16],
+    residual: &[i32],
+    n: usize,
+    bits: u32,
+    out: &mut [u16],
+) -> Result<(), Refusal>
+    ensures { (no_of result ≡ reconstruct_no bits n (length pred.now) residual.now (length out.entry.now))
+        × (out.new ≡ reconstructed bits n pred.now residual.now out.entry.now) }
 {
-    let no = reconstruct_no(bits, n, pred.len(), residual, out.len());
-    if no != 0 {
-        return no;
-    }
+    check_rebuilding(bits, n, pred.len(), residual, out.len())?;
     rebuild(
         pred,
         residual,
@@ -204,5 +217,5 @@ pub fn reconstruct_into(pred: &[u16], residual: &[i32], n: usize, bits: u32, out
         depth::largest_of(bits),
         &mut *out,
     );
-    0
+    Ok(())
 }

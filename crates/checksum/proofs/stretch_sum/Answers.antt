@@ -5,18 +5,15 @@ use Rattle.checksum.specs.Laws.{sample_adds}
 use Rattle.checksum.proofs.stretch_sum.Goals as goal
 
 pub loop-i-init : goal.loop-i-init
-loop-i-init c = (omega arith, (omega arith, total_none _))
+loop-i-init g c = (omega arith, total_none _)
 
 pub loop-i-preserved : goal.loop-i-preserved
-loop-i-preserved c = let a = c.args in
+loop-i-preserved g c = let a = c.args in
     let l = c.loop-i in
     let e : a.at + a.x + l.i ≡ a.at + (a.x + l.i) = omega arith in (
       omega arith,
-      (
-        omega arith,
-        total_more _ l.i l.invariant.1.1
-            (c.added_by-more.ensures.0
-            ∙ ap₂ (λ (m v : ℕ). sample_adds a.wide m v) c.xor_mask-mask.ensures.0
-            (ap (λ (k : ℕ). get_or a.plane.now k 0) e)),
-      ),
+      total_more _ l.i l.invariant.1
+          (c.added_by-more.ensures.0
+          ∙ ap₂ (λ (m v : ℕ). sample_adds a.wide m v) c.xor_mask-mask.ensures.0
+          (c.sample.ensures ∙ ap (λ (k : ℕ). get_or (g.S.Samples.list a.plane) k 0) e)),
     )
