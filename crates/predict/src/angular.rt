@@ -17,7 +17,7 @@ ghost use Rattle.predict.specs.angular.Lines.{line_at, line_from, LineReads};
 ghost use Rattle.predict.specs.angular.Parts.{laid_refs, laid_at};
 ghost use Rattle.predict.specs.angular.Grid.{column};
 
-use crate::refusals::Lengths;
+use crate::refusals::Lent;
 use crate::{angles, boundary, refusals};
 use domain::refusal::Refusal;
 use fmt::depth;
@@ -535,7 +535,7 @@ pub(crate) fn angular_block(
 
 // The slices are the three tables of the Rust's scratch. The indices and fractions are asked for and go unused: a column's are
 // constants of its loop.
-#[tactic(auto, using(crate::specs::angular::Door::fit))]
+#[tactic(auto, using(crate::specs::angular::Door::fit_lent))]
 pub fn predict_angular_slices(
     corner: u16,
     above: &[u16],
@@ -553,7 +553,7 @@ pub fn predict_angular_slices(
         × (Predicts (no_of result) n (angular bits filter_boundary n mode (lent_neighbours corner above left)) pred
         × ((no_of result ≡ 0 → ⊥) → Untouched refs indices fractions)) }
 {
-    let lent = Lengths::of(above, left, &*pred, &*refs, &*indices, &*fractions);
+    let lent = Lent::of(above, left, &*pred, &*refs, &*indices, &*fractions);
     refusals::check_angular(bits, n, mode, lent)?;
     angular_block(
         corner,

@@ -22,12 +22,12 @@ ghost use Rattle.predict.specs.refusals.Refusals.{predict_no};
 ghost use Rattle.predict.specs.Contents.{chroma_at};
 ghost use Rattle.predict.specs.Lent.{len, mut_len, with_tables, lent_neighbours, Predicts, Untouched};
 
-use crate::refusals::Lengths;
+use crate::refusals::Lent;
 use domain::refusal::Refusal;
 use domain::rows;
 
 // A chroma block: nothing is smoothed, and no edge is filtered. The last three slices are scratch.
-#[tactic(auto, using(crate::specs::by_mode::Door::given))]
+#[tactic(auto, using(crate::specs::by_mode::Door::given_lent))]
 pub fn predict_chroma_tb_slices(
     mode: u8,
     corner: u16,
@@ -44,7 +44,7 @@ pub fn predict_chroma_tb_slices(
         × (Predicts (no_of result) n (pred_samples (chroma_at bits) first_edition_strong n mode (lent_neighbours corner above left)) pred
         × ((no_of result ≡ 0 → ⊥) → Untouched refs indices fractions)) }
 {
-    let lent = Lengths::of(above, left, &*pred, &*refs, &*indices, &*fractions);
+    let lent = Lent::of(above, left, &*pred, &*refs, &*indices, &*fractions);
     refusals::check_predict(bits, n, mode, lent)?;
     by_mode::by_mode(
         mode, corner, above, left, n, bits, false, &mut *pred, &mut *refs,
@@ -53,7 +53,7 @@ pub fn predict_chroma_tb_slices(
 }
 
 // A luma block: references smoothed by the rule, edges filtered. The last three slices are scratch.
-#[tactic(auto, using(crate::specs::by_mode::Door::given))]
+#[tactic(auto, using(crate::specs::by_mode::Door::given_lent))]
 pub fn predict_luma_tb_slices(
     mode: u8,
     rows: rows::Rows,
@@ -68,7 +68,7 @@ pub fn predict_luma_tb_slices(
         × (Predicts (no_of result) n (pred_samples (luma_at bits) first_edition_strong n mode (neighbours_of rows)) pred
         × ((no_of result ≡ 0 → ⊥) → Untouched refs indices fractions)) }
 {
-    let lent = Lengths::of(
+    let lent = Lent::of(
         &rows.above,
         &rows.left,
         &*pred,

@@ -4,7 +4,7 @@ ghost use Rattle.std.specs.Prelude.{◌≡◌, length};
 ghost use Rattle.domain.specs.Domain.{predictor_row};
 ghost use Rattle.domain.specs.Facts.{Size};
 ghost use Rattle.domain.specs.Refusal.{no_of};
-ghost use Rattle.predict.specs.refusals.Refusals.{lengths, is_enough, flat_no, block_no, angular_no, predict_no, vertical_ok, refs_no, rows_no};
+ghost use Rattle.predict.specs.refusals.Refusals.{lent_by, lengths_of, is_enough, flat_no, block_no, angular_no, predict_no, vertical_ok, refs_no, rows_no};
 
 use domain::refusal::Refusal;
 
@@ -31,9 +31,9 @@ pub(crate) fn check_flat(n: usize, above: usize, left: usize, pred: usize) -> Re
     Ok(())
 }
 
-// The lengths of what a call lends.
+// What a call lends, by its lengths.
 #[derive(Clone, Copy)]
-pub(crate) struct Lengths {
+pub(crate) struct Lent {
     pub above: usize,
     pub left: usize,
     pub pred: usize,
@@ -42,7 +42,7 @@ pub(crate) struct Lengths {
     pub fractions: usize,
 }
 
-impl Lengths {
+impl Lent {
     pub(crate) fn of(
         above: &[u16],
         left: &[u16],
@@ -50,11 +50,11 @@ impl Lengths {
         refs: &[u16],
         indices: &[u32],
         fractions: &[u32],
-    ) -> Lengths
-        ensures { result ≡ lengths (length above.now) (length left.now) (length pred.now) (length refs.now)
+    ) -> Lent
+        ensures { result ≡ lent_by (length above.now) (length left.now) (length pred.now) (length refs.now)
             (length indices.now) (length fractions.now) }
     {
-        Lengths {
+        Lent {
             above: above.len(),
             left: left.len(),
             pred: pred.len(),
@@ -67,7 +67,7 @@ impl Lengths {
     // Whether each is long enough for a block of side n.
     fn are_enough(self, n: usize) -> bool
         requires { Size n }
-        ensures { result ≡ is_enough n self }
+        ensures { result ≡ is_enough n (lengths_of self) }
     {
         let row = predictor_row(n);
         (self.above >= row)
@@ -81,8 +81,8 @@ impl Lengths {
 
 // Where tables are lent too: the depth, the side, whether the mode is one of the door's, then what is lent.
 #[tactic(auto, unfolding(crate::specs::refusals::Refusals::block_no))]
-fn check_block(bits: u32, n: usize, serves: bool, lent: Lengths) -> Result<(), Refusal>
-    ensures { no_of result ≡ block_no bits n serves lent }
+fn check_block(bits: u32, n: usize, serves: bool, lent: Lent) -> Result<(), Refusal>
+    ensures { no_of result ≡ block_no bits n serves (lengths_of lent) }
 {
     if !domain::depth_ok(bits) {
         return Err(Refusal::Depth);
@@ -100,15 +100,15 @@ fn check_block(bits: u32, n: usize, serves: bool, lent: Lengths) -> Result<(), R
 }
 
 // Angular prediction.
-pub(crate) fn check_angular(bits: u32, n: usize, mode: u8, lent: Lengths) -> Result<(), Refusal>
-    ensures { no_of result ≡ angular_no bits n mode lent }
+pub(crate) fn check_angular(bits: u32, n: usize, mode: u8, lent: Lent) -> Result<(), Refusal>
+    ensures { no_of result ≡ angular_no bits n mode (lengths_of lent) }
 {
     check_block(bits, n, (mode >= 2) & domain::mode_ok(mode as u32), lent)
 }
 
 // A block in any mode.
-pub(crate) fn check_predict(bits: u32, n: usize, mode: u8, lent: Lengths) -> Result<(), Refusal>
-    ensures { no_of result ≡ predict_no bits n mode lent }
+pub(crate) fn check_predict(bits: u32, n: usize, mode: u8, lent: Lent) -> Result<(), Refusal>
+    ensures { no_of result ≡ predict_no bits n mode (lengths_of lent) }
 {
     check_block(bits, n, domain::mode_ok(mode as u32), lent)
 }

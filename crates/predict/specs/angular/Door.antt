@@ -4,7 +4,8 @@ use Rattle.std.proofs.Common.{arith, leb-true}
 use Rattle.laws.specs.Choose.{both_true}
 use Rattle.domain.specs.Domain.{mode_ok}
 use Rattle.domain.specs.Facts.{Depth, Size, depth_of, size_of, size_small}
-use Rattle.predict.specs.refusals.Refusals.{Lengths, angular_no, told}
+use Rattle.predict.specs.declared.refusals.Lent.{Lent}
+use Rattle.predict.specs.refusals.Refusals.{Lengths, lengths_of, angular_no, told}
 
 -- what a call that is served has
 pub record Fit (bits n mode : ℕ) (l : Lengths) : Type 0 where
@@ -33,3 +34,6 @@ fit bits n mode l e =
       room = t.pred;
       refs = omega (arith, t.refs, size_small n size);
     }
+
+pub fit_lent : (bits n mode : ℕ) (l : Lent) → angular_no bits n mode (lengths_of l) ≡ 0 → Fit bits n mode (lengths_of l)
+fit_lent bits n mode l e = fit bits n mode (lengths_of l) e

@@ -3,7 +3,8 @@ use Rattle.std.specs.Prelude.{◌≡◌, true, ℕ, ◌+◌, ◌*◌, ◌≤◌,
 use Rattle.std.proofs.Common.{arith, leb-true}
 use Rattle.domain.specs.Domain.{depth_ok, size_ok, mode_ok}
 use Rattle.domain.specs.Facts.{Depth, Size, depth_of, size_of, size_small}
-use Rattle.predict.specs.refusals.Refusals.{Lengths, predict_no, told}
+use Rattle.predict.specs.declared.refusals.Lent.{Lent}
+use Rattle.predict.specs.refusals.Refusals.{Lengths, lengths_of, predict_no, told}
 use Rattle.predict.specs.planar_dc.Flat.{FlatReady}
 
 -- the tests of a block that hold where a call is served
@@ -37,6 +38,9 @@ given bits n mode l e =
       room = t.pred;
       refs_long = t.refs;
     }
+
+pub given_lent : (bits n mode : ℕ) (l : Lent) → predict_no bits n mode (lengths_of l) ≡ 0 → ModeReady bits n mode l.above l.left l.pred l.refs
+given_lent bits n mode l e = given bits n mode (lengths_of l) e
 
 module _ {bits n mode above left pred refs : ℕ} (g : ModeReady bits n mode above left pred refs) where
   pub flat_ready : FlatReady n above left × (n * n ≤ pred)

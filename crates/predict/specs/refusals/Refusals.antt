@@ -4,17 +4,33 @@ use Rattle.std.proofs.Common.{arith, leb-true}
 use Rattle.laws.specs.Choose.{◌unless◌, first_fail, passed, both_true}
 use Rattle.domain.specs.Domain.{depth_ok, size_ok, mode_ok, predictor_row}
 use Rattle.domain.specs.Facts.{Size, at_size}
-pub use Rattle.predict.specs.declared.refusals.Lengths.{Lengths}
+use Rattle.predict.specs.declared.refusals.Lent.{Lent}
 
 -- planar and DC: the side is n, the rows have a and l entries, the block's buffer p
 unfoldable pub flat_no : ℕ → ℕ → ℕ → ℕ → ℕ
 flat_no n a l p =
     first_fail ((2 unless size_ok n) ∷ (5 unless (leb (predictor_row n) a && leb (predictor_row n) l && leb (n * n) p)) ∷ [])
 
--- what a call lends, by its lengths
+-- the lengths of what a call lends
+pub record Lengths : Type 0 where
+  pub above : ℕ
+  pub left : ℕ
+  pub pred : ℕ
+  pub refs : ℕ
+  pub indices : ℕ
+  pub fractions : ℕ
+
 abbrev pub lengths : ℕ → ℕ → ℕ → ℕ → ℕ → ℕ → Lengths
 lengths above left pred refs indices fractions =
     record { above = above; left = left; pred = pred; refs = refs; indices = indices; fractions = fractions }
+
+-- as the checks are handed them
+abbrev pub lent_by : ℕ → ℕ → ℕ → ℕ → ℕ → ℕ → Lent
+lent_by above left pred refs indices fractions =
+    record { above = above; left = left; pred = pred; refs = refs; indices = indices; fractions = fractions }
+
+abbrev pub lengths_of : Lent → Lengths
+lengths_of l = lengths l.above l.left l.pred l.refs l.indices l.fractions
 
 -- whether they are enough
 abbrev pub is_enough : ℕ → Lengths → Bool
