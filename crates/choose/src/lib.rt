@@ -18,6 +18,7 @@ ghost use Rattle.choose.specs.Ready.{held_by, Ready};
 ghost use Rattle.choose.specs.Early.{source_from, UpTo, Upward};
 ghost use Rattle.choose.specs.Sums.{turned_at, TurnedSource, SmoothRows};
 
+use domain::rows;
 use fmt::depth;
 use predict::{angular, planar_dc};
 use samples::{filters, ranges};
@@ -120,13 +121,13 @@ fn mode_block(
 {
     match mode {
         0 => {
-            planar_dc::predict_planar_into(above, left, n, &mut *pred);
+            let _ = planar_dc::predict_planar_into(above, left, n, &mut *pred);
         }
         1 => {
-            planar_dc::predict_dc_into(above, left, n, true, &mut *pred);
+            let _ = planar_dc::predict_dc_into(above, left, n, true, &mut *pred);
         }
         _ => {
-            angular::predict_angular_slices(
+            let _ = angular::predict_angular_slices(
                 corner,
                 above,
                 left,
@@ -195,12 +196,12 @@ fn upward(
     ensures { (bits : ℕ) → UpTo true limit (differences (source_at n source.now)
         (predicted_by_mode bits true true n mode (lent_neighbours corner above left)) n n) result }
 {
-    angular::vertical_refs(corner, above, left, n, mode, &mut *refs);
+    let _ = angular::vertical_refs(corner, above, left, n, mode, &mut *refs);
     let mut sum: u32 = 0;
     let mut first = n;
     while (first > 0) & (sum < limit) {
         first -= 8;
-        angular::vertical_rows(above, &*refs, n, mode, first, first + 8, &mut *pred);
+        let _ = angular::vertical_rows(above, &*refs, n, mode, first, first + 8, &mut *pred);
         sum += eight_sum(source, first, &*pred, n);
     }
     sum
@@ -486,7 +487,9 @@ fn search(
             &mut *fractions,
         );
     }
-    let rows = smooth::filter_luma_refs(corner, above, left, n, bits).rows;
+    let rows = smooth::filter_luma_refs(corner, above, left, n, bits).unwrap_or(rows::level_rows(
+        0,
+    ));
     least(
         corner,
         above,

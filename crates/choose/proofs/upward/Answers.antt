@@ -41,8 +41,8 @@ loop-first-preserved c = let a = c.args in
     let laid = c.vertical_refs.ensures.1 ∙ sym (worked _ _ _ number₀) in
     let now = as_lent u l.invariant.1.0 (ap length laid ∙ length_laid a.corner a.above.now a.left.now a.n (a.mode - 18) a.refs.now) in
     let inside : first + 8 ≤ a.n = omega (arith, l.invariant.0.0) in
-    let number = c.vertical_rows-sum.ensures.0 ∙ rows_serve now first (first + 8) (omega arith) inside in
-    let made = c.vertical_rows-sum.ensures.1 ∙ sym (worked _ _ _ number) in
+    let number = c.vertical_rows.ensures.0 ∙ rows_serve now first (first + 8) (omega arith) inside in
+    let made = c.vertical_rows.ensures.1 ∙ sym (worked _ _ _ number) in
     let count : first + 8 - first ≡ 8 = omega arith in
     let back : l.first ≡ first + 8 = omega arith in (
       (omega (arith, l.invariant.0.0), omega (arith, l.invariant.0.1)),
