@@ -48,7 +48,7 @@ fn rows_block(
     let mut refs = [0u16; 193];
     let mut indices = [0u32; 32];
     let mut fractions = [0u32; 32];
-    predict::predict_luma_tb_slices(
+    let _ = predict::predict_luma_tb_slices(
         mode,
         rows,
         n,

@@ -85,7 +85,7 @@ fn angular_block(
     let mut refs = [0u16; 193];
     let mut indices = [0u32; 32];
     let mut fractions = [0u32; 32];
-    angular::predict_angular_slices(
+    let _ = angular::predict_angular_slices(
         corner,
         above,
         left,
@@ -118,10 +118,10 @@ fn mode_block(
 {
     match mode {
         0 => {
-            planar_dc::predict_planar_into(above, left, n, &mut *pred);
+            let _ = planar_dc::predict_planar_into(above, left, n, &mut *pred);
         }
         1 => {
-            planar_dc::predict_dc_into(above, left, n, edge, &mut *pred);
+            let _ = planar_dc::predict_dc_into(above, left, n, edge, &mut *pred);
         }
         _ => angular_block(bits, n, mode, edge, corner, above, left, &mut *pred),
     }

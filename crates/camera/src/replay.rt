@@ -153,7 +153,7 @@ fn predict_block(
     ensures { pred.new ≡ block (predicted_at s b (samples_of plane.now)) b.side pred.old }
 {
     let g = gather::get_reference_samples(plane, block::geometry(s, b));
-    predict::predict_luma_tb_slices(
+    let _ = predict::predict_luma_tb_slices(
         b.mode as u8,
         g.rows,
         b.side as usize,

@@ -18,6 +18,7 @@ ghost use Rattle.choose.specs.Choose.{apart, differences, source_at, mode_sum, l
 ghost use Rattle.choose.specs.Early.{source_from, UpTo, Upward};
 ghost use Rattle.choose.specs.Sums.{turned_at, TurnedSource, Smooths};
 
+use domain::rows;
 use fmt::depth;
 use octets::lent;
 use predict::{angular, planar_dc};
@@ -154,13 +155,13 @@ impl Block<'_> {
     {
         match mode {
             0 => {
-                planar_dc::predict_planar_into(border.above, border.left, self.n, &mut *pred);
+                let _ = planar_dc::predict_planar_into(border.above, border.left, self.n, &mut *pred);
             }
             1 => {
-                planar_dc::predict_dc_into(border.above, border.left, self.n, true, &mut *pred);
+                let _ = planar_dc::predict_dc_into(border.above, border.left, self.n, true, &mut *pred);
             }
             _ => {
-                angular::predict_angular_slices(
+                let _ = angular::predict_angular_slices(
                     border.corner,
                     border.above,
                     border.left,
@@ -200,7 +201,7 @@ impl Block<'_> {
             (length pred.old) (length refs.old) }
         ensures { UpTo (Some limit) (distance self.now border.now mode) result }
     {
-        angular::vertical_refs(
+        let _ = angular::vertical_refs(
             border.corner,
             border.above,
             border.left,
@@ -214,7 +215,7 @@ impl Block<'_> {
                 break;
             }
             let first = 8 * eight;
-            angular::vertical_rows(
+            let _ = angular::vertical_rows(
                 border.above,
                 &*refs,
                 self.n,
@@ -361,7 +362,7 @@ fn search_all<'a>(
         block.n,
         block.bits,
     )
-    .rows;
+    .unwrap_or(rows::level_rows(0));
     let smooth = Border {
         corner: rows.corner,
         above: &rows.above,

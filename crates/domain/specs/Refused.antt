@@ -2,6 +2,7 @@
 -- same. Rests on the numbers.
 use Rattle.std.specs.Prelude.{◌≡◌, refl, cond, ⊤, ℕ, eqb, Result, Ok, Err}
 use Rattle.std.proofs.Common.{sym, ap, ◌∙◌, arith}
+use Rattle.std.specs.Result.{result_unwrap_or}
 use Rattle.domain.specs.declared.refusal.Refusal.{Refusal}
 use Rattle.domain.specs.declared.refusal.Refusal.TheVariants.{Depth, Size, Mode, Picture, Buffer, Place, Sample, Residual, Order, Gap, Start, File, Excess, Limit}
 use Rattle.domain.specs.Refusal.{number, no_of, value_or}
@@ -57,3 +58,8 @@ same_answer z (Err v) (Err w) e f = ap Err (same_refusal v w e)
 -- an answer that says nothing else, by its number alone
 pub same_outcome : (s t : Result ⊤ Refusal) → no_of s ≡ no_of t → s ≡ t
 same_outcome s t e = same_answer tt s t e refl
+
+-- where an answer is served, the figure in its place is of no account
+pub unwrapped : {A : Type 0} (r : Result A Refusal) (other z : A) → no_of r ≡ 0 → result_unwrap_or r other ≡ value_or z r
+unwrapped (Ok v) other z e = refl
+unwrapped (Err why) other z e = absurd (never_0 why e)

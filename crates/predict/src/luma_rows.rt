@@ -10,10 +10,10 @@ pub(crate) fn prepared_rows(mode: u8, rows: rows::Rows, n: usize, bits: u32) -> 
     requires { Predictable bits n mode }
     ensures { result ≡ prepared_rows bits n mode rows }
 {
-    if smooth::should_filter_refs(mode, n).yes {
-        let above = rows.above;
-        let left = rows.left;
-        return smooth::filter_luma_refs(rows.corner, &above, &left, n, bits).rows;
+    if smooth::should_filter_refs(mode, n).unwrap_or(false) {
+        return smooth::filter_luma_refs(rows.corner, &rows.above, &rows.left, n, bits).unwrap_or(
+            rows,
+        );
     }
     rows
 }

@@ -58,7 +58,7 @@ pub(crate) fn predict_block(
     ensures { pred.new ≡ block (predicted_at s b plane.now) b.side pred.old }
 {
     let g = refs::get_reference_samples(plane, geometry(s, b));
-    predict::predict_luma_tb_slices(
+    let _ = predict::predict_luma_tb_slices(
         b.mode as u8,
         g.rows,
         b.side as usize,

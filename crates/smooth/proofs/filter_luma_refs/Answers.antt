@@ -1,13 +1,16 @@
 -- `smooth::filter_luma_refs` meets its contract. Served by the rows of either form; refused with zeros. Assumes nothing.
-use mathlib.Core.Path.{sym, ◌∙◌}
-use borrow.Author.Tests.{ne_eqb}
+use Rattle.std.proofs.Common.{ne_eqb}
+use Rattle.std.proofs.lemmas.Result.{err_from_is_err_and}
+use Rattle.domain.specs.Refused.{never_0}
 use Rattle.smooth.specs.Smoothing.{filter_luma_refs}
 use Rattle.smooth.proofs.filter_luma_refs.Goals as goal
 
-pub returns-then-no-eq0 : goal.returns-then-no-eq0
+pub returns-in_err-check_luma : goal.returns-in_err-check_luma
 unfolding filter_luma_refs
-returns-then-no-eq0 c = rw (sym c.filter_luma_no-no.ensures ∙ c.if-no-eq0.true, c.smooth_rows.ensures)
+returns-in_err-check_luma c =
+    let p = err_from_is_err_and c.from_residual.result c.from_residual.ensures.1 in
+    rw (p.1, p.2) (simp (← c.in_err-check_luma.ensures, ne_eqb _ 0 (never_0 c.in_err-check_luma.field-0.0)))
 
 pub returns : goal.returns
 unfolding filter_luma_refs
-returns c = rw (← c.filter_luma_no-no.ensures, ne_eqb c.filter_luma_no-no.result 0 c.if-no-eq0.false, c.level_rows.ensures)
+returns c = rw (← c.in_ok-check_luma.ensures, c.smooth_rows.ensures)
