@@ -31,6 +31,10 @@ flagged r = record { no = no_of r; yes = value_or false r }
 abbrev pub there : Reach → Reached
 there r = record { no = 0; corner = r.corner; above = r.above; left = r.left }
 
+-- the reach that an answer in those terms has
+abbrev pub held : Reached → Reach
+held r = record { corner = r.corner; above = r.above; left = r.left }
+
 abbrev nowhere : Reach
 nowhere = record { corner = false; above = 0; left = 0 }
 
