@@ -77,6 +77,7 @@ fn spot_of(width: u32, row: u32, col: u32) -> Spot
 }
 
 // Reads the first `have` entries of an edge out of the plane, each `step` samples further.
+#[tactic(auto, using(laws::specs::FillLaws::fill_none, laws::specs::FillLaws::fill_more))]
 fn edge(plane: &[u16], at: usize, step: usize, have: usize, out: &mut [u16])
     requires { (have ≤ length out.old) × ((i : ℕ) → i < have → at + i * step < length plane.now) }
     ensures { out.new ≡ fill (on_edge plane.now at step) have out.old }
@@ -104,6 +105,7 @@ fn last_of(row: &[u16], have: usize, other: u16) -> u16
 }
 
 // Puts `rest` into a row's entries from `have` on, up to `count`.
+#[tactic(auto, using(crate::specs::Seen::padded_by))]
 fn pad(row: &mut [u16], have: usize, count: usize, rest: u16)
     requires { (have ≤ count) × (count ≤ length row.old) }
     ensures { row.new ≡ padded count have rest row.old }
@@ -157,11 +159,7 @@ fn plane_rows(plane: &[u16], s: Spot, r: Reach, n: usize, neutral: u16) -> Rows
 
 // How far the neighbours of a gather's block reach, or why the gather is refused: its depth, then the block's size or picture, then its
 // planes, then the block's place.
-pub fn check_gather(
-    bits: u32,
-    reach: Result<Reach, Refusal>,
-    whole: bool,
-) -> Result<Reach, Refusal>
+pub fn check_gather(bits: u32, reach: Result<Reach, Refusal>, whole: bool) -> Result<Reach, Refusal>
     ensures number { no_of result ≡ gather_no bits (no_of reach) whole }
     ensures own { IfOk result (λ r. reach ≡ Ok r) }
 {

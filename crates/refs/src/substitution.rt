@@ -24,6 +24,7 @@ pub struct Flags {
 }
 
 // The sample at place p of the line: left[e] down to left[0], the corner, above[0] to above[e].
+#[tactic(auto, unfolding(crate::specs::substitution::Substitution::marked_on_line))]
 fn sample_on(two: &[[u16; 65]; 2], corner: u16, e: usize, p: usize) -> u16
     requires { (e ≤ 64) × (p < 2 * e + 3) }
     ensures { result ≡ samples_on (with_corner corner two.now) e p }
@@ -38,6 +39,7 @@ fn sample_on(two: &[[u16; 65]; 2], corner: u16, e: usize, p: usize) -> u16
 }
 
 // Whether place p of the line is there.
+#[tactic(auto, unfolding(crate::specs::substitution::Substitution::marked_on_line))]
 fn flag_on(left: &[bool; 65], corner: bool, above: &[bool; 65], e: usize, p: usize) -> bool
     requires { (e ≤ 64) × (p < 2 * e + 3) }
     ensures { result ≡ line_of false left.now corner above.now e p }

@@ -1,5 +1,5 @@
 -- The row above from its first entry. Assumes nothing.
-use Rattle.std.proofs.Common.{◌≡◌, ◌+◌, ◌∙◌, ap, ℕ, arith}
+use Rattle.std.proofs.Common.{arith}
 use Rattle.laws.specs.FillLaws.{fill_none, fill_done}
 use Rattle.refs.specs.substitution.Line.{carried_start}
 use Rattle.refs.specs.substitution.InPlace.{above_turn}

@@ -1,10 +1,9 @@
 -- The door: the check, then the work. Assumes nothing.
-use Rattle.std.proofs.Common.{sym, ap, ◌∙◌, ℕ, ne_eqb}
+use Rattle.std.proofs.Common.{sym, ne_eqb}
 use Rattle.std.proofs.lemmas.Result.{err_from_is_err_and}
 use Rattle.domain.specs.Facts.{depth_of}
 use Rattle.domain.specs.Refused.{never_0}
 use Rattle.fmt.specs.depth.Laws.{neutral_of_is}
-use Rattle.refs.specs.substitution.Substitution.{substituted}
 use Rattle.refs.specs.substitution.Door.{substitute_refs}
 use Rattle.refs.specs.substitution.Served.{substitute_fine}
 use Rattle.refs.proofs.substitution.substitute_refs.Goals as goal
