@@ -1,11 +1,14 @@
 -- `choose::search_all` meets its contract. The smoothed border is the standard's where a mode asks for it. Rests on `least`.
-use mathlib.Core.Path.{sym, subst}
+use Rattle.std.proofs.Common.{sym, ap, ◌∙◌, subst}
 use mathlib.Core.Bool.{true}
 use Rattle.h265.specs.Notation.{from_rows}
 use Rattle.h265.specs.Filtering.{filtered}
 use Rattle.h265.specs.Mean.{Agree}
-use Rattle.domain.specs.rows.Neighbours.{neighbours_of}
-use Rattle.smooth.specs.declared.Smoothed.{Smoothed}
+use Rattle.domain.specs.rows.Neighbours.{neighbours_of, zero_rows}
+use Rattle.domain.specs.declared.rows.Rows.{Rows}
+use Rattle.domain.specs.Refused.{unwrapped}
+use Rattle.smooth.specs.Answers.{Smoothed}
+use Rattle.smooth.specs.Smoothing.{filter_luma_refs}
 use Rattle.smooth.specs.Standard.{door_is_standard}
 use Rattle.choose.specs.Ready.{smoothing_serves}
 use Rattle.choose.specs.Sums.{never_smoothed}
@@ -15,12 +18,17 @@ pub invariant_of-all-clause-smooths : goal.invariant_of-all-clause-smooths
 invariant_of-all-clause-smooths c = record { smooth = λ m e. absurd (never_smoothed c.args.block.n m c.if-block-eq4.true e) }
 
 pub invariant_of-all-2-clause-smooths : goal.invariant_of-all-2-clause-smooths
+unfolding filter_luma_refs
 invariant_of-all-2-clause-smooths c = let b = c.args.border in
     let k = c.args.block in
+    let serves = smoothing_serves k.bits k.n _ _ k.depth k.size b.long.0 b.long.1 in
+    let smoothed = c.filter_luma_refs in
+    let served = ap (λ (s : Smoothed). s.no) smoothed.ensures ∙ serves in
+    let rows = c.unwrap_or-rows.ensures ∙ unwrapped smoothed.result _ zero_rows served ∙ ap (λ (s : Smoothed). s.rows) smoothed.ensures in
     record {
       smooth = λ m e.
-          subst (λ (s : Smoothed). Agree k.n (neighbours_of s.rows)
+          subst (λ (r : Rows). Agree k.n (neighbours_of r)
           (filtered true k.bits k.n (from_rows b.corner b.above.now b.left.now)))
-          (sym c.filter_luma_refs.ensures)
-          (door_is_standard true b.corner b.above.now b.left.now k.n k.bits (smoothing_serves k.bits k.n _ _ k.depth k.size b.long.0 b.long.1));
+          (sym rows)
+          (door_is_standard true b.corner b.above.now b.left.now k.n k.bits serves);
     }

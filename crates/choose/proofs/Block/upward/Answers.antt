@@ -43,8 +43,8 @@ loop-eight-preserved c = let a = c.args in
     let now = as_lent c.requires l.auto.pred refs in
     let some : 1 ≤ l.eight = c.loop-eight-test.true in
     let inside : first + 8 ≤ k.n = omega (arith, l.auto.eight) in
-    let number = c.vertical_rows-sum.ensures.0 ∙ rows_serve now first (first + 8) (omega arith) inside in
-    let made = c.vertical_rows-sum.ensures.1 ∙ sym (worked _ _ _ number) in
+    let number = c.vertical_rows.ensures.0 ∙ rows_serve now first (first + 8) (omega arith) inside in
+    let made = c.vertical_rows.ensures.1 ∙ sym (worked _ _ _ number) in
     let count : first + 8 - first ≡ 8 = omega arith in
     let back : 8 * l.eight ≡ first + 8 = omega arith in (
       omega (arith, c.eight_sum-sum.ensures.1, l.invariant.0, l.auto.eight),
