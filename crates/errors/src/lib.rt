@@ -18,8 +18,8 @@ ghost use Rattle.errors.specs.Served.{SamplesLow, BlockPair, RoomFor, under_mode
 ghost use Rattle.errors.specs.Listed.{with_block, Addable, start_on, pair_answer};
 
 use fmt::depth;
-use plan::tiling::{Block, Frame, Verdict};
 use octets::lent;
+use plan::tiling::{Block, Frame, Verdict};
 
 // Depth, picture and CTU of the pairs that are counted, how many they are, and for each mode its blocks, their samples, and the squares of
 // the differences in them.
