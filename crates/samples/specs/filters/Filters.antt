@@ -29,7 +29,8 @@ pub straight_is : (bits corner mid far : ℕ)
     → nat_lt (abs_diff (corner + far) (2 * mid)) ((largest_of bits + 1) / 32) ≡ (depth_ok bits && straight bits corner mid far)
 unfolding straight
 straight_is bits corner mid far =
-    rw (apart_is (corner + far) (2 * mid), limit_is bits) (below (depth_ok bits) (unsigned_abs (pos (corner + far) -ℤ pos (2 * mid))) (2 ^ (bits - 5)))
+    rw (apart_is (corner + far) (2 * mid), limit_is bits)
+    (below (depth_ok bits) (unsigned_abs (pos (corner + far) -ℤ pos (2 * mid))) (2 ^ (bits - 5)))
 
 -- the quotient of entry 63 is the far end itself
 pub ramp_is : (x corner far : ℕ) → x < 64 → ((63 - x) * corner + (x + 1) * far + 32) / 64 ≡ strong_at corner far x

@@ -19,4 +19,5 @@ pub bounds-b-at-2 : goal.bounds-b-at-2
 bounds-b-at-2 c = let h = sample_in _ _ c.requires.0 in rw length-set (omega (arith, h))
 
 pub returns : goal.returns
-returns c = store_sample c.args.b.now c.args.i (2 * c.args.i) _ _ _ refl c.requires.1 (two_bytes _ _ _ c.ranges.v.fits (rw c.to_le_bytes.ensures) (rw c.to_le_bytes.ensures))
+returns c = let e = two_bytes _ _ _ c.ranges.v.fits (rw c.to_le_bytes.ensures) (rw c.to_le_bytes.ensures) in
+    store_sample c.args.b.now c.args.i (2 * c.args.i) _ _ _ refl c.requires.1 e
