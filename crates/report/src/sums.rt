@@ -1,6 +1,6 @@
 // What the program tells of the residuals and of the replayed plane: sums of absolute residuals, and whether two planes agree.
 // Rests on the helpers' absolute value.
-ghost use Rattle.std.specs.Prelude.{◌≡◌, ◌≤◌, ◌<◌, length, nat_abs, sum_by};
+ghost use Rattle.std.specs.Prelude.{◌≡◌, ◌≤◌, length, nat_abs, sum_by};
 ghost use Rattle.report.specs.sums.Sums.{agree};
 
 use domain::helpers;
