@@ -33,10 +33,7 @@ fn read_input<R: Read>(input: &mut R, buffer: &mut [u8]) -> usize
     ensures octets { 0 < result → Consumes (R.remaining input.old) (R.remaining input.new) (take result buffer.new) }
     ensures end { 0 < result → result < length buffer.new → IsAtEnd (R.remaining input.new) }
 {
-    match read_full(input, &mut *buffer) {
-        Ok(n) => n,
-        Err(_) => 0,
-    }
+    read_full(input, buffer).unwrap_or(0)
 }
 
 // One byte more than the limit is read: so an input that is too long is told from one that is not.

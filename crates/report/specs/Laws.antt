@@ -46,7 +46,7 @@ pub record WholeWalk (j : Job) (w x : World) (r : Stepped) : Type 0 where
   pub gives : r ≡ stepped_by (walk_verdict j.still j.plan scratch_tables 0 j.source w) j.plan none_done j.plan.count
   pub leaves : x ≡ walk_after j.still j.plan scratch_tables 0 j.plan.count j.source w
 
--- the first k of n entries, in a buffer of m
+-- n entries of a buffer of m
 fill_front : {A : Type 0} (f : ℕ → A) (k : ℕ) (d r : List A) → k ≤ length d → fill f k (d ++ r) ≡ fill f k d ++ r
 unfolding fill
 fill_front f zero d r h = refl
@@ -54,10 +54,10 @@ fill_front {A} f (suc k) d r h =
     ap (λ (x : List A). set x k (f k)) (fill_front f k d r (omega arith))
     ∙ set-append_left (fill f k d) r k (f k) (omega (arith, length_fill f k d))
 
-pub take_fill : {A : Type 0} (f : ℕ → A) (k n m : ℕ) (z : A) → k ≤ n → n ≤ m → take n (fill f k (replicate m z)) ≡ fill f k (replicate n z)
-take_fill {A} f k n m z h l =
+pub take_fill : {A : Type 0} (f : ℕ → A) (n m : ℕ) (z : A) → n ≤ m → take n (fill f n (replicate m z)) ≡ fill f n (replicate n z)
+take_fill {A} f n m z h =
     let e : n + (m - n) ≡ m = omega arith in
-    ap (λ (i : ℕ). take n (fill f k (replicate i z))) (sym e)
-    ∙ ap (λ (d : List A). take n (fill f k d)) (sym (replicate-append-replicate n (m - n) z))
-    ∙ ap (take n) (fill_front f k (replicate n z) (replicate (m - n) z) (omega (arith, length-replicate n z)))
-    ∙ take_at (fill f k (replicate n z)) (replicate (m - n) z) n (length_fill f k (replicate n z) ∙ length-replicate n z)
+    ap (λ (i : ℕ). take n (fill f n (replicate i z))) (sym e)
+    ∙ ap (λ (d : List A). take n (fill f n d)) (sym (replicate-append-replicate n (m - n) z))
+    ∙ ap (take n) (fill_front f n (replicate n z) (replicate (m - n) z) (omega (arith, length-replicate n z)))
+    ∙ take_at (fill f n (replicate n z)) (replicate (m - n) z) n (length_fill f n (replicate n z) ∙ length-replicate n z)

@@ -5,7 +5,7 @@ use Rattle.std.proofs.Math.Path.{refl, ap, ap₂}
 use Rattle.std.proofs.Common.{sym, ◌∙◌, subst, arith, length-append, length-take-le, leb-true, ltb-true, ltb-false, eqb-true, eq-eqb}
 use Rattle.std.proofs.Common.{ne_eqb}
 use mathlib.Core.List.{List, ◌++◌}
-use Rattle.std.proofs.lemmas.List.{length-replicate, get_or_past}
+use Rattle.std.proofs.lemmas.List.{length-replicate, take-replicate, get_or_past}
 use Rattle.laws.specs.Fill.{fill}
 use Rattle.laws.specs.FillLaws.{length_fill, fill_at}
 use Rattle.laws.specs.Bytes.{le_at}
@@ -136,24 +136,21 @@ fill_long f k m z {d} e h =
     let l : length d ≡ m = ap length e ∙ length_fill f k (replicate m z) ∙ length-replicate m z in
     sym (length-take-le k d (omega (arith, l)))
 
-take_zeros : {A : Type 0} (n m : ℕ) (z : A) → n ≤ m → take n (replicate m z) ≡ replicate n z
-unfolding fill
-take_zeros n m z h = take_fill (λ k. z) 0 n m z (omega arith) h
-
-pub blank_part : {f : List ℕ} (s : Still) (t : Trailer) (n blocks : ℕ) (d e : List ℕ) (v : List ℤ) → GoodFile f t → s ≡ still_in t → n
-    ≡ area_of t → blocks ≡ t.blocks → d ≡ replicate 8192 0 → v ≡ replicate 8192 (pos 0) → e ≡ replicate 8192 0
-    → Blank s blocks (record { work = take n d; residuals = take n v }) (take n e)
-blank_part s t n blocks d e v h i m k p q u =
+-- parts of arrays of zeros
+pub blank_part : {f : List ℕ} (s : Still) (t : Trailer) (n blocks : ℕ) → GoodFile f t → s ≡ still_in t → n ≡ area_of t → blocks ≡ t.blocks
+    → let plane : List ℕ = take n (replicate 8192 0) in
+    Blank s blocks (record { work = plane; residuals = take n (replicate 8192 (pos 0)) }) plane
+blank_part s t n blocks h i m k =
     let l : n ≤ 8192 = omega (arith, h.samples_few) in
     let g : n ≡ s.frame.height * s.frame.width = m ∙ sym (ap (λ (x : Still). x.frame.height * x.frame.width) i) in
-    let a : take n d ≡ zeros s = ap (take n) p ∙ take_zeros n 8192 0 l ∙ ap (λ (x : ℕ). replicate x 0) g in
-    let b : take n v ≡ (blank s).residuals = ap (take n) q ∙ take_zeros n 8192 (pos 0) l ∙ ap (λ (x : ℕ). replicate x (pos 0)) g in
-    let c : take n e ≡ zeros s = ap (take n) u ∙ take_zeros n 8192 0 l ∙ ap (λ (x : ℕ). replicate x 0) g in
-    record { few = omega (arith, k, h.blocks_few); world = λ x. record { work = a x; residuals = b x }; plane_zero = c }
+    let a : take n (replicate 8192 0) ≡ zeros s = take-replicate n 8192 0 l ∙ ap (λ (x : ℕ). replicate x 0) g in
+    let b : take n (replicate 8192 (pos 0)) ≡ (blank s).residuals = take-replicate n 8192 (pos 0) l
+    ∙ ap (λ (x : ℕ). replicate x (pos 0)) g in
+    record { few = omega (arith, k, h.blocks_few); world = λ x. record { work = a x; residuals = b x }; plane_zero = a }
 
 -- what is read of the file, without the zeros after it
 read_is : {A : Type 0} (f : ℕ → A) (n m : ℕ) (z : A) (d : List A) → n ≤ m → d ≡ fill f n (replicate m z) → take n d ≡ tabulated f n z
-read_is f n m z d h p = ap (take n) p ∙ take_fill f n n m z (omega arith) h
+read_is f n m z d h p = ap (take n) p ∙ take_fill f n m z h
 
 -- a plan of block records is one of four fields
 long : {A : Type 0} (f : ℕ → A) (n : ℕ) (z : A) → length (tabulated f n z) ≡ n

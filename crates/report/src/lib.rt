@@ -6,7 +6,7 @@ pub mod file;
 mod sums;
 mod text;
 
-ghost use Rattle.std.specs.Prelude.{◌≡◌, ◌≤◌, ◌<◌, [], length as count};
+ghost use Rattle.std.specs.Prelude.{◌≡◌, ◌≤◌, [], length as count};
 ghost use Rattle.plan.specs.tiling.Plan.{listed};
 ghost use Rattle.walk.specs.Lent.{scratch_tables, world, world_before, world_after};
 ghost use Rattle.walk.specs.calls.Door.{replay_after};

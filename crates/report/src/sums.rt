@@ -1,22 +1,16 @@
 // What the program tells of the residuals and of the replayed plane: sums of absolute residuals, and whether two planes agree.
 // Rests on the helpers' absolute value.
-ghost use Rattle.std.specs.Prelude.{◌≡◌, ◌≤◌, ◌<◌, length, nat_abs, sum_by};
+ghost use Rattle.std.specs.Prelude.{◌≡◌, ◌≤◌, length, nat_abs, sum_by};
 ghost use Rattle.report.specs.sums.Sums.{agree};
 
 use domain::helpers;
-
-fn absolute(r: i32) -> u64
-    ensures { (result ≡ nat_abs r) × (result < 4294967296) }
-{
-    helpers::abs(r) as u64
-}
 
 // The sum of a block's absolute residuals.
 pub(crate) fn sum_of(residuals: &[i32]) -> u64
     requires { length residuals.now ≤ 1024 }
     ensures { result ≡ sum_by nat_abs residuals.now }
 {
-    residuals.iter().map(|r| absolute(*r)).sum()
+    residuals.iter().map(|r| u64::from(helpers::abs(*r))).sum()
 }
 
 // Whether two planes of one length are the same.
