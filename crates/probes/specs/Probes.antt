@@ -16,8 +16,7 @@ use Rattle.smooth.specs.declared.Smoothed.{Smoothed}
 use Rattle.smooth.specs.Smoothing.{should_filter_refs, filter_references, filter_luma_refs}
 use Rattle.domain.specs.declared.rows.Rows.{Rows}
 use Rattle.refs.specs.declared.substitution.Flags.{Flags}
-use Rattle.domain.specs.declared.rows.Gathered.{Gathered}
-use Rattle.refs.specs.declared.GatheredPair.{GatheredPair}
+use Rattle.refs.specs.Answers.{Gathered, GatheredPair}
 use Rattle.refs.specs.declared.LumaRefGeometry.{LumaRefGeometry}
 use Rattle.refs.specs.declared.ChromaRefGeometry.{ChromaRefGeometry}
 use Rattle.refs.specs.substitution.Door.{substitute_refs}

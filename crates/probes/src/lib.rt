@@ -6,15 +6,18 @@ pub mod error_probes;
 pub mod predict_probes;
 pub mod walk_probes;
 
-ghost use Rattle.std.specs.Prelude.{◌≡◌};
+ghost use Rattle.std.specs.Prelude.{◌≡◌, [], ◌∷◌};
 ghost use Rattle.probes.specs.Probes.{depth_figures, format_figures, on_luma, on_chroma, order_answer, available_answer};
 ghost use Rattle.probes.specs.Probes.{rule_answer, filter_answer, luma_answer};
-ghost use Rattle.probes.specs.Probes.{rows_with, flags_with, substitute_answer, gather_answer, pair_answer};
+ghost use Rattle.probes.specs.Probes.{gathered_of, pair_references_of, rows_with, flags_with, substitute_answer, gather_answer, pair_answer};
+ghost use Rattle.refs.specs.Answers.{gathered};
 ghost use Rattle.checksum.specs.Checksum.{row_range};
 ghost use Rattle.probes.specs.Probes.{checksum_answer};
 ghost use Rattle.refs.specs.Door.{luma_geometry, chroma_geometry};
 
 use checksum::RowRange;
+use domain::refusal::Refusal;
+use domain::rows;
 use domain::rows::Rows;
 use fmt::depth::BitDepth;
 use fmt::{ChromaCol, ChromaFormat, ChromaRow, LumaCol, LumaRow};
@@ -272,6 +275,30 @@ pub extern "C" fn salvrunde_probe_filter_luma_refs(
     }
 }
 
+// What a gather answers, and substitution.
+fn references_of(answer: Result<Rows, Refusal>) -> References
+    ensures { result ≡ gathered_of (gathered answer) }
+{
+    match answer {
+        Ok(rows) => {
+            let above = rows.above;
+            let left = rows.left;
+            References {
+                no: 0,
+                corner: rows.corner,
+                above,
+                left,
+            }
+        }
+        Err(why) => References {
+            no: why.number(),
+            corner: 0,
+            above: [0; 65],
+            left: [0; 65],
+        },
+    }
+}
+
 // The corner of the rows and its flag come first, then the rows and theirs.
 #[unsafe(no_mangle)]
 pub extern "C" fn salvrunde_probe_substitute_refs(
@@ -297,15 +324,7 @@ pub extern "C" fn salvrunde_probe_substitute_refs(
         above: *has_above,
         left: *has_left,
     };
-    let a = substitution::substitute_refs(rows, flags, n, bits);
-    let up = a.rows.above;
-    let side = a.rows.left;
-    References {
-        no: a.no,
-        corner: a.rows.corner,
-        above: up,
-        left: side,
-    }
+    references_of(substitution::substitute_refs(rows, flags, n, bits))
 }
 
 #[unsafe(no_mangle)]
@@ -335,15 +354,7 @@ pub extern "C" fn salvrunde_probe_get_reference_samples(
         block_col: LumaCol(col),
         n,
     };
-    let a = refs::get_reference_samples(plane, geo);
-    let up = a.rows.above;
-    let side = a.rows.left;
-    References {
-        no: a.no,
-        corner: a.rows.corner,
-        above: up,
-        left: side,
-    }
+    references_of(refs::get_reference_samples(plane, geo))
 }
 
 // A call's number, and the corner and two rows of Cb and of Cr, zeros where it is refused.
@@ -357,6 +368,25 @@ pub struct PairReferences {
     pub cr_corner: u16,
     pub cr_above: [u16; 65],
     pub cr_left: [u16; 65],
+}
+
+// A number and two planes' rows, side by side.
+fn pair_of(no: u32, cb: Rows, cr: Rows) -> PairReferences
+    ensures { result ≡ pair_references_of (record { no = no; planes = cb ∷ cr ∷ [] }) }
+{
+    let cb_above = cb.above;
+    let cb_left = cb.left;
+    let cr_above = cr.above;
+    let cr_left = cr.left;
+    PairReferences {
+        no,
+        cb_corner: cb.corner,
+        cb_above,
+        cb_left,
+        cr_corner: cr.corner,
+        cr_above,
+        cr_left,
+    }
 }
 
 // The block's chroma place, then the luma place that is being decoded.
@@ -392,21 +422,9 @@ pub extern "C" fn salvrunde_probe_get_reference_samples_chroma_pair(
         cur_luma_row: LumaRow(cur_row),
         cur_luma_col: LumaCol(cur_col),
     };
-    let a = refs::get_reference_samples_chroma_pair(plane_cb, plane_cr, geo);
-    let cb = a.planes[0];
-    let cr = a.planes[1];
-    let cb_above = cb.above;
-    let cb_left = cb.left;
-    let cr_above = cr.above;
-    let cr_left = cr.left;
-    PairReferences {
-        no: a.no,
-        cb_corner: cb.corner,
-        cb_above,
-        cb_left,
-        cr_corner: cr.corner,
-        cr_above,
-        cr_left,
+    match refs::get_reference_samples_chroma_pair(plane_cb, plane_cr, geo) {
+        Ok(planes) => pair_of(0, planes[0], planes[1]),
+        Err(why) => pair_of(why.number(), rows::level_rows(0), rows::level_rows(0)),
     }
 }
 

@@ -17,6 +17,7 @@ use contract.Monad.{Fun, fact, fact_mono}
 use denote.Triple.Clauses.{Ended, AtExit, Clauses}
 use denote.Triple.Entry.{Args, Res}
 use Rattle.domain.specs.declared.refusal.Refusal.{Refusal}
+use Rattle.domain.specs.Refusal.{no_of}
 use Rattle.fmt.specs.declared.depth.BitDepth.{BitDepth}
 use Rattle.fmt.specs.depth.Depth.{depth_from, depth_number}
 use Rattle.refs.specs.Door.{luma_block, luma_geometry, chroma_block, chroma_geometry}
@@ -130,7 +131,7 @@ use Rattle.probes.specs.contracts.walk_probes.salvrunde_probe_replay_records as 
 use Rattle.probes.proofs.walk_probes.salvrunde_probe_walk.Reads as walk-probes-salvrunde-probe-walk
 use Rattle.probes.specs.contracts.walk_probes.salvrunde_probe_walk_records as walk-probes-salvrunde-probe-walk-records
 use Rattle.refs.proofs.chroma_layout.Reads as refs-chroma-layout
-use Rattle.refs.proofs.gather_no.Reads as refs-gather-no
+use Rattle.refs.proofs.check_gather.Reads as refs-check-gather
 use Rattle.refs.proofs.get_reference_samples.Reads as refs-get-reference-samples
 use Rattle.refs.proofs.get_reference_samples_chroma_pair.Reads as refs-get-reference-samples-chroma-pair
 use Rattle.refs.proofs.luma_layout.Reads as refs-luma-layout
@@ -183,38 +184,38 @@ depth_from_bits_row : Tabled (depth-from-bits.Post tt) depth_number (λ a. depth
 depth_from_bits_row = tabled (λ a x s p. ap depth_number p)
 
 -- order
-order_decode_order_row : Tabled (order-decode-order.Post tt) (λ r. r.no) (λ a. decode-order a.1.1.0 a.0 a.1.0)
+order_decode_order_row : Tabled (order-decode-order.Post tt) (λ r. no_of r) (λ a. decode-order a.1.1.0 a.0 a.1.0)
 order_decode_order_row = tabled (λ a x s p. ap (λ r. r.no) p)
 
-order_is_available_row : Tabled (order-is-available.Post tt) (λ r. r.no) (λ a. is-available a.1.1.1.0 a.1.0 a.1.1.0 a.0)
+order_is_available_row : Tabled (order-is-available.Post tt) (λ r. no_of r) (λ a. is-available a.1.1.1.0 a.1.0 a.1.1.0 a.0)
 order_is_available_row = tabled (λ a x s p. ap (λ r. r.no) p)
 
-order_luma_reach_row : Tabled (order-luma-reach.Post tt) (λ r. r.no) (λ a. luma-reach a.0)
+order_luma_reach_row : Tabled (order-luma-reach.Post tt) (λ r. no_of r) (λ a. luma-reach a.0)
 order_luma_reach_row = tabled (λ a x s p. ap (λ r. r.no) p)
 
-order_chroma_reach_row : Tabled (order-chroma-reach.Post tt) (λ r. r.no) (λ a. chroma-reach a.0)
+order_chroma_reach_row : Tabled (order-chroma-reach.Post tt) (λ r. no_of r) (λ a. chroma-reach a.0)
 order_chroma_reach_row = tabled (λ a x s p. ap (λ r. r.no) p)
 
 -- refs
-substitution_substitute_refs_row : Tabled (substitution-substitute-refs.Post tt) (λ r. r.no)
+substitution_substitute_refs_row : Tabled (substitution-substitute-refs.Post tt) (λ r. no_of r)
     (λ a. substitute-refs a.0 a.1.0 a.1.1.0 a.1.1.1.0)
 substitution_substitute_refs_row = tabled (λ a x s p. ap (λ r. r.no) p)
 
-refs_gather_no_row : TabledFirst (refs-gather-no.Post tt) (λ a r. r) (λ a. gather_number a.0 a.1.0 a.1.1.0)
-refs_gather_no_row = tabled_first (λ a x s p. p)
+refs_check_gather_row : TabledFirst (refs-check-gather.Post tt) (λ a r. no_of r) (λ a. gather_number a.0 (no_of a.1.0) a.1.1.0)
+refs_check_gather_row = tabled_first (λ a x s p. p.0)
 
-refs_luma_layout_row : Tabled (refs-luma-layout.Post tt) (λ r. r.reach.no) (λ a. luma-reach (luma_block a.0))
+refs_luma_layout_row : Tabled (refs-luma-layout.Post tt) (λ r. no_of r.reach) (λ a. luma-reach (luma_block a.0))
 refs_luma_layout_row = tabled (λ a x s p. ap (λ r. r.reach.no) p)
 
-refs_chroma_layout_row : Tabled (refs-chroma-layout.Post tt) (λ r. r.reach.no) (λ a. chroma-reach (chroma_block a.0))
+refs_chroma_layout_row : Tabled (refs-chroma-layout.Post tt) (λ r. no_of r.reach) (λ a. chroma-reach (chroma_block a.0))
 refs_chroma_layout_row = tabled (λ a x s p. ap (λ r. r.reach.no) p)
 
 refs_get_reference_samples_row : (κs : Lfts 1)
-    → Tabled (refs-get-reference-samples.Post κs) (λ r. r.no) (λ a. luma_gather a.0.now a.1.0)
+    → Tabled (refs-get-reference-samples.Post κs) (λ r. no_of r) (λ a. luma_gather a.0.now a.1.0)
 refs_get_reference_samples_row κs = tabled (λ a x s p. ap (λ r. r.no) p)
 
 refs_get_reference_samples_chroma_pair_row : (κs : Lfts 2)
-    → Tabled (refs-get-reference-samples-chroma-pair.Post κs) (λ r. r.no) (λ a. chroma_gather a.0.now a.1.0.now a.1.1.0)
+    → Tabled (refs-get-reference-samples-chroma-pair.Post κs) (λ r. no_of r) (λ a. chroma_gather a.0.now a.1.0.now a.1.1.0)
 refs_get_reference_samples_chroma_pair_row κs = tabled (λ a x s p. ap (λ r. r.no) p)
 
 -- checksum

@@ -1,7 +1,7 @@
 -- The page Zero, proved. Rests on what refs says of available and missing neighbours (Missing), on the law of H.265's neighbours
 -- (Locality), on demand 2, by which the doors' blocks are the standard's, and on the clauses reading the corner and entries 0 .. 2n − 1
 -- alone.
-use Rattle.std.specs.Prelude.{◌≡◌, refl, Bool, false, true, List, ℕ, ◌+◌, ◌*◌, ◌<◌, length, get_or}
+use Rattle.std.specs.Prelude.{◌≡◌, refl, Bool, false, true, List, ℕ, ◌+◌, ◌*◌, ◌<◌, length, get_or, Ok}
 use Rattle.std.proofs.Common.{sym, ◌∙◌, ⊎_elim}
 use Rattle.std.proofs.Math.Path.{ap}
 use native.Mathlib.Omega.{arith}
@@ -25,10 +25,10 @@ use Rattle.h265.proofs.Locality.{neighbours_agree}
 use Rattle.domain.specs.Domain.{size_ok}
 use Rattle.domain.specs.Facts.{size_of, size_small}
 use Rattle.domain.specs.declared.rows.Rows.{Rows}
-use Rattle.domain.specs.declared.rows.Gathered.{Gathered}
 use Rattle.domain.specs.rows.Neighbours.{neighbours_of}
 use Rattle.order.specs.Order.{grid_of}
 use Rattle.refs.specs.declared.LumaRefGeometry.{LumaRefGeometry}
+use Rattle.refs.specs.Answers.{Gathered, gathered}
 use Rattle.refs.specs.Door.{luma_rows, luma_no, get_reference_samples}
 use Rattle.refs.specs.standard.Missing.{present, before_first, later_gap, none_there, luma_available, luma_past_end}
 use Rattle.smooth.specs.declared.FilteredRows.{FilteredRows}
@@ -73,29 +73,29 @@ module _ (plane other : LentSlice) (geo : LumaRefGeometry) where
       (omega arith) (omega arith) same
 
   -- past entry 2n
-  past : (g h : Gathered) → g.rows ≡ luma_rows plane.now geo → h.rows ≡ luma_rows other.now geo → (i : ℕ) → 2 * geo.n < i
-      → (get_or g.rows.above i 0 ≡ get_or h.rows.above i 0) × (get_or g.rows.left i 0 ≡ get_or h.rows.left i 0)
-  past g h e f i l = rw (e, f) (luma_past_end geo plane.now other.now i l)
+  past : (rows rows₂ : Rows) → rows ≡ luma_rows plane.now geo → rows₂ ≡ luma_rows other.now geo → (i : ℕ) → 2 * geo.n < i
+      → (get_or rows.above i 0 ≡ get_or rows₂.above i 0) × (get_or rows.left i 0 ≡ get_or rows₂.left i 0)
+  past rows rows₂ e f i l = rw (e, f) (luma_past_end geo plane.now other.now i l)
 
-  all_but : (g h : Gathered) → Agree geo.n (neighbours_of g.rows) (neighbours_of h.rows)
-      → g.rows ≡ luma_rows plane.now geo → h.rows ≡ luma_rows other.now geo → SameButEntry2n geo.n g.rows h.rows
-  all_but g h a e f =
+  all_but : (rows rows₂ : Rows) → Agree geo.n (neighbours_of rows) (neighbours_of rows₂)
+      → rows ≡ luma_rows plane.now geo → rows₂ ≡ luma_rows other.now geo → SameButEntry2n geo.n rows rows₂
+  all_but rows rows₂ a e f =
       record {
         corner = a.corner;
-        above = λ i apart. ⊎_elim (λ l. a.above i l) (λ l. (past g h e f i (omega (arith, apart))).0) (order i (2 * geo.n));
-        left = λ i apart. ⊎_elim (λ l. a.left i l) (λ l. (past g h e f i (omega (arith, apart))).1) (order i (2 * geo.n));
+        above = λ i apart. ⊎_elim (λ l. a.above i l) (λ l. (past rows rows₂ e f i (omega (arith, apart))).0) (order i (2 * geo.n));
+        left = λ i apart. ⊎_elim (λ l. a.left i l) (λ l. (past rows rows₂ e f i (omega (arith, apart))).1) (order i (2 * geo.n));
       }
 
-gathered_agree : (κ κ₂ : Lfts 1) (plane other : LentSlice) (geo : LumaRefGeometry) (g h : Gathered) → Gathers κ plane geo g
-    → Gathers κ₂ other geo h → AgreeWhereAvailable (2 * geo.n) geo plane other
-    → Agree geo.n (neighbours_of g.rows) (neighbours_of h.rows)
-gathered_agree κ κ₂ plane other geo g h p q same =
-    joined geo.n _ _ _ _ (demand_2.get-reference-samples κ plane geo g p) (standard_same plane other geo same)
-    (demand_2.get-reference-samples κ₂ other geo h q)
+gathered_agree : (κ κ₂ : Lfts 1) (plane other : LentSlice) (geo : LumaRefGeometry) (rows rows₂ : Rows) → Gathers κ plane geo rows
+    → Gathers κ₂ other geo rows₂ → AgreeWhereAvailable (2 * geo.n) geo plane other
+    → Agree geo.n (neighbours_of rows) (neighbours_of rows₂)
+gathered_agree κ κ₂ plane other geo rows rows₂ p q same =
+    joined geo.n _ _ _ _ (demand_2.get-reference-samples κ plane geo rows p) (standard_same plane other geo same)
+    (demand_2.get-reference-samples κ₂ other geo rows₂ q)
 
-missing : (plane : LentSlice) (geo : LumaRefGeometry) (g : Gathered) → luma_no (length plane.now) geo ≡ 0
-    → g.rows ≡ luma_rows plane.now geo → Substituted plane geo g
-missing plane geo g served e =
+missing : (plane : LentSlice) (geo : LumaRefGeometry) (rows : Rows) → luma_no (length plane.now) geo ≡ 0
+    → rows ≡ luma_rows plane.now geo → Substituted plane geo rows
+missing plane geo rows served e =
     rw e
     (record {
       available = present plane.now geo served;
@@ -236,17 +236,17 @@ module _ (n : ℕ) where
 
 pub zero_settled : Zero
 zero_settled = record {
-  value_never_tells = λ κ κ₂ plane other geo g h p q same.
-      rows_are plane.now geo g p.0 p.1 ∙ luma_available geo plane.now other.now same
-      ∙ sym (rows_are other.now geo h q.0 q.1);
-  all_but_entry_2n = λ κ κ₂ plane other geo g h p q same.
-      all_but plane other geo g h (gathered_agree κ κ₂ plane other geo g h p q same) (rows_are plane.now geo g p.0 p.1)
-      (rows_are other.now geo h q.0 q.1);
+  value_never_tells = λ κ κ₂ plane other geo rows rows₂ p q same.
+      rows_are plane.now geo (gathered (Ok rows)) p refl ∙ luma_available geo plane.now other.now same
+      ∙ sym (rows_are other.now geo (gathered (Ok rows₂)) q refl);
+  all_but_entry_2n = λ κ κ₂ plane other geo rows rows₂ p q same.
+      all_but plane other geo rows rows₂ (gathered_agree κ κ₂ plane other geo rows rows₂ p q same) (rows_are plane.now geo (gathered (Ok rows)) p refl)
+      (rows_are other.now geo (gathered (Ok rows₂)) q refl);
   standard_never_tells = standard_same;
-  blocks_never_tell = λ κ κ₂ plane other geo g h p q same.
-      same_luma geo.n g.rows h.rows (gathered_agree κ κ₂ plane other geo g h p q same);
-  missing_takes = λ κ plane geo g p.
-      missing plane geo g (no_is plane.now geo g p.0 p.1) (rows_are plane.now geo g p.0 p.1);
+  blocks_never_tell = λ κ κ₂ plane other geo rows rows₂ p q same.
+      same_luma geo.n rows rows₂ (gathered_agree κ κ₂ plane other geo rows rows₂ p q same);
+  missing_takes = λ κ plane geo rows p.
+      missing plane geo rows (no_is plane.now geo (gathered (Ok rows)) p refl) (rows_are plane.now geo (gathered (Ok rows)) p refl);
   past_2n_unread = same_blocks;
   past_2n_unread_luma = same_luma;
   past_2n_unread_held = same_held;

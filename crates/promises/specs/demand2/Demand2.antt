@@ -1,7 +1,7 @@
 -- Demand 2 on one page: 'Luma gathering, smoothing, planar, DC and angular prediction are proved equal to ITU-T H.265', and chroma
 -- gathering at a block's own place. For each door: what meets its contract, as the prover reads it, with the number 0, has the samples of
 -- the standard (crates/h265). Proof2 proves it.
-use Rattle.std.specs.Prelude.{◌≡◌, Bool, true, false, not, List, ℕ, ◌+◌, ◌*◌, ◌<◌, eqb, get_or}
+use Rattle.std.specs.Prelude.{◌≡◌, Bool, true, false, not, List, ℕ, ◌+◌, ◌*◌, ◌<◌, eqb, get_or, Ok}
 use seplogic.Ra.Ura.{Ura}
 use base.Logic.{SProp, ent}
 use prog.Memory.{Memory}
@@ -24,9 +24,7 @@ use Rattle.octets.specs.Laws.{AreBytes}
 use Rattle.order.specs.Order.{grid_of}
 use Rattle.order.specs.Reach.{chroma_width}
 use Rattle.domain.specs.declared.rows.Rows.{Rows}
-use Rattle.domain.specs.declared.rows.Gathered.{Gathered}
 use Rattle.domain.specs.rows.Neighbours.{neighbours_of, zero_rows}
-use Rattle.refs.specs.declared.GatheredPair.{GatheredPair}
 use Rattle.refs.specs.declared.LumaRefGeometry.{LumaRefGeometry}
 use Rattle.refs.specs.declared.ChromaRefGeometry.{ChromaRefGeometry}
 use Rattle.refs.specs.Gather.{sample_of}
@@ -145,13 +143,13 @@ abbrev pub Spells : {A : Type 0} → (A → ℕ → A → Type 0) → (LentMutSl
 Spells {A} post call says =
     (out out' : LentMutSlice) (number : ℕ) → post (call out) number (call out') → number ≡ 0 → says (samples_of out'.now)
 
--- what meets the contract of the luma gather with the number 0
-abbrev pub Gathers : Lfts 1 → LentSlice → LumaRefGeometry → Gathered → Type 0
-Gathers κ plane geo g = gather.Post κ (plane and geo and none) g (plane and geo and none) × (g.no ≡ 0)
+-- rows whose answer, that of a call which is not refused, meets the contract of the luma gather
+abbrev pub Gathers : Lfts 1 → LentSlice → LumaRefGeometry → Rows → Type 0
+Gathers κ plane geo rows = gather.Post κ (plane and geo and none) (Ok rows) (plane and geo and none)
 
 -- and that of the chroma pair gather
-abbrev pub GathersPair : Lfts 2 → LentSlice → LentSlice → ChromaRefGeometry → GatheredPair → Type 0
-GathersPair κs cb cr geo g = pair-gather.Post κs (cb and cr and geo and none) g (cb and cr and geo and none) × (g.no ≡ 0)
+abbrev pub GathersPair : Lfts 2 → LentSlice → LentSlice → ChromaRefGeometry → List Rows → Type 0
+GathersPair κs cb cr geo planes = pair-gather.Post κs (cb and cr and geo and none) (Ok planes) (cb and cr and geo and none)
 
 -- predict's doors with the scratch as a struct, said of their clauses
 module _ {M : Type 1} {𝓤 : Ura M} (𝓛 : Logic 𝓤) (mem : Memory → SProp 𝓤) (run : Routine → Fun 𝓤) where
@@ -167,20 +165,20 @@ module _ {M : Type 1} {𝓤 : Ura M} (𝓛 : Logic 𝓤) (mem : Memory → SProp
     pub predict_luma_tb_into : (κs : Lfts 2) (mode : ℕ) (rows : Rows) (n bits : ℕ)
         → WritesHeld 𝓤 (λ a r z. (luma-into.clauses 𝓛 mem run κs a).ensures none r z)
         (λ pred last. mode and rows and n and bits and pred and last) n (luma_samples bits n mode (neighbours_of rows))
-    pub gathered_luma_into : (κ : Lfts 1) (plane : LentSlice) (geo : LumaRefGeometry) (g : Gathered) → Gathers κ plane geo g
+    pub gathered_luma_into : (κ : Lfts 1) (plane : LentSlice) (geo : LumaRefGeometry) (rows : Rows) → Gathers κ plane geo rows
         → (κs : Lfts 2) (mode : ℕ) → WritesHeld 𝓤 (λ a r z. (luma-into.clauses 𝓛 mem run κs a).ensures none r z)
-        (λ pred last. mode and g.rows and geo.n and geo.bits and pred and last) geo.n (standard_block plane.now geo mode)
+        (λ pred last. mode and rows and geo.n and geo.bits and pred and last) geo.n (standard_block plane.now geo mode)
 
 pub record Demand2 : Type 2 where
   -- refs, 6.4.1 and 8.4.4.2.2: the corner, and entries 0 .. 2n - 1 above and left
-  pub get-reference-samples : (κ : Lfts 1) (plane : LentSlice) (geo : LumaRefGeometry) (g : Gathered) → Gathers κ plane geo g
-      → Agree geo.n (neighbours_of g.rows) (standard_neighbours plane.now geo)
+  pub get-reference-samples : (κ : Lfts 1) (plane : LentSlice) (geo : LumaRefGeometry) (rows : Rows) → Gathers κ plane geo rows
+      → Agree geo.n (neighbours_of rows) (standard_neighbours plane.now geo)
   -- the same of Cb and of Cr, in every format and at every CTU, where the current luma place is the block's own and the least unit no wider
   -- than the block in luma samples
-  pub get-reference-samples-chroma-pair : (κs : Lfts 2) (cb cr : LentSlice) (geo : ChromaRefGeometry) (g : GatheredPair)
-      → GathersPair κs cb cr geo g → OwnPlace geo
-      → AreChroma cb.now geo (neighbours_of (get_or g.planes 0 zero_rows))
-      × AreChroma cr.now geo (neighbours_of (get_or g.planes 1 zero_rows))
+  pub get-reference-samples-chroma-pair : (κs : Lfts 2) (cb cr : LentSlice) (geo : ChromaRefGeometry) (planes : List Rows)
+      → GathersPair κs cb cr geo planes → OwnPlace geo
+      → AreChroma cb.now geo (neighbours_of (get_or planes 0 zero_rows))
+      × AreChroma cr.now geo (neighbours_of (get_or planes 1 zero_rows))
   -- smooth, 8.4.4.2.3: the rule; both rows in the [1 2 1] form, which no depth plays a part in; corner and rows in either form
   pub should-filter-refs : (mode n : ℕ) (r : Rule) → rule.Post none (mode and n and none) r (mode and n and none) → r.no ≡ 0
       → r.yes ≡ filter_flag n mode
@@ -218,12 +216,12 @@ pub record Demand2 : Type 2 where
       → Writes (luma-fresh.Post κs) (λ pred last. mode and rows and n and bits and pred and last)
       n (luma_samples bits n mode (neighbours_of rows))
   -- the luma gather, then a luma block over the rows that it gave: 8.4.4.2 whole
-  pub gathered_luma_slices : (κ : Lfts 1) (plane : LentSlice) (geo : LumaRefGeometry) (g : Gathered) → Gathers κ plane geo g
+  pub gathered_luma_slices : (κ : Lfts 1) (plane : LentSlice) (geo : LumaRefGeometry) (rows : Rows) → Gathers κ plane geo rows
       → (κs : Lfts 4) (mode : ℕ) → Writes {Last = LentTables} (luma-slices.Post κs)
-      (λ pred last. mode and g.rows and geo.n and geo.bits and pred and last) geo.n (standard_block plane.now geo mode)
-  pub gathered_luma_fresh : (κ : Lfts 1) (plane : LentSlice) (geo : LumaRefGeometry) (g : Gathered) → Gathers κ plane geo g
+      (λ pred last. mode and rows and geo.n and geo.bits and pred and last) geo.n (standard_block plane.now geo mode)
+  pub gathered_luma_fresh : (κ : Lfts 1) (plane : LentSlice) (geo : LumaRefGeometry) (rows : Rows) → Gathers κ plane geo rows
       → (κs : Lfts 1) (mode : ℕ) → Writes (luma-fresh.Post κs)
-      (λ pred last. mode and g.rows and geo.n and geo.bits and pred and last) geo.n (standard_block plane.now geo mode)
+      (λ pred last. mode and rows and geo.n and geo.bits and pred and last) geo.n (standard_block plane.now geo mode)
   -- predict_angular_into, predict_chroma_tb_into, predict_luma_tb_into
   pub with-scratch : {M : Type 1} {𝓤 : Ura M} (𝓛 : Logic 𝓤) (mem : Memory → SProp 𝓤) (run : Routine → Fun 𝓤)
       → WithScratch 𝓛 mem run

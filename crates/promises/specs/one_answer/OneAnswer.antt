@@ -1,7 +1,7 @@
 -- Document 01, 'What the contracts settle': for each public function at most one answer, and one later content of what it writes, meets its
 -- contract. Stated over the contract itself as the prover reads it: `Post` takes the arguments, the answer and what is lent at exit. What
 -- lent scratch holds after a served call is the one exception. tests/doors finds a public function that is missing here. Assumes nothing.
-use Rattle.std.specs.Prelude.{ℕ, ◌≡◌, refl, Bool, true, false, List, eqb}
+use Rattle.std.specs.Prelude.{ℕ, ◌≡◌, refl, Bool, true, false, List, [], ◌∷◌, eqb, Result, Ok, Err, IfOk}
 use Rattle.std.proofs.Common.{sym, ap, ap₂, ◌∙◌, eqb-true}
 use Rattle.std.proofs.lemmas.Bool.{eqb-false}
 use seplogic.Ra.Ura.{Ura}
@@ -15,6 +15,15 @@ use denote.Triple.Clauses.{Ended, AtExit, Clauses}
 use denote.Triple.Entry.{Args, Res}
 use Rattle.laws.specs.Choose.{served}
 use Rattle.laws.specs.Least.{least_once}
+use Rattle.domain.specs.declared.refusal.Refusal.{Refusal}
+use Rattle.domain.specs.declared.rows.Rows.{Rows}
+use Rattle.domain.specs.Refusal.{no_of}
+use Rattle.domain.specs.Refused.{never_0, same_refusal, same_answer}
+use Rattle.domain.specs.rows.Neighbours.{level_rows}
+use Rattle.order.specs.declared.Reach.{Reach}
+use Rattle.order.specs.Answers.{Numbered, Flagged, Reached, numbered, flagged, reached, held}
+use Rattle.refs.specs.declared.Layout.{Layout}
+use Rattle.refs.specs.Answers.{Gathered, GatheredPair, Laid, gathered, gathered_pair, laid}
 use Rattle.choose.specs.declared.Chosen.{Chosen}
 use Rattle.choose.specs.Choose.{Chooses}
 use Rattle.octets.specs.Bytes.{pair_into}
@@ -33,6 +42,8 @@ use Rattle.domain.proofs.mode_ok.Reads as domain-mode-ok
 use Rattle.domain.proofs.plane_side_ok.Reads as domain-plane-side-ok
 use Rattle.domain.proofs.picture_ok.Reads as domain-picture-ok
 use Rattle.domain.proofs.unit_ok.Reads as domain-unit-ok
+use Rattle.domain.proofs.refusal.Refusal.number.Reads as refusal-number
+use Rattle.domain.proofs.refusal.no_of.Reads as refusal-no-of
 use Rattle.samples.proofs.taps.interp.Reads as taps-interp
 use Rattle.samples.proofs.taps.mean.Reads as taps-mean
 use Rattle.samples.proofs.taps.edge.Reads as taps-edge
@@ -95,7 +106,7 @@ use Rattle.smooth.proofs.filter_luma_refs.Reads as smooth-filter-luma-refs
 use Rattle.refs.proofs.substitution.substitute_refs.Reads as substitution-substitute-refs
 use Rattle.refs.proofs.get_reference_samples.Reads as refs-get-reference-samples
 use Rattle.refs.proofs.get_reference_samples_chroma_pair.Reads as refs-get-reference-samples-chroma-pair
-use Rattle.refs.proofs.gather_no.Reads as refs-gather-no
+use Rattle.refs.proofs.check_gather.Reads as refs-check-gather
 use Rattle.refs.proofs.luma_layout.Reads as refs-luma-layout
 use Rattle.refs.proofs.chroma_layout.Reads as refs-chroma-layout
 use Rattle.plan.proofs.records.record_at.Reads as records-record-at
@@ -212,6 +223,35 @@ by_number : {L : Type 0} (work kept : L) {n x y : ℕ} {l m : L} → x ≡ n →
     → l ≡ served x work kept → m ≡ served y work kept → (x ≡ y) × (l ≡ m)
 by_number work kept p q u v = (p ∙ sym q, u ∙ ap (λ (k : ℕ). served k work kept) (p ∙ sym q) ∙ sym v)
 
+-- an answer is known by what it says in the paper's terms
+numbered_same : (x y : Result ℕ Refusal) → numbered x ≡ numbered y → x ≡ y
+numbered_same x y e = same_answer 0 x y (ap (λ (r : Numbered). r.no) e) (ap (λ (r : Numbered). r.value) e)
+
+flagged_same : (x y : Result Bool Refusal) → flagged x ≡ flagged y → x ≡ y
+flagged_same x y e = same_answer false x y (ap (λ (r : Flagged). r.no) e) (ap (λ (r : Flagged). r.yes) e)
+
+reached_same : (x y : Result Reach Refusal) → reached x ≡ reached y → x ≡ y
+reached_same x y e = same_answer (record { corner = false; above = 0; left = 0 }) x y (ap (λ (r : Reached). r.no) e) (ap held e)
+
+gathered_same : (x y : Result Rows Refusal) → gathered x ≡ gathered y → x ≡ y
+gathered_same x y e = same_answer (level_rows 0) x y (ap (λ (g : Gathered). g.no) e) (ap (λ (g : Gathered). g.rows) e)
+
+gathered_pair_same : (x y : Result (List Rows) Refusal) → gathered_pair x ≡ gathered_pair y → x ≡ y
+gathered_pair_same x y e =
+    same_answer (level_rows 0 ∷ level_rows 0 ∷ []) x y (ap (λ (g : GatheredPair). g.no) e) (ap (λ (g : GatheredPair). g.planes) e)
+
+laid_same : (x y : Layout) → laid x ≡ laid y → x ≡ y
+laid_same x y e =
+    let r = reached_same x.reach y.reach (ap (λ (l : Laid). l.reach) e) in
+    λ i. record { reach = r i; spot = (e i).spot; length = (e i).length }
+
+-- one that is another's own where it is not refused
+own_once : (found x y : Result Reach Refusal) → no_of x ≡ no_of y → IfOk x (λ r. found ≡ Ok r) → IfOk y (λ r. found ≡ Ok r) → x ≡ y
+own_once found (Ok r) (Ok t) e p q = sym p ∙ q
+own_once found (Ok r) (Err w) e p q = absurd (never_0 w (sym e))
+own_once found (Err v) (Ok t) e p q = absurd (never_0 v e)
+own_once found (Err v) (Err w) e p q = ap Err (same_refusal v w e)
+
 -- the mode and the sum that the chooser's contract names
 pub chosen_once : (k : ℕ) (sums : ℕ → ℕ) {x y : Chosen} → Chooses k sums x → Chooses k sums y → x ≡ y
 chosen_once k sums {x} {y} p q = λ i. record { no = (p.number ∙ sym q.number) i; mode = pair.0 i; sum = pair.1 i }
@@ -266,6 +306,13 @@ domain_picture_ok_once a x y s t p q = p ∙ sym q
 
 domain_unit_ok_once : Once (domain-unit-ok.Post tt)
 domain_unit_ok_once a x y s t p q = p ∙ sym q
+
+-- refusal
+refusal_number_once : Once (refusal-number.Post tt)
+refusal_number_once a x y s t p q = p ∙ sym q
+
+refusal_no_of_once : Once (refusal-no-of.Post tt)
+refusal_no_of_once a x y s t p q = p ∙ sym q
 
 -- taps
 taps_interp_once : Once (taps-interp.Post tt)
@@ -348,16 +395,16 @@ fmt_chroma_col_once a x y s t p q = p ∙ sym q
 
 -- order
 order_decode_order_once : Once (order-decode-order.Post tt)
-order_decode_order_once a x y s t p q = p ∙ sym q
+order_decode_order_once a x y s t p q = numbered_same x y (p ∙ sym q)
 
 order_is_available_once : Once (order-is-available.Post tt)
-order_is_available_once a x y s t p q = p ∙ sym q
+order_is_available_once a x y s t p q = flagged_same x y (p ∙ sym q)
 
 order_luma_reach_once : Once (order-luma-reach.Post tt)
-order_luma_reach_once a x y s t p q = p ∙ sym q
+order_luma_reach_once a x y s t p q = reached_same x y (p ∙ sym q)
 
 order_chroma_reach_once : Once (order-chroma-reach.Post tt)
-order_chroma_reach_once a x y s t p q = p ∙ sym q
+order_chroma_reach_once a x y s t p q = reached_same x y (p ∙ sym q)
 
 -- rows
 rows_level_rows_once : Once (rows-level-rows.Post tt)
@@ -450,23 +497,23 @@ smooth_filter_luma_refs_once κs a x y s t p q = p ∙ sym q
 -- substitution
 
 substitution_substitute_refs_once : Once (substitution-substitute-refs.Post tt)
-substitution_substitute_refs_once a x y s t p q = p ∙ sym q
+substitution_substitute_refs_once a x y s t p q = gathered_same x y (p ∙ sym q)
 
 -- refs
 refs_get_reference_samples_once : (κs : Lfts 1) → Once (refs-get-reference-samples.Post κs)
-refs_get_reference_samples_once κs a x y s t p q = p ∙ sym q
+refs_get_reference_samples_once κs a x y s t p q = gathered_same x y (p ∙ sym q)
 
 refs_get_reference_samples_chroma_pair_once : (κs : Lfts 2) → Once (refs-get-reference-samples-chroma-pair.Post κs)
-refs_get_reference_samples_chroma_pair_once κs a x y s t p q = p ∙ sym q
+refs_get_reference_samples_chroma_pair_once κs a x y s t p q = gathered_pair_same x y (p ∙ sym q)
 
-refs_gather_no_once : Once (refs-gather-no.Post tt)
-refs_gather_no_once a x y s t p q = p ∙ sym q
+refs_check_gather_once : Once (refs-check-gather.Post tt)
+refs_check_gather_once a x y s t p q = own_once a.1.0 x y (p.0 ∙ sym q.0) p.1 q.1
 
 refs_luma_layout_once : Once (refs-luma-layout.Post tt)
-refs_luma_layout_once a x y s t p q = p ∙ sym q
+refs_luma_layout_once a x y s t p q = laid_same x y (p ∙ sym q)
 
 refs_chroma_layout_once : Once (refs-chroma-layout.Post tt)
-refs_chroma_layout_once a x y s t p q = p ∙ sym q
+refs_chroma_layout_once a x y s t p q = laid_same x y (p ∙ sym q)
 
 -- records
 records_record_at_once : (κs : Lfts 1) → Once (records-record-at.Post κs)

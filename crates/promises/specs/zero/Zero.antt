@@ -16,7 +16,6 @@ use Rattle.h265.specs.Mean.{Agree}
 use Rattle.h265.specs.Locality.{Beside, Seen}
 use Rattle.order.specs.Order.{grid_of}
 use Rattle.domain.specs.declared.rows.Rows.{Rows}
-use Rattle.domain.specs.declared.rows.Gathered.{Gathered}
 use Rattle.domain.specs.rows.Neighbours.{neighbours_of, level_rows}
 use Rattle.refs.specs.declared.LumaRefGeometry.{LumaRefGeometry}
 use Rattle.refs.specs.substitution.Substitution.{samples_on}
@@ -61,20 +60,20 @@ Available geo k = marked_on geo k ≡ true
 abbrev pub Missing : LumaRefGeometry → ℕ → Type 0
 Missing geo k = marked_on geo k ≡ false
 
-abbrev pub entry_at_place : LumaRefGeometry → Gathered → ℕ → ℕ
-entry_at_place geo g k = samples_on g.rows (2 * geo.n) k
+abbrev pub entry_at_place : LumaRefGeometry → Rows → ℕ → ℕ
+entry_at_place geo rows k = samples_on rows (2 * geo.n) k
 
--- what a gather g of a plane holds along its line
-pub record Substituted (plane : LentSlice) (geo : LumaRefGeometry) (g : Gathered) : Type 0 where
+-- what the rows of a plane's gather hold along its line
+pub record Substituted (plane : LentSlice) (geo : LumaRefGeometry) (rows : Rows) : Type 0 where
   -- an available neighbour is its sample, black or not
-  pub available : (k : ℕ) → k < 4 * geo.n + 3 → Available geo k → entry_at_place geo g k ≡ sample_on plane.now geo k
+  pub available : (k : ℕ) → k < 4 * geo.n + 3 → Available geo k → entry_at_place geo rows k ≡ sample_on plane.now geo k
   -- entries before the first available one take its value
   pub before_first : (j : ℕ) → j < 4 * geo.n + 3 → Available geo j → ((i : ℕ) → i < j → Missing geo i)
-      → (k : ℕ) → k < j → entry_at_place geo g k ≡ entry_at_place geo g j
+      → (k : ℕ) → k < j → entry_at_place geo rows k ≡ entry_at_place geo rows j
   -- each later gap takes the entry before it
-  pub later_gap : (k : ℕ) → suc k < 4 * geo.n + 3 → Missing geo (suc k) → entry_at_place geo g (suc k) ≡ entry_at_place geo g k
+  pub later_gap : (k : ℕ) → suc k < 4 * geo.n + 3 → Missing geo (suc k) → entry_at_place geo rows (suc k) ≡ entry_at_place geo rows k
   -- none available: the corner and all 65 entries of both rows are neutral
-  pub none_available : ((k : ℕ) → k < 4 * geo.n + 3 → Missing geo k) → g.rows ≡ level_rows (2 ^ (geo.bits - 1))
+  pub none_available : ((k : ℕ) → k < 4 * geo.n + 3 → Missing geo k) → rows ≡ level_rows (2 ^ (geo.bits - 1))
 
 -- (c) Two calls of doors that write a block of side n, each meeting its contract with the number 0: they leave the same samples in their
 -- buffers. `last` and `more` are their scratch, of which nothing is said.
@@ -139,22 +138,22 @@ module _ {M : Type 1} {𝓤 : Ura M} (𝓛 : Logic 𝓤) (mem : Memory → SProp
 pub record Zero : Type 2 where
   -- (a) The value never tells. Two planes that agree at every available neighbour, entry 2n among them, give the same corner and rows, all
   -- 65 entries of each.
-  pub value_never_tells : (κ κ₂ : Lfts 1) (plane other : LentSlice) (geo : LumaRefGeometry) (g h : Gathered)
-      → Gathers κ plane geo g → Gathers κ₂ other geo h → AgreeWhereAvailable (2 * geo.n + 1) geo plane other → g.rows ≡ h.rows
+  pub value_never_tells : (κ κ₂ : Lfts 1) (plane other : LentSlice) (geo : LumaRefGeometry) (rows rows₂ : Rows)
+      → Gathers κ plane geo rows → Gathers κ₂ other geo rows₂ → AgreeWhereAvailable (2 * geo.n + 1) geo plane other → rows ≡ rows₂
   -- With agreement up to entry 2n − 1 alone, all but entry 2n is the same.
-  pub all_but_entry_2n : (κ κ₂ : Lfts 1) (plane other : LentSlice) (geo : LumaRefGeometry) (g h : Gathered)
-      → Gathers κ plane geo g → Gathers κ₂ other geo h → AgreeWhereAvailable (2 * geo.n) geo plane other
-      → SameButEntry2n geo.n g.rows h.rows
+  pub all_but_entry_2n : (κ κ₂ : Lfts 1) (plane other : LentSlice) (geo : LumaRefGeometry) (rows rows₂ : Rows)
+      → Gathers κ plane geo rows → Gathers κ₂ other geo rows₂ → AgreeWhereAvailable (2 * geo.n) geo plane other
+      → SameButEntry2n geo.n rows rows₂
   -- So are the standard's own neighbours.
   pub standard_never_tells : (plane other : LentSlice) (geo : LumaRefGeometry) → AgreeWhereAvailable (2 * geo.n) geo plane other
       → Agree geo.n (standard_neighbours plane.now geo) (standard_neighbours other.now geo)
   -- So a luma block, over the rows that each gave: it is predicted alike.
-  pub blocks_never_tell : (κ κ₂ : Lfts 1) (plane other : LentSlice) (geo : LumaRefGeometry) (g h : Gathered)
-      → Gathers κ plane geo g → Gathers κ₂ other geo h → AgreeWhereAvailable (2 * geo.n) geo plane other
-      → SameLumaBlocks geo.n g.rows h.rows
+  pub blocks_never_tell : (κ κ₂ : Lfts 1) (plane other : LentSlice) (geo : LumaRefGeometry) (rows rows₂ : Rows)
+      → Gathers κ plane geo rows → Gathers κ₂ other geo rows₂ → AgreeWhereAvailable (2 * geo.n) geo plane other
+      → SameLumaBlocks geo.n rows rows₂
   -- (b) What is missing takes what the order names.
-  pub missing_takes : (κ : Lfts 1) (plane : LentSlice) (geo : LumaRefGeometry) (g : Gathered) → Gathers κ plane geo g
-      → Substituted plane geo g
+  pub missing_takes : (κ : Lfts 1) (plane : LentSlice) (geo : LumaRefGeometry) (rows : Rows) → Gathers κ plane geo rows
+      → Substituted plane geo rows
   -- (c) Entry 2n and all later ones reach no predicted sample: rows that agree on the corner and entries 0 .. 2n − 1 give the same block,
   -- whatever stands after these.
   pub past_2n_unread : (n corner corner₂ : ℕ) (above left above₂ left₂ : LentSlice)
