@@ -220,11 +220,11 @@ refs_get_reference_samples_chroma_pair_row κs = tabled (λ a x s p. ap (λ r. r
 
 -- checksum
 checksum_picture_checksum_row : (κs : Lfts 1)
-    → Tabled (checksum-picture-checksum.Post κs) (λ r. r.no) (λ a. sums.picture-checksum a.1.0 a.0.now a.1.1.0)
+    → Tabled (checksum-picture-checksum.Post κs) (λ r. no_of r) (λ a. sums.picture-checksum a.1.0 a.0.now a.1.1.0)
 checksum_picture_checksum_row κs = tabled (λ a x s p. ap (λ r. r.no) p)
 
 on_bytes_picture_checksum_bytes_row : (κs : Lfts 1)
-    → Tabled (on-bytes-picture-checksum-bytes.Post κs) (λ r. r.no)
+    → Tabled (on-bytes-picture-checksum-bytes.Post κs) (λ r. no_of r)
     (λ a. sums.picture_checksum_bytes a.1.0 a.1.1.1.0 a.0.now a.1.1.0)
 on_bytes_picture_checksum_bytes_row κs = tabled (λ a x s p. ap (λ r. r.no) p)
 
@@ -354,12 +354,12 @@ scratch_predict_predict_luma_tb_fresh_row κs = tabled (λ a x s p. p.0)
 
 -- residual
 residual_compute_residual_i32_into_row : (κs : Lfts 3)
-    → Tabled (residual-compute-residual-i32-into.Post κs) (λ r. r)
+    → Tabled (residual-compute-residual-i32-into.Post κs) (λ r. no_of r)
     (λ a. compute_residual a.1.1.0 a.0.now a.1.0.now a.1.1.1.0.now)
 residual_compute_residual_i32_into_row κs = tabled (λ a x s p. p.0)
 
 residual_reconstruct_into_row : (κs : Lfts 3)
-    → Tabled (residual-reconstruct-into.Post κs) (λ r. r)
+    → Tabled (residual-reconstruct-into.Post κs) (λ r. no_of r)
     (λ a. let b = a.1.1.1.1 in reconstruct a.1.1.1.0 a.1.1.0 a.0.now a.1.0.now b.0.now)
 residual_reconstruct_into_row κs = tabled (λ a x s p. p.0)
 

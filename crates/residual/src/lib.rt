@@ -53,35 +53,21 @@ fn check_block(n: usize, orig: usize, pred: usize, residual: usize) -> Result<()
     Ok(())
 }
 
-// A run of 16 residuals goes by way of an array of its own, so that every sample is read before the first is written.
-fn residual_run(orig: &[u16], pred: &[u16], at: usize) -> [i32; 16]
-    requires { (at + 16 ≤ length orig.now) × (at + 16 ≤ length pred.now) }
-    ensures { result ≡ fill (λ (j : ℕ). difference_at orig.now pred.now (at + j)) 16 (replicate
-        16 (pos 0)) }
-{
-    let mut to = [0i32; 16];
-    for j in 0..16 {
-        to[j] = deltas::less(orig[at + j], pred[at + j]);
-    }
-    to
-}
-
-fn store_residuals(from: [i32; 16], at: usize, residual: &mut [i32])
-    requires { at + 16 ≤ length residual.old }
-    ensures { residual.new ≡ run (λ (j : ℕ). get_or from j (pos 0)) at 16 residual.old }
-{
-    for j in 0..16 {
-        residual[at + j] = from[j];
-    }
-}
-
-fn residuals(orig: &[u16], pred: &[u16], runs: usize, residual: &mut [i32])
-    requires { RunsFit runs (length orig.now) (length pred.now) (length residual.old) }
-    ensures { residual.new ≡ fill (difference_at orig.now pred.now) (runs * 16) residual.old }
+// Writes entry(i) at each i of so many runs of 16. A run goes by way of an array of its own, so that all that it is worked out from is
+// read before the first of it is written.
+fn fill_runs<T: Copy, F: Fn(usize) -> T>(runs: usize, zero: T, entry: F, out: &mut [T])
+    requires fits { (runs ≤ 64) × (runs * 16 ≤ length out.old) }
+    requires callable { (i : ℕ) → i < runs * 16 → F.pre entry i }
+    ensures { (f : ℕ → T) → ((i : ℕ) (v : T) → i < runs * 16 → F.post entry i v → v ≡ f i) → out.new ≡ fill f (runs * 16) out.old }
 {
     for r in 0..runs {
-        let t = residual_run(orig, pred, r * 16);
-        store_residuals(t, r * 16, &mut *residual);
+        let mut run = [zero; 16];
+        for j in 0..16 {
+            run[j] = entry(r * 16 + j);
+        }
+        for j in 0..16 {
+            out[r * 16 + j] = run[j];
+        }
     }
 }
 
@@ -96,7 +82,13 @@ pub fn compute_residual_i32_into(
         × (residual.new ≡ residuals_after n orig.now pred.now residual.old) }
 {
     check_block(n, orig.len(), pred.len(), residual.len())?;
-    residuals(orig, pred, runs_of(n), &mut *residual);
+    let entry = |i: usize|
+        requires { (i < length orig.now) × (i < length pred.now) }
+        ensures { result ≡ difference_at orig.entry.now pred.entry.now i }
+    {
+        deltas::less(orig[i], pred[i])
+    };
+    fill_runs(runs_of(n), 0, entry, &mut *residual);
     Ok(())
 }
 
@@ -163,41 +155,6 @@ fn check_rebuilding(
     Ok(())
 }
 
-fn rebuilt_run(pred: &[u16], residual: &[i32], at: usize, largest: u16) -> [u16; 16]
-    requires { (at + 16 ≤ length pred.now) × ((at + 16 ≤ length residual.now) × ((i : ℕ) → i < at + 16 → unsigned_abs
-        (slice_index_or residual.now i (pos 0)) ≤ 65535)) }
-    ensures { result ≡ fill (λ (j : ℕ). rebuilt_to largest pred.now residual.now (at + j)) 16
-        (replicate 16 0) }
-{
-    let mut to = [0u16; 16];
-    for j in 0..16 {
-        to[j] = rebuilt(pred[at + j], residual[at + j], largest);
-    }
-    to
-}
-
-fn store_samples(from: [u16; 16], at: usize, out: &mut [u16])
-    requires { at + 16 ≤ length out.old }
-    ensures { out.new ≡ run (λ (j : ℕ). slice_index from j) at 16 out.old }
-{
-    for j in 0..16 {
-        out[at + j] = from[j];
-    }
-}
-
-fn rebuild(pred: &[u16], residual: &[i32], runs: usize, largest: u16, out: &mut [u16])
-    requires { RunsFit runs (length pred.now) (length residual.now) (length out.old)
-        × ((i : ℕ) → i < runs * 16 →
-        unsigned_abs (slice_index_or residual.now i (pos 0)) ≤ 65535) }
-    ensures { out.new ≡ fill (rebuilt_to largest pred.now residual.now) (runs *
-        16) out.old }
-{
-    for r in 0..runs {
-        let t = rebuilt_run(pred, residual, r * 16, largest);
-        store_samples(t, r * 16, &mut *out);
-    }
-}
-
 // Prediction plus residual, brought to the depth's samples, into the first n×n entries.
 pub fn reconstruct_into(
     pred: &[u16],
@@ -210,12 +167,13 @@ pub fn reconstruct_into(
         × (out.new ≡ reconstructed bits n pred.now residual.now out.entry.now) }
 {
     check_rebuilding(bits, n, pred.len(), residual, out.len())?;
-    rebuild(
-        pred,
-        residual,
-        runs_of(n),
-        depth::largest_of(bits),
-        &mut *out,
-    );
+    let largest = depth::largest_of(bits);
+    let entry = |i: usize|
+        requires { (i < length pred.now) × (i < length residual.now) × (unsigned_abs (slice_index_or residual.now i (pos 0)) ≤ 65535) }
+        ensures { result ≡ rebuilt_to largest pred.entry.now residual.entry.now i }
+    {
+        rebuilt(pred[i], residual[i], largest)
+    };
+    fill_runs(runs_of(n), 0, entry, &mut *out);
     Ok(())
 }

@@ -18,12 +18,13 @@ use Rattle.laws.specs.Least.{least_once}
 use Rattle.domain.specs.declared.refusal.Refusal.{Refusal}
 use Rattle.domain.specs.declared.rows.Rows.{Rows}
 use Rattle.domain.specs.Refusal.{no_of}
-use Rattle.domain.specs.Refused.{never_0, same_refusal, same_answer}
+use Rattle.domain.specs.Refused.{never_0, same_refusal, same_answer, same_outcome}
 use Rattle.domain.specs.rows.Neighbours.{level_rows}
 use Rattle.order.specs.declared.Reach.{Reach}
 use Rattle.order.specs.Answers.{Numbered, Flagged, Reached, numbered, flagged, reached, held}
 use Rattle.refs.specs.declared.Layout.{Layout}
 use Rattle.refs.specs.Answers.{Gathered, GatheredPair, Laid, gathered, gathered_pair, laid}
+use Rattle.checksum.specs.Answers.{answered_same}
 use Rattle.choose.specs.declared.Chosen.{Chosen}
 use Rattle.choose.specs.Choose.{Chooses}
 use Rattle.octets.specs.Bytes.{pair_into}
@@ -457,10 +458,10 @@ deltas_residual_ok_once a x y s t p q = p ∙ sym q
 
 -- checksum
 checksum_picture_checksum_once : (κs : Lfts 1) → Once (checksum-picture-checksum.Post κs)
-checksum_picture_checksum_once κs a x y s t p q = p ∙ sym q
+checksum_picture_checksum_once κs a x y s t p q = answered_same x y (p ∙ sym q)
 
 on_bytes_picture_checksum_bytes_once : (κs : Lfts 1) → Once (on-bytes-picture-checksum-bytes.Post κs)
-on_bytes_picture_checksum_bytes_once κs a x y s t p q = p ∙ sym q
+on_bytes_picture_checksum_bytes_once κs a x y s t p q = answered_same x y (p ∙ sym q)
 
 -- errors
 errors_fresh_once : Once (errors-fresh.Post tt)
@@ -675,10 +676,10 @@ scratch_predict_predict_luma_tb_fresh_once κs a x y s t p q = by_number _ _ p.0
 
 -- residual
 residual_compute_residual_i32_into_once : (κs : Lfts 3) → OnceLeft (λ s. s.1.1.1.0.now) (residual-compute-residual-i32-into.Post κs)
-residual_compute_residual_i32_into_once κs a x y s t p q = (p.0 ∙ sym q.0, p.1 ∙ sym q.1)
+residual_compute_residual_i32_into_once κs a x y s t p q = (same_outcome x y (p.0 ∙ sym q.0), p.1 ∙ sym q.1)
 
 residual_reconstruct_into_once : (κs : Lfts 3) → OnceLeft (λ s. s.1.1.1.1.0.now) (residual-reconstruct-into.Post κs)
-residual_reconstruct_into_once κs a x y s t p q = (p.0 ∙ sym q.0, p.1 ∙ sym q.1)
+residual_reconstruct_into_once κs a x y s t p q = (same_outcome x y (p.0 ∙ sym q.0), p.1 ∙ sym q.1)
 
 -- probes
 predict_probes_salvrunde_probe_predict_planar_into_once : (κs : Lfts 3)

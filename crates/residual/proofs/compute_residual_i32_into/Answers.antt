@@ -1,9 +1,9 @@
 -- `residual::compute_residual_i32_into` meets its contract. Served by the runs; refused, the buffer is kept. Assumes nothing.
-use Rattle.std.proofs.Common.{length, sym, ◌∙◌}
+use Rattle.std.proofs.Common.{length, sym, ◌∙◌, arith}
 use Rattle.std.proofs.lemmas.Result.{err_from_is_err_and}
 use Rattle.laws.specs.Choose.{worked, unserved}
 use Rattle.domain.specs.Refused.{never_0}
-use Rattle.residual.specs.Residual.{residuals_after}
+use Rattle.residual.specs.Residual.{difference_at, residuals_after}
 use Rattle.residual.specs.Laws.{size_fits, runs_fit}
 use Rattle.residual.proofs.compute_residual_i32_into.Goals as goal
 
@@ -17,11 +17,14 @@ returns-in_err-check_block c =
 pub runs_of-requires : goal.runs_of-requires
 runs_of-requires c = size_fits _ _ _ _ (sym c.in_ok-check_block.ensures)
 
-pub residuals-requires : goal.residuals-requires
-residuals-requires c = let a = c.args in
-    runs_fit a.n (length a.orig.now) (length a.pred.now) (length a.residual.now) (sym c.in_ok-check_block.ensures) c.runs_of.result c.runs_of.ensures.0 c.runs_of.ensures.1
+pub fill_runs-requires : goal.fill_runs-requires
+fill_runs-requires c = let a = c.args in
+    let f = runs_fit a.n (length a.orig.now) (length a.pred.now) (length a.residual.now) (sym c.in_ok-check_block.ensures) c.runs_of.result c.runs_of.ensures.0 c.runs_of.ensures.1 in
+    record { fits = (f.few, f.third); callable = λ i h. (omega (arith, h, f.first), omega (arith, h, f.second)) }
 
 pub returns : goal.returns
 unfolding residuals_after
-returns c = let z = c.in_ok-check_block.ensures in
-    (z, (rw c.runs_of.ensures.0 at c.residuals.ensures) ∙ worked _ _ _ (sym z))
+returns c = let a = c.args in
+    let z = c.in_ok-check_block.ensures in
+    let e = c.fill_runs.ensures (difference_at a.orig.now a.pred.now) (λ i v h p. p) in
+    (z, (rw c.runs_of.ensures.0 at e) ∙ worked _ _ _ (sym z))
