@@ -138,7 +138,7 @@ fn residuals_no(residuals: &[u8], largest: u16) -> u32
     }
 }
 
-// A block's prediction from a plane, in rows. The last three slices are scratch.
+// A block's prediction from a plane, in rows. Such a block's gather is never refused. The last three slices are scratch.
 fn predict_block(
     s: Still,
     b: Block,
@@ -151,17 +151,18 @@ fn predict_block(
     requires { Ready s b (length (samples_of plane.now)) (tables refs.old indices.old fractions.old) × ((b.side * b.side ≤ length pred.old) × (length plane.now % 2 ≡ 0)) }
     ensures { pred.new ≡ block (predicted_at s b (samples_of plane.now)) b.side pred.old }
 {
-    let g = gather::get_reference_samples(plane, block::geometry(s, b));
-    let _ = predict::predict_luma_tb_slices(
-        b.mode as u8,
-        g.rows,
-        b.side as usize,
-        s.bits,
-        &mut *pred,
-        &mut *refs,
-        &mut *indices,
-        &mut *fractions,
-    );
+    if let Ok(rows) = gather::get_reference_samples(plane, block::geometry(s, b)) {
+        let _ = predict::predict_luma_tb_slices(
+            b.mode as u8,
+            rows,
+            b.side as usize,
+            s.bits,
+            &mut *pred,
+            &mut *refs,
+            &mut *indices,
+            &mut *fractions,
+        );
+    }
 }
 
 // A block: its samples from its prediction and its residuals, which are in rows from `at` on. The last three slices are scratch.

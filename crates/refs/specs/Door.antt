@@ -11,8 +11,7 @@ use Rattle.order.specs.declared.ChromaBlock.{ChromaBlock}
 use Rattle.order.specs.Order.{picture_ok}
 use Rattle.order.specs.Reach.{luma_place_ok, luma_has, chroma_place_ok, chroma_has, chroma_height, chroma_width}
 use Rattle.domain.specs.declared.rows.Rows.{Rows}
-use Rattle.domain.specs.declared.rows.Gathered.{Gathered}
-use Rattle.refs.specs.declared.GatheredPair.{GatheredPair}
+use Rattle.refs.specs.Answers.{Gathered, GatheredPair}
 use Rattle.refs.specs.declared.LumaRefGeometry.{LumaRefGeometry}
 use Rattle.refs.specs.declared.ChromaRefGeometry.{ChromaRefGeometry}
 use Rattle.domain.specs.rows.Neighbours.{level_rows}

@@ -68,8 +68,10 @@ fn order_differs(call: [u32; 10]) -> bool {
         ctu: call[4],
         unit: call[5],
     };
-    let answer = order::decode_order(LumaRow(call[0]), LumaCol(call[1]), picture);
-    (call[6] != answer.no) | (call[7] != answer.value)
+    match order::decode_order(LumaRow(call[0]), LumaCol(call[1]), picture) {
+        Ok(value) => (call[6] != 0) | (call[7] != value),
+        Err(why) => (call[6] != why.number()) | (call[7] != 0),
+    }
 }
 
 // A neighbour's coordinate is written with 2^31 added.
@@ -88,8 +90,10 @@ fn available_differs(call: [u32; 10]) -> bool {
         ctu: call[6],
         unit: call[7],
     };
-    let answer = order::is_available(at, LumaRow(call[2]), LumaCol(call[3]), picture);
-    (call[8] != answer.no) | (call[9] != (answer.yes as u32))
+    match order::is_available(at, LumaRow(call[2]), LumaCol(call[3]), picture) {
+        Ok(yes) => (call[8] != 0) | (call[9] != (yes as u32)),
+        Err(why) => (call[8] != why.number()) | (call[9] != 0),
+    }
 }
 
 fn differs(kind: u32, call: [u32; 10]) -> bool {

@@ -8,7 +8,7 @@ use Rattle.order.proofs.decode_order.Goals as goal
 
 pub returns-in_err-check_place : goal.returns-in_err-check_place
 unfolding decode_order
-returns-in_err-check_place c = 
+returns-in_err-check_place c =
     let p = err_from_is_err_and c.from_residual.result c.from_residual.ensures.1 in
     rw (p.1, p.2) (simp (← c.in_err-check_place.ensures, ne_eqb _ 0 (never_0 c.in_err-check_place.field-0.0)))
 

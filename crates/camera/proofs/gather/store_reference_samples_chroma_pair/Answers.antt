@@ -1,22 +1,29 @@
--- The layout, the number with the buffer's room, then the rows stored. Assumes nothing.
-use lib.ListN.{length}
+-- The layout, the check with the buffer's room, then the rows stored. Assumes nothing.
+use Rattle.std.proofs.Common.{◌∙◌, refl, sym, ap, length}
+use Rattle.domain.specs.Refused.{never_0}
+use Rattle.refs.specs.Answers.{Laid}
+use Rattle.refs.specs.Served.{laid_there}
 use Rattle.camera.specs.Written.{done, refused}
 use Rattle.camera.specs.gather.Spelt.{chroma_spelt_fine}
 use Rattle.camera.specs.gather.Entry.{chroma_entry}
-use Rattle.camera.specs.gather.Room.{chroma-entry-no, chroma_entry_fine}
+use Rattle.camera.specs.gather.Room.{own_reach, chroma-entry-no, chroma_entry_fine}
 use Rattle.camera.proofs.gather.store_reference_samples_chroma_pair.Goals as goal
 
 pub store_chroma_rows-requires : goal.store_chroma_rows-requires
 store_chroma_rows-requires c = let a = c.args in
-    let f = chroma_entry_fine (length a.plane_cb.now) (length a.plane_cr.now) (length a.out.now) a.geo c.chroma_bytes_no-early.ensures c.room_no-no.ensures c.if-no-eq0.true in
-    (c.chroma_layout-l.ensures, (chroma_spelt_fine a.plane_cb.now a.plane_cr.now a.geo f.1).2, f.0)
+    let l = c.chroma_layout-l in
+    let early = c.check_chroma_bytes-early.ensures in
+    let e = c.in-Ok.ensures in
+    let f = chroma_entry_fine (length a.plane_cb.now) (length a.plane_cr.now) (length a.out.now) a.geo early.number e.number refl in
+    (ap (λ (q : Laid). q.spot) l.ensures, laid_there l.result l.ensures (own_reach l.result.reach e.own early.own), (chroma_spelt_fine a.plane_cb.now a.plane_cr.now a.geo f.1).2, f.0)
 
-pub returns-then-no-eq0 : goal.returns-then-no-eq0
+pub returns-in-Ok : goal.returns-in-Ok
 unfolding chroma_entry
-returns-then-no-eq0 c = let a = c.args in
-    done _ _ _ (chroma-entry-no (length a.plane_cb.now) (length a.plane_cr.now) (length a.out.now) a.geo c.chroma_bytes_no-early.ensures c.room_no-no.ensures) c.if-no-eq0.true c.store_chroma_rows.ensures
+returns-in-Ok c = let a = c.args in
+    done _ _ _ (chroma-entry-no (length a.plane_cb.now) (length a.plane_cr.now) (length a.out.now) a.geo c.check_chroma_bytes-early.ensures.number c.in-Ok.ensures.number) refl c.store_chroma_rows.ensures
 
-pub returns-else-no-eq0 : goal.returns-else-no-eq0
+pub returns-in-Err : goal.returns-in-Err
 unfolding chroma_entry
-returns-else-no-eq0 c = let a = c.args in
-    refused _ _ _ (chroma-entry-no (length a.plane_cb.now) (length a.plane_cr.now) (length a.out.now) a.geo c.chroma_bytes_no-early.ensures c.room_no-no.ensures) c.if-no-eq0.false
+returns-in-Err c = let a = c.args in
+    refused _ _ _ (chroma-entry-no (length a.plane_cb.now) (length a.plane_cr.now) (length a.out.now) a.geo c.check_chroma_bytes-early.ensures.number (c.number.ensures ∙ c.in-Err.ensures.number))
+    (λ z. never_0 c.in-Err.why (sym c.number.ensures ∙ z))
