@@ -206,10 +206,15 @@ pub extern "C" fn salvrunde_probe_is_available(
 pub extern "C" fn salvrunde_probe_should_filter_refs(mode: u8, n: usize) -> Answer
     ensures { result ≡ rule_answer mode n }
 {
-    let a = smooth::should_filter_refs(mode, n);
-    Answer {
-        no: a.no,
-        value: a.yes as u32,
+    match smooth::should_filter_refs(mode, n) {
+        Ok(yes) => Answer {
+            no: 0,
+            value: yes as u32,
+        },
+        Err(why) => Answer {
+            no: why.number(),
+            value: 0,
+        },
     }
 }
 
@@ -231,13 +236,17 @@ pub extern "C" fn salvrunde_probe_filter_references(
 ) -> TwoRows
     ensures { result ≡ filter_answer corner above.now left.now n }
 {
-    let a = smooth::filter_references(corner, above, left, n);
-    let up = a.above;
-    let side = a.left;
-    TwoRows {
-        no: a.no,
-        above: up,
-        left: side,
+    match smooth::filter_references(corner, above, left, n) {
+        Ok(rows) => TwoRows {
+            no: 0,
+            above: rows.above,
+            left: rows.left,
+        },
+        Err(why) => TwoRows {
+            no: why.number(),
+            above: [0u16; 65],
+            left: [0u16; 65],
+        },
     }
 }
 
@@ -261,14 +270,19 @@ pub extern "C" fn salvrunde_probe_filter_luma_refs(
 ) -> References
     ensures { result ≡ luma_answer corner above.now left.now n bits }
 {
-    let a = smooth::filter_luma_refs(corner, above, left, n, bits);
-    let up = a.rows.above;
-    let side = a.rows.left;
-    References {
-        no: a.no,
-        corner: a.rows.corner,
-        above: up,
-        left: side,
+    match smooth::filter_luma_refs(corner, above, left, n, bits) {
+        Ok(rows) => References {
+            no: 0,
+            corner: rows.corner,
+            above: rows.above,
+            left: rows.left,
+        },
+        Err(why) => References {
+            no: why.number(),
+            corner: 0,
+            above: [0u16; 65],
+            left: [0u16; 65],
+        },
     }
 }
 
