@@ -8,15 +8,13 @@ use Rattle.fmt.specs.depth.Depth.{bits_of, max_val, neutral, depth_from}
 use Rattle.fmt.specs.Fmt.{format_from, sub_width, sub_height}
 use Rattle.fmt.specs.Places.{luma_row, luma_col, chroma_row, chroma_col}
 use Rattle.order.specs.declared.Picture.{Picture}
-use Rattle.order.specs.declared.Numbered.{Numbered}
-use Rattle.order.specs.declared.Flagged.{Flagged}
+use Rattle.order.specs.Answers.{Numbered, Flagged}
 use Rattle.order.specs.Order.{decode_order, is_available}
 use Rattle.smooth.specs.Answers.{Rule, FilteredRows, Smoothed}
 use Rattle.smooth.specs.Smoothing.{should_filter_refs, filter_references, filter_luma_refs}
 use Rattle.domain.specs.declared.rows.Rows.{Rows}
 use Rattle.refs.specs.declared.substitution.Flags.{Flags}
-use Rattle.domain.specs.declared.rows.Gathered.{Gathered}
-use Rattle.refs.specs.declared.GatheredPair.{GatheredPair}
+use Rattle.refs.specs.Answers.{Gathered, GatheredPair}
 use Rattle.refs.specs.declared.LumaRefGeometry.{LumaRefGeometry}
 use Rattle.refs.specs.declared.ChromaRefGeometry.{ChromaRefGeometry}
 use Rattle.refs.specs.substitution.Door.{substitute_refs}

@@ -6,15 +6,18 @@ pub mod error_probes;
 pub mod predict_probes;
 pub mod walk_probes;
 
-ghost use Rattle.std.specs.Prelude.{◌≡◌};
+ghost use Rattle.std.specs.Prelude.{◌≡◌, [], ◌∷◌};
 ghost use Rattle.probes.specs.Probes.{depth_figures, format_figures, on_luma, on_chroma, order_answer, available_answer};
 ghost use Rattle.probes.specs.Probes.{rule_answer, filter_answer, luma_answer};
-ghost use Rattle.probes.specs.Probes.{rows_with, flags_with, substitute_answer, gather_answer, pair_answer};
+ghost use Rattle.probes.specs.Probes.{gathered_of, pair_references_of, rows_with, flags_with, substitute_answer, gather_answer, pair_answer};
+ghost use Rattle.refs.specs.Answers.{gathered};
 ghost use Rattle.checksum.specs.Checksum.{row_range};
 ghost use Rattle.probes.specs.Probes.{checksum_answer};
 ghost use Rattle.refs.specs.Door.{luma_geometry, chroma_geometry};
 
 use checksum::RowRange;
+use domain::refusal::Refusal;
+use domain::rows;
 use domain::rows::Rows;
 use fmt::depth::BitDepth;
 use fmt::{ChromaCol, ChromaFormat, ChromaRow, LumaCol, LumaRow};
@@ -153,19 +156,18 @@ pub extern "C" fn salvrunde_probe_decode_order(
 ) -> Answer
     ensures { result ≡ order_answer row col width height ctu unit }
 {
-    let a = order::decode_order(
-        LumaRow(row),
-        LumaCol(col),
-        Picture {
-            width,
-            height,
-            ctu,
-            unit,
+    let picture = Picture {
+        width,
+        height,
+        ctu,
+        unit,
+    };
+    match order::decode_order(LumaRow(row), LumaCol(col), picture) {
+        Ok(value) => Answer { no: 0, value },
+        Err(why) => Answer {
+            no: why.number(),
+            value: 0,
         },
-    );
-    Answer {
-        no: a.no,
-        value: a.value,
     }
 }
 
@@ -184,20 +186,21 @@ pub extern "C" fn salvrunde_probe_is_available(
     ensures { result ≡ available_answer nr nc row col width height ctu unit }
 {
     let at = LumaNeighbour { row: nr, col: nc };
-    let a = order::is_available(
-        at,
-        LumaRow(row),
-        LumaCol(col),
-        Picture {
-            width,
-            height,
-            ctu,
-            unit,
+    let picture = Picture {
+        width,
+        height,
+        ctu,
+        unit,
+    };
+    match order::is_available(at, LumaRow(row), LumaCol(col), picture) {
+        Ok(yes) => Answer {
+            no: 0,
+            value: yes as u32,
         },
-    );
-    Answer {
-        no: a.no,
-        value: a.yes as u32,
+        Err(why) => Answer {
+            no: why.number(),
+            value: 0,
+        },
     }
 }
 
@@ -237,11 +240,11 @@ pub extern "C" fn salvrunde_probe_filter_references(
     ensures { result ≡ filter_answer corner above.now left.now n }
 {
     match smooth::filter_references(corner, above, left, n) {
-        Ok(rows) => TwoRows {
-            no: 0,
-            above: rows.above,
-            left: rows.left,
-        },
+        Ok(rows) => {
+            let above = rows.above;
+            let left = rows.left;
+            TwoRows { no: 0, above, left }
+        }
         Err(why) => TwoRows {
             no: why.number(),
             above: [0u16; 65],
@@ -260,6 +263,30 @@ pub struct References {
     pub left: [u16; 65],
 }
 
+// What smoothing, a gather and substitution answer.
+fn references_of(answer: Result<Rows, Refusal>) -> References
+    ensures { result ≡ gathered_of (gathered answer) }
+{
+    match answer {
+        Ok(rows) => {
+            let above = rows.above;
+            let left = rows.left;
+            References {
+                no: 0,
+                corner: rows.corner,
+                above,
+                left,
+            }
+        }
+        Err(why) => References {
+            no: why.number(),
+            corner: 0,
+            above: [0; 65],
+            left: [0; 65],
+        },
+    }
+}
+
 #[unsafe(no_mangle)]
 pub extern "C" fn salvrunde_probe_filter_luma_refs(
     corner: u16,
@@ -270,20 +297,7 @@ pub extern "C" fn salvrunde_probe_filter_luma_refs(
 ) -> References
     ensures { result ≡ luma_answer corner above.now left.now n bits }
 {
-    match smooth::filter_luma_refs(corner, above, left, n, bits) {
-        Ok(rows) => References {
-            no: 0,
-            corner: rows.corner,
-            above: rows.above,
-            left: rows.left,
-        },
-        Err(why) => References {
-            no: why.number(),
-            corner: 0,
-            above: [0u16; 65],
-            left: [0u16; 65],
-        },
-    }
+    references_of(smooth::filter_luma_refs(corner, above, left, n, bits))
 }
 
 // The corner of the rows and its flag come first, then the rows and theirs.
@@ -311,15 +325,7 @@ pub extern "C" fn salvrunde_probe_substitute_refs(
         above: *has_above,
         left: *has_left,
     };
-    let a = substitution::substitute_refs(rows, flags, n, bits);
-    let up = a.rows.above;
-    let side = a.rows.left;
-    References {
-        no: a.no,
-        corner: a.rows.corner,
-        above: up,
-        left: side,
-    }
+    references_of(substitution::substitute_refs(rows, flags, n, bits))
 }
 
 #[unsafe(no_mangle)]
@@ -349,15 +355,7 @@ pub extern "C" fn salvrunde_probe_get_reference_samples(
         block_col: LumaCol(col),
         n,
     };
-    let a = refs::get_reference_samples(plane, geo);
-    let up = a.rows.above;
-    let side = a.rows.left;
-    References {
-        no: a.no,
-        corner: a.rows.corner,
-        above: up,
-        left: side,
-    }
+    references_of(refs::get_reference_samples(plane, geo))
 }
 
 // A call's number, and the corner and two rows of Cb and of Cr, zeros where it is refused.
@@ -371,6 +369,25 @@ pub struct PairReferences {
     pub cr_corner: u16,
     pub cr_above: [u16; 65],
     pub cr_left: [u16; 65],
+}
+
+// A number and two planes' rows, side by side.
+fn pair_of(no: u32, cb: Rows, cr: Rows) -> PairReferences
+    ensures { result ≡ pair_references_of (record { no = no; planes = cb ∷ cr ∷ [] }) }
+{
+    let cb_above = cb.above;
+    let cb_left = cb.left;
+    let cr_above = cr.above;
+    let cr_left = cr.left;
+    PairReferences {
+        no,
+        cb_corner: cb.corner,
+        cb_above,
+        cb_left,
+        cr_corner: cr.corner,
+        cr_above,
+        cr_left,
+    }
 }
 
 // The block's chroma place, then the luma place that is being decoded.
@@ -406,21 +423,9 @@ pub extern "C" fn salvrunde_probe_get_reference_samples_chroma_pair(
         cur_luma_row: LumaRow(cur_row),
         cur_luma_col: LumaCol(cur_col),
     };
-    let a = refs::get_reference_samples_chroma_pair(plane_cb, plane_cr, geo);
-    let cb = a.planes[0];
-    let cr = a.planes[1];
-    let cb_above = cb.above;
-    let cb_left = cb.left;
-    let cr_above = cr.above;
-    let cr_left = cr.left;
-    PairReferences {
-        no: a.no,
-        cb_corner: cb.corner,
-        cb_above,
-        cb_left,
-        cr_corner: cr.corner,
-        cr_above,
-        cr_left,
+    match refs::get_reference_samples_chroma_pair(plane_cb, plane_cr, geo) {
+        Ok(planes) => pair_of(0, planes[0], planes[1]),
+        Err(why) => pair_of(why.number(), rows::level_rows(0), rows::level_rows(0)),
     }
 }
 

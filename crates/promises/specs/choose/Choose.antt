@@ -4,7 +4,7 @@
 use Rattle.std.specs.Prelude.{◌≡◌, List, ◌++◌, ℕ, ◌+◌, ◌*◌, ◌≤◌, ◌<◌, pos, nat_abs, ◌-ℤ◌, get_or, drop}
 use contract.Lifetimes.{Lfts}
 use Rattle.laws.specs.Sum.{total}
-use Rattle.domain.specs.declared.rows.Gathered.{Gathered}
+use Rattle.domain.specs.declared.rows.Rows.{Rows}
 use Rattle.refs.specs.declared.LumaRefGeometry.{LumaRefGeometry}
 use Rattle.choose.specs.declared.Chosen.{Chosen}
 use Rattle.choose.proofs.choose_mode.Reads as door
@@ -36,9 +36,9 @@ abbrev pub sum_of : Asked → ℕ → ℕ
 sum_of a mode = sum_from a.n a.source.now (luma_samples a.bits a.n mode (in_rows a.corner a.above a.left))
 
 -- a call over the rows of a gather, lent as slices
-abbrev pub asked_of : LumaRefGeometry → Gathered → LentSlice → LentSlice → LentSlice → Asked
-asked_of geo g above left source =
-    record { corner = g.rows.corner; above = above; left = left; source = source; n = geo.n; bits = geo.bits }
+abbrev pub asked_of : LumaRefGeometry → Rows → LentSlice → LentSlice → LentSlice → Asked
+asked_of geo rows above left source =
+    record { corner = rows.corner; above = above; left = left; source = source; n = geo.n; bits = geo.bits }
 
 -- eight bytes that hold a mode and its sum, four bytes each, the lowest first; what stood past them stays. No mode does better, and every
 -- lower one does worse
@@ -65,9 +65,9 @@ pub record ChoicePromise : Type 1 where
       → (r.mode ≡ 0) × ((r.sum ≡ 0) × ((pred'.now ≡ pred.now) × ((tables'.0.now ≡ tables.0.now)
       × ((tables'.1.0.now ≡ tables.1.0.now) × (tables'.1.1.0.now ≡ tables.1.1.0.now)))))
   -- over rows that the luma gather gave, a mode's sum is over 8.4.4.2 whole, from the samples of the plane
-  pub over_gathered : (κ : Lfts 1) (plane : LentSlice) (geo : LumaRefGeometry) (g : Gathered) → Gathers κ plane geo g
-      → (above left source : LentSlice) → above.now ≡ g.rows.above → left.now ≡ g.rows.left → (mode : ℕ) → mode ≤ 34
-      → sum_of (asked_of geo g above left source) mode ≡ sum_from geo.n source.now (standard_block plane.now geo mode)
+  pub over_gathered : (κ : Lfts 1) (plane : LentSlice) (geo : LumaRefGeometry) (rows : Rows) → Gathers κ plane geo rows
+      → (above left source : LentSlice) → above.now ≡ rows.above → left.now ≡ rows.left → (mode : ℕ) → mode ≤ 34
+      → sum_of (asked_of geo rows above left source) mode ≡ sum_from geo.n source.now (standard_block plane.now geo mode)
   -- for C: what a served call of salvrunde_choose writes into its buffer's first eight bytes, from what the bytes of rows and source spell
   pub salvrunde_choose : (κs : Lfts 4) (bits n corner : ℕ) (above left source : LentSlice) (out out' : LentMutSlice) (number : ℕ)
       → c-choose.Post κs (bits and n and corner and above and left and source and out and none) number

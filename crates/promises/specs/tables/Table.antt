@@ -32,7 +32,7 @@ use Rattle.order.specs.declared.Picture.{Picture}
 use Rattle.order.specs.declared.LumaNeighbour.{LumaNeighbour}
 use Rattle.order.specs.declared.LumaBlock.{LumaBlock}
 use Rattle.order.specs.declared.ChromaBlock.{ChromaBlock}
-use Rattle.order.specs.declared.Reach.{Reach}
+use Rattle.order.specs.Answers.{Reached}
 use Rattle.order.specs.Order.{picture_ok, place_ok, order_no, decode_order, is_available}
 use Rattle.order.specs.Reach.{in_plane, luma_place_ok, luma_reach_no, luma_reach, chroma_height, chroma_width, has_chroma, chroma_place_ok}
 use Rattle.order.specs.Reach.{chroma_reach_no, chroma_reach}
@@ -184,7 +184,7 @@ pub luma-reach : (b : LumaBlock) → Exact (luma_reach b).no
     ((2 when ¬ Size b.n) ∷ (4 when BadPicture b.picture) ∷ (6 when BadLuma b) ∷ [])
 unfolding luma_reach luma_reach_no
 luma-reach b =
-    exact_answer (λ (r : Reach). r.no) _ _ refl refl
+    exact_answer (λ (r : Reached). r.no) _ _ refl refl
     (exact_row (size b.n) refl (λ e. exact_row (picture b.picture) refl (λ e. exact_row (luma-place b) refl (λ e. exact_none))))
 
 coloured : (f : ChromaFormat) → Tells (has_chroma f) (f ≡ Monochrome)
@@ -198,7 +198,7 @@ pub chroma-reach : (b : ChromaBlock)
     ((2 when ¬ Size b.n) ∷ (4 when BadPicture b.picture or b.format ≡ Monochrome) ∷ (6 when BadChroma b) ∷ [])
 unfolding chroma_reach chroma_reach_no
 chroma-reach b =
-    exact_answer (λ (r : Reach). r.no) _ _ refl refl
+    exact_answer (λ (r : Reached). r.no) _ _ refl refl
     (exact_row (size b.n) refl
     (λ e. exact_row (all_of (picture b.picture) (coloured b.format)) refl
     (λ e. exact_row (chroma-place b) refl (λ e. exact_none))))
