@@ -10,9 +10,7 @@ use Rattle.fmt.specs.Places.{luma_row, luma_col, chroma_row, chroma_col}
 use Rattle.order.specs.declared.Picture.{Picture}
 use Rattle.order.specs.Answers.{Numbered, Flagged}
 use Rattle.order.specs.Order.{decode_order, is_available}
-use Rattle.smooth.specs.declared.Rule.{Rule}
-use Rattle.smooth.specs.declared.FilteredRows.{FilteredRows}
-use Rattle.smooth.specs.declared.Smoothed.{Smoothed}
+use Rattle.smooth.specs.Answers.{Rule, FilteredRows, Smoothed}
 use Rattle.smooth.specs.Smoothing.{should_filter_refs, filter_references, filter_luma_refs}
 use Rattle.domain.specs.declared.rows.Rows.{Rows}
 use Rattle.refs.specs.declared.substitution.Flags.{Flags}

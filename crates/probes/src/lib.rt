@@ -209,10 +209,15 @@ pub extern "C" fn salvrunde_probe_is_available(
 pub extern "C" fn salvrunde_probe_should_filter_refs(mode: u8, n: usize) -> Answer
     ensures { result ≡ rule_answer mode n }
 {
-    let a = smooth::should_filter_refs(mode, n);
-    Answer {
-        no: a.no,
-        value: a.yes as u32,
+    match smooth::should_filter_refs(mode, n) {
+        Ok(yes) => Answer {
+            no: 0,
+            value: yes as u32,
+        },
+        Err(why) => Answer {
+            no: why.number(),
+            value: 0,
+        },
     }
 }
 
@@ -234,13 +239,17 @@ pub extern "C" fn salvrunde_probe_filter_references(
 ) -> TwoRows
     ensures { result ≡ filter_answer corner above.now left.now n }
 {
-    let a = smooth::filter_references(corner, above, left, n);
-    let up = a.above;
-    let side = a.left;
-    TwoRows {
-        no: a.no,
-        above: up,
-        left: side,
+    match smooth::filter_references(corner, above, left, n) {
+        Ok(rows) => {
+            let above = rows.above;
+            let left = rows.left;
+            TwoRows { no: 0, above, left }
+        }
+        Err(why) => TwoRows {
+            no: why.number(),
+            above: [0u16; 65],
+            left: [0u16; 65],
+        },
     }
 }
 
@@ -254,6 +263,30 @@ pub struct References {
     pub left: [u16; 65],
 }
 
+// What smoothing, a gather and substitution answer.
+fn references_of(answer: Result<Rows, Refusal>) -> References
+    ensures { result ≡ gathered_of (gathered answer) }
+{
+    match answer {
+        Ok(rows) => {
+            let above = rows.above;
+            let left = rows.left;
+            References {
+                no: 0,
+                corner: rows.corner,
+                above,
+                left,
+            }
+        }
+        Err(why) => References {
+            no: why.number(),
+            corner: 0,
+            above: [0; 65],
+            left: [0; 65],
+        },
+    }
+}
+
 #[unsafe(no_mangle)]
 pub extern "C" fn salvrunde_probe_filter_luma_refs(
     corner: u16,
@@ -264,15 +297,7 @@ pub extern "C" fn salvrunde_probe_filter_luma_refs(
 ) -> References
     ensures { result ≡ luma_answer corner above.now left.now n bits }
 {
-    let a = smooth::filter_luma_refs(corner, above, left, n, bits);
-    let up = a.rows.above;
-    let side = a.rows.left;
-    References {
-        no: a.no,
-        corner: a.rows.corner,
-        above: up,
-        left: side,
-    }
+    references_of(smooth::filter_luma_refs(corner, above, left, n, bits))
 }
 
 // What a gather answers, and substitution.

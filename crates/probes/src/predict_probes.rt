@@ -27,7 +27,7 @@ pub extern "C" fn salvrunde_probe_predict_planar_into(
     ensures { (result ≡ flat_no n (len above) (len left) (mut_len pred))
         × Predicts result n (planar n (lent_neighbours 0 above left)) pred }
 {
-    planar_dc::predict_planar_into(above, left, n, &mut *pred)
+    no_of(planar_dc::predict_planar_into(above, left, n, &mut *pred))
 }
 
 #[unsafe(no_mangle)]
@@ -41,7 +41,7 @@ pub extern "C" fn salvrunde_probe_predict_dc_into(
     ensures { (result ≡ flat_no n (len above) (len left) (mut_len pred))
         × Predicts result n (dc filter_boundary n (lent_neighbours 0 above left)) pred }
 {
-    planar_dc::predict_dc_into(above, left, n, filter_boundary, &mut *pred)
+    no_of(planar_dc::predict_dc_into(above, left, n, filter_boundary, &mut *pred))
 }
 
 #[unsafe(no_mangle)]
@@ -62,7 +62,7 @@ pub extern "C" fn salvrunde_probe_predict_angular_slices(
         × (Predicts result n (angular bits filter_boundary n mode (lent_neighbours corner above left)) pred
         × ((result ≡ 0 → ⊥) → Untouched refs indices fractions)) }
 {
-    angular::predict_angular_slices(
+    no_of(angular::predict_angular_slices(
         corner,
         above,
         left,
@@ -74,7 +74,7 @@ pub extern "C" fn salvrunde_probe_predict_angular_slices(
         &mut *refs,
         &mut *indices,
         &mut *fractions,
-    )
+    ))
 }
 
 #[unsafe(no_mangle)]
@@ -121,7 +121,7 @@ pub extern "C" fn salvrunde_probe_predict_chroma_tb_slices(
         × (Predicts result n (pred_samples (chroma_at bits) first_edition_strong n mode (lent_neighbours corner above left)) pred
         × ((result ≡ 0 → ⊥) → Untouched refs indices fractions)) }
 {
-    predict::predict_chroma_tb_slices(
+    no_of(predict::predict_chroma_tb_slices(
         mode,
         corner,
         above,
@@ -132,7 +132,7 @@ pub extern "C" fn salvrunde_probe_predict_chroma_tb_slices(
         &mut *refs,
         &mut *indices,
         &mut *fractions,
-    )
+    ))
 }
 
 #[unsafe(no_mangle)]
@@ -157,7 +157,7 @@ pub extern "C" fn salvrunde_probe_predict_luma_tb_slices(
         above: *above,
         left: *left,
     };
-    predict::predict_luma_tb_slices(
+    no_of(predict::predict_luma_tb_slices(
         mode,
         rows,
         n,
@@ -166,7 +166,7 @@ pub extern "C" fn salvrunde_probe_predict_luma_tb_slices(
         &mut *refs,
         &mut *indices,
         &mut *fractions,
-    )
+    ))
 }
 
 // The same three through the struct of the scratch's tables, which each makes for itself.
@@ -184,7 +184,7 @@ pub extern "C" fn salvrunde_probe_predict_angular_scratch(
     ensures { (result ≡ angular_no bits n mode (with_scratch (len above) (len left) (mut_len pred)))
         × Predicts result n (angular bits filter_boundary n mode (lent_neighbours corner above left)) pred }
 {
-    scratch_angular::predict_angular_fresh(
+    no_of(scratch_angular::predict_angular_fresh(
         corner,
         above,
         left,
@@ -193,7 +193,7 @@ pub extern "C" fn salvrunde_probe_predict_angular_scratch(
         filter_boundary,
         bits,
         &mut *pred,
-    )
+    ))
 }
 
 #[unsafe(no_mangle)]
@@ -209,7 +209,7 @@ pub extern "C" fn salvrunde_probe_predict_chroma_tb_scratch(
     ensures { (result ≡ predict_no bits n mode (with_scratch (len above) (len left) (mut_len pred)))
         × Predicts result n (pred_samples (chroma_at bits) first_edition_strong n mode (lent_neighbours corner above left)) pred }
 {
-    scratch_predict::predict_chroma_tb_fresh(mode, corner, above, left, n, bits, &mut *pred)
+    no_of(scratch_predict::predict_chroma_tb_fresh(mode, corner, above, left, n, bits, &mut *pred))
 }
 
 #[unsafe(no_mangle)]
@@ -230,7 +230,7 @@ pub extern "C" fn salvrunde_probe_predict_luma_tb_scratch(
         above: *above,
         left: *left,
     };
-    scratch_predict::predict_luma_tb_fresh(mode, rows, n, bits, &mut *pred)
+    no_of(scratch_predict::predict_luma_tb_fresh(mode, rows, n, bits, &mut *pred))
 }
 
 // A chosen mode and its sum, both 0 where the call is refused.

@@ -267,56 +267,56 @@ record_join_into_row : (κs : Lfts 2)
 record_join_into_row κs = tabled (λ a x s p. ap (λ (w : Entered). w.number) p)
 
 -- smooth
-smooth_should_filter_refs_row : Tabled (smooth-should-filter-refs.Post tt) (λ r. r.no) (λ a. should-filter-refs a.0 a.1.0)
+smooth_should_filter_refs_row : Tabled (smooth-should-filter-refs.Post tt) (λ r. no_of r) (λ a. should-filter-refs a.0 a.1.0)
 smooth_should_filter_refs_row = tabled (λ a x s p. ap (λ r. r.no) p)
 
 smooth_filter_references_row : (κs : Lfts 2)
-    → Tabled (smooth-filter-references.Post κs) (λ r. r.no)
+    → Tabled (smooth-filter-references.Post κs) (λ r. no_of r)
     (λ a. filter-references a.0 a.1.0.now a.1.1.0.now a.1.1.1.0)
 smooth_filter_references_row κs = tabled (λ a x s p. ap (λ r. r.no) p)
 
 smooth_filter_luma_refs_row : (κs : Lfts 2)
-    → Tabled (smooth-filter-luma-refs.Post κs) (λ r. r.no)
+    → Tabled (smooth-filter-luma-refs.Post κs) (λ r. no_of r)
     (λ a. let b = a.1.1.1.1 in filter-luma-refs a.0 a.1.0.now a.1.1.0.now a.1.1.1.0 b.0)
 smooth_filter_luma_refs_row κs = tabled (λ a x s p. ap (λ r. r.no) p)
 
 -- predict
 planar_dc_predict_planar_into_row : (κs : Lfts 3)
-    → Tabled (planar-dc-predict-planar-into.Post κs) (λ r. r)
+    → Tabled (planar-dc-predict-planar-into.Post κs) (λ r. no_of r)
     (λ a. predict_flat a.1.1.0 a.0.now a.1.0.now a.1.1.1.0.now)
 planar_dc_predict_planar_into_row κs = tabled (λ a x s p. p.0)
 
 planar_dc_predict_dc_into_row : (κs : Lfts 3)
-    → Tabled (planar-dc-predict-dc-into.Post κs) (λ r. r)
+    → Tabled (planar-dc-predict-dc-into.Post κs) (λ r. no_of r)
     (λ a. let b = a.1.1.1.1 in predict_flat a.1.1.0 a.0.now a.1.0.now b.0.now)
 planar_dc_predict_dc_into_row κs = tabled (λ a x s p. p.0)
 
 angular_predict_angular_slices_row : (κs : Lfts 6)
-    → Tabled (angular-predict-angular-slices.Post κs) (λ r. r)
+    → Tabled (angular-predict-angular-slices.Post κs) (λ r. no_of r)
     (λ a. let b = a.1.1.1.1 in let c = b.1.1.1.1 in
     predict_angular b.1.1.0 a.1.1.1.0 b.0 (lengths (length a.1.0.now) (length a.1.1.0.now) (length b.1.1.1.0.now) (length c.0.now) (length c.1.0.now) (length c.1.1.0.now)))
 angular_predict_angular_slices_row κs = tabled (λ a x s p. p.0)
 
 angular_vertical_refs_row : (κs : Lfts 3)
-    → Tabled (angular-vertical-refs.Post κs) (λ r. r)
+    → Tabled (angular-vertical-refs.Post κs) (λ r. no_of r)
     (λ a. let b = a.1.1.1.1 in vertical_refs a.1.1.1.0 b.0 a.1.0.now a.1.1.0.now b.1.0.now)
 angular_vertical_refs_row κs = tabled (λ a x s p. p.0)
 
 angular_vertical_rows_row : (κs : Lfts 3)
-    → Tabled (angular-vertical-rows.Post κs) (λ r. r)
+    → Tabled (angular-vertical-rows.Post κs) (λ r. no_of r)
     (λ a. let b = a.1.1.1.1 in
     vertical_rows a.1.1.0 a.1.1.1.0 b.0 b.1.0 a.0.now a.1.0.now b.1.1.0.now)
 angular_vertical_rows_row κs = tabled (λ a x s p. p.0)
 
 predict_predict_chroma_tb_slices_row : (κs : Lfts 6)
-    → Tabled (predict-predict-chroma-tb-slices.Post κs) (λ r. r)
+    → Tabled (predict-predict-chroma-tb-slices.Post κs) (λ r. no_of r)
     (λ a. let b = a.1.1.1.1 in let c = b.1.1.1.1 in
     predict_chroma b.1.0 b.0 a.0 (lengths (length a.1.1.0.now) (length a.1.1.1.0.now) (length b.1.1.0.now)
     (length b.1.1.1.0.now) (length c.0.now) (length c.1.0.now)))
 predict_predict_chroma_tb_slices_row κs = tabled (λ a x s p. p.0)
 
 predict_predict_luma_tb_slices_row : (κs : Lfts 4)
-    → Tabled (predict-predict-luma-tb-slices.Post κs) (λ r. r)
+    → Tabled (predict-predict-luma-tb-slices.Post κs) (λ r. no_of r)
     (λ a. let b = a.1.1.1.1 in
     predict_luma a.1.1.1.0 a.1.1.0 a.0 (length b.0.now) (length b.1.0.now) (length b.1.1.0.now) (length
     b.1.1.1.0.now))
@@ -336,19 +336,19 @@ choose_choose_early_row : (κs : Lfts 7)
 choose_choose_early_row κs = tabled (λ a x s p. p.0.number)
 
 scratch_angular_predict_angular_fresh_row : (κs : Lfts 3)
-    → Tabled (scratch-angular-predict-angular-fresh.Post κs) (λ r. r)
+    → Tabled (scratch-angular-predict-angular-fresh.Post κs) (λ r. no_of r)
     (λ a. let b = a.1.1.1.1 in
     predict_angular_scratch b.1.1.0 a.1.1.1.0 b.0 (length a.1.0.now) (length a.1.1.0.now) (length b.1.1.1.0.now))
 scratch_angular_predict_angular_fresh_row κs = tabled (λ a x s p. p.0)
 
 scratch_predict_predict_chroma_tb_fresh_row : (κs : Lfts 3)
-    → Tabled (scratch-predict-predict-chroma-tb-fresh.Post κs) (λ r. r)
+    → Tabled (scratch-predict-predict-chroma-tb-fresh.Post κs) (λ r. no_of r)
     (λ a. let b = a.1.1.1.1 in
     predict_chroma_scratch b.1.0 b.0 a.0 (length a.1.1.0.now) (length a.1.1.1.0.now) (length b.1.1.0.now))
 scratch_predict_predict_chroma_tb_fresh_row κs = tabled (λ a x s p. p.0)
 
 scratch_predict_predict_luma_tb_fresh_row : (κs : Lfts 1)
-    → Tabled (scratch-predict-predict-luma-tb-fresh.Post κs) (λ r. r)
+    → Tabled (scratch-predict-predict-luma-tb-fresh.Post κs) (λ r. no_of r)
     (λ a. let b = a.1.1.1.1 in predict_luma_scratch a.1.1.1.0 a.1.1.0 a.0 (length b.0.now))
 scratch_predict_predict_luma_tb_fresh_row κs = tabled (λ a x s p. p.0)
 
@@ -681,19 +681,19 @@ module _ {M : Type 1} {𝓤 : Ura M} (𝓛 : Logic 𝓤) (mem : Memory → SProp
 
   -- predict
   scratch_angular_predict_angular_into_row : (κs : Lfts 4)
-      → TabledHeld scratch-angular-predict-angular-into.ended κs (scratch-angular-predict-angular-into.clauses 𝓛 mem run) (λ r. r)
+      → TabledHeld scratch-angular-predict-angular-into.ended κs (scratch-angular-predict-angular-into.clauses 𝓛 mem run) (λ r. no_of r)
       (λ a. let b = a.1.1.1.1 in
       predict_angular_scratch b.1.1.0 a.1.1.1.0 b.0 (length a.1.0.now) (length a.1.1.0.now) (length b.1.1.1.0.now))
   scratch_angular_predict_angular_into_row κs = tabled_held (λ a g x s. fact_mono 𝓤 _ _ (λ p. p.0))
 
   scratch_predict_predict_chroma_tb_into_row : (κs : Lfts 4)
-      → TabledHeld scratch-predict-predict-chroma-tb-into.ended κs (scratch-predict-predict-chroma-tb-into.clauses 𝓛 mem run) (λ r. r)
+      → TabledHeld scratch-predict-predict-chroma-tb-into.ended κs (scratch-predict-predict-chroma-tb-into.clauses 𝓛 mem run) (λ r. no_of r)
       (λ a. let b = a.1.1.1.1 in
       predict_chroma_scratch b.1.0 b.0 a.0 (length a.1.1.0.now) (length a.1.1.1.0.now) (length b.1.1.0.now))
   scratch_predict_predict_chroma_tb_into_row κs = tabled_held (λ a g x s. fact_mono 𝓤 _ _ (λ p. p.0))
 
   scratch_predict_predict_luma_tb_into_row : (κs : Lfts 2)
-      → TabledHeld scratch-predict-predict-luma-tb-into.ended κs (scratch-predict-predict-luma-tb-into.clauses 𝓛 mem run) (λ r. r)
+      → TabledHeld scratch-predict-predict-luma-tb-into.ended κs (scratch-predict-predict-luma-tb-into.clauses 𝓛 mem run) (λ r. no_of r)
       (λ a. let b = a.1.1.1.1 in predict_luma_scratch a.1.1.1.0 a.1.1.0 a.0 (length b.0.now))
   scratch_predict_predict_luma_tb_into_row κs = tabled_held (λ a g x s. fact_mono 𝓤 _ _ (λ p. p.0))
 

@@ -27,9 +27,7 @@ use Rattle.refs.specs.declared.ChromaRefGeometry.{ChromaRefGeometry}
 use Rattle.refs.specs.Door.{luma_geometry, luma_no, get_reference_samples, chroma_geometry, chroma_no, get_reference_samples_chroma_pair}
 use Rattle.refs.specs.Component.{OwnPlace}
 use Rattle.refs.specs.standard.Standard.{luma_standard, chroma_standard}
-use Rattle.smooth.specs.declared.Rule.{Rule}
-use Rattle.smooth.specs.declared.FilteredRows.{FilteredRows}
-use Rattle.smooth.specs.declared.Smoothed.{Smoothed}
+use Rattle.smooth.specs.Answers.{Rule, FilteredRows, Smoothed, rule_given, rows_given, smoothed_given}
 use Rattle.smooth.specs.Smoothing.{filter_no, should_filter_refs, filter_references, filter_luma_refs}
 use Rattle.smooth.specs.Forms.{weak_is, never_strong}
 use Rattle.smooth.specs.Standard.{is_standard, door_is_standard}
@@ -139,46 +137,47 @@ module _ (corner : ℕ) (above left : List ℕ) (n : ℕ) where
 module _ {M : Type 1} {𝓤 : Ura M} (𝓛 : Logic 𝓤) (mem : Memory → SProp 𝓤) (run : Routine → Fun 𝓤) where
   with-scratch : WithScratch 𝓛 mem run
   with-scratch = record {
-    predict_angular_into = λ κs corner above left n mode edge bits pred pred' last last' number zero.
+    predict_angular_into = λ κs corner above left n mode edge bits pred pred' last last'.
         fact_mono 𝓤 _ _
-        (λ p. angled _ n number pred pred' zero p.1.0 bits mode (with_scratch (entries_in above) (entries_in left) (mut_entries_in pred)) refl p.0);
-    predict_chroma_tb_into = λ κs mode corner above left n bits pred pred' last last' number zero.
+        (λ p. angled _ n 0 pred pred' refl p.1.0 bits mode (with_scratch (entries_in above) (entries_in left) (mut_entries_in pred)) refl p.0);
+    predict_chroma_tb_into = λ κs mode corner above left n bits pred pred' last last'.
         fact_mono 𝓤 _ _
-        (λ p. moded _ n number pred pred' zero p.1.0 bits mode (with_scratch (entries_in above) (entries_in left) (mut_entries_in pred)) refl p.0);
-    predict_luma_tb_into = λ κs mode rows n bits pred pred' last last' number zero.
-        fact_mono 𝓤 _ _ (λ p. moded _ n number pred pred' zero p.1.0 bits mode (with_scratch 65 65 (mut_entries_in pred)) refl p.0);
-    gathered_luma_into = λ κ plane geo rows m κs mode pred pred' last last' number zero.
+        (λ p. moded _ n 0 pred pred' refl p.1.0 bits mode (with_scratch (entries_in above) (entries_in left) (mut_entries_in pred)) refl p.0);
+    predict_luma_tb_into = λ κs mode rows n bits pred pred' last last'.
+        fact_mono 𝓤 _ _ (λ p. moded _ n 0 pred pred' refl p.1.0 bits mode (with_scratch 65 65 (mut_entries_in pred)) refl p.0);
+    gathered_luma_into = λ κ plane geo rows m κs mode pred pred' last last'.
         fact_mono 𝓤 _ _
-        (λ p. whole plane.now geo (gathered (Ok rows)) m refl mode number pred pred' zero p.1.0 (with_scratch 65 65 (mut_entries_in pred)) refl p.0);
+        (λ p. whole plane.now geo (gathered (Ok rows)) m refl mode 0 pred pred' refl p.1.0 (with_scratch 65 65 (mut_entries_in pred)) refl p.0);
   }
 
 pub demand_2 : Demand2
 demand_2 = record {
   get-reference-samples = λ κ plane geo rows m. luma_agrees plane.now geo (gathered (Ok rows)) m refl;
   get-reference-samples-chroma-pair = λ κs cb cr geo planes m own. gathered-pair cb.now cr.now geo (gathered_pair (Ok planes)) m refl own;
-  should-filter-refs = ruled;
-  filter-references = λ κs corner above left n. weakly corner above.now left.now n;
-  filter-luma-refs = λ κs corner above left n. either_form corner above.now left.now n;
-  predict_planar_into = λ κs above left n pred pred' last last' number p zero.
-      flat _ n number pred pred' zero p.1 (entries_in above) (entries_in left) p.0;
-  predict_dc_into = λ κs above left n edge pred pred' last last' number p zero.
-      flat _ n number pred pred' zero p.1 (entries_in above) (entries_in left) p.0;
-  predict_angular_slices = λ κs corner above left n mode edge bits pred pred' last last' number p zero.
-      angled _ n number pred pred' zero p.1.0 bits mode (with_lent_tables (entries_in above) (entries_in left) (mut_entries_in pred) last) refl p.0;
-  predict_angular_fresh = λ κs corner above left n mode edge bits pred pred' last last' number p zero.
-      angled _ n number pred pred' zero p.1 bits mode (with_scratch (entries_in above) (entries_in left) (mut_entries_in pred)) refl p.0;
-  predict_chroma_tb_slices = λ κs mode corner above left n bits pred pred' last last' number p zero.
-      moded _ n number pred pred' zero p.1.0 bits mode (with_lent_tables (entries_in above) (entries_in left) (mut_entries_in pred) last) refl p.0;
-  predict_chroma_tb_fresh = λ κs mode corner above left n bits pred pred' last last' number p zero.
-      moded _ n number pred pred' zero p.1 bits mode (with_scratch (entries_in above) (entries_in left) (mut_entries_in pred)) refl p.0;
-  predict_luma_tb_slices = λ κs mode rows n bits pred pred' last last' number p zero.
-      moded _ n number pred pred' zero p.1.0 bits mode (with_lent_tables 65 65 (mut_entries_in pred) last) refl p.0;
-  predict_luma_tb_fresh = λ κs mode rows n bits pred pred' last last' number p zero.
-      moded _ n number pred pred' zero p.1 bits mode (with_scratch 65 65 (mut_entries_in pred)) refl p.0;
-  gathered_luma_slices = λ κ plane geo rows m κs mode pred pred' last last' number p zero.
-      whole plane.now geo (gathered (Ok rows)) m refl mode number pred pred' zero p.1.0 (with_lent_tables 65 65 (mut_entries_in pred) last) refl p.0;
-  gathered_luma_fresh = λ κ plane geo rows m κs mode pred pred' last last' number p zero.
-      whole plane.now geo (gathered (Ok rows)) m refl mode number pred pred' zero p.1 (with_scratch 65 65 (mut_entries_in pred)) refl p.0;
+  should-filter-refs = λ mode n yes p. ruled mode n (rule_given (Ok yes)) p refl;
+  filter-references = λ κs corner above left n rows p. weakly corner above.now left.now n (rows_given (Ok rows)) p refl;
+  filter-luma-refs = λ κs corner above left n bits rows p.
+      either_form corner above.now left.now n bits (smoothed_given (Ok rows)) p refl;
+  predict_planar_into = λ κs above left n pred pred' last last' p.
+      flat _ n 0 pred pred' refl p.1 (entries_in above) (entries_in left) p.0;
+  predict_dc_into = λ κs above left n edge pred pred' last last' p.
+      flat _ n 0 pred pred' refl p.1 (entries_in above) (entries_in left) p.0;
+  predict_angular_slices = λ κs corner above left n mode edge bits pred pred' last last' p.
+      angled _ n 0 pred pred' refl p.1.0 bits mode (with_lent_tables (entries_in above) (entries_in left) (mut_entries_in pred) last) refl p.0;
+  predict_angular_fresh = λ κs corner above left n mode edge bits pred pred' last last' p.
+      angled _ n 0 pred pred' refl p.1 bits mode (with_scratch (entries_in above) (entries_in left) (mut_entries_in pred)) refl p.0;
+  predict_chroma_tb_slices = λ κs mode corner above left n bits pred pred' last last' p.
+      moded _ n 0 pred pred' refl p.1.0 bits mode (with_lent_tables (entries_in above) (entries_in left) (mut_entries_in pred) last) refl p.0;
+  predict_chroma_tb_fresh = λ κs mode corner above left n bits pred pred' last last' p.
+      moded _ n 0 pred pred' refl p.1 bits mode (with_scratch (entries_in above) (entries_in left) (mut_entries_in pred)) refl p.0;
+  predict_luma_tb_slices = λ κs mode rows n bits pred pred' last last' p.
+      moded _ n 0 pred pred' refl p.1.0 bits mode (with_lent_tables 65 65 (mut_entries_in pred) last) refl p.0;
+  predict_luma_tb_fresh = λ κs mode rows n bits pred pred' last last' p.
+      moded _ n 0 pred pred' refl p.1 bits mode (with_scratch 65 65 (mut_entries_in pred)) refl p.0;
+  gathered_luma_slices = λ κ plane geo rows m κs mode pred pred' last last' p.
+      whole plane.now geo (gathered (Ok rows)) m refl mode 0 pred pred' refl p.1.0 (with_lent_tables 65 65 (mut_entries_in pred) last) refl p.0;
+  gathered_luma_fresh = λ κ plane geo rows m κs mode pred pred' last last' p.
+      whole plane.now geo (gathered (Ok rows)) m refl mode 0 pred pred' refl p.1 (with_scratch 65 65 (mut_entries_in pred)) refl p.0;
   with-scratch = with-scratch;
   salvrunde_luma_refs = λ κs bits width height ctu unit row col n plane bytes out out' number.
       luma_refs_spelt plane.now (luma_geometry bits width height ctu unit row col n) out.now bytes;

@@ -1,7 +1,7 @@
 -- Document 01, 'What the contracts settle': for each public function at most one answer, and one later content of what it writes, meets its
 -- contract. Stated over the contract itself as the prover reads it: `Post` takes the arguments, the answer and what is lent at exit. What
 -- lent scratch holds after a served call is the one exception. tests/doors finds a public function that is missing here. Assumes nothing.
-use Rattle.std.specs.Prelude.{ℕ, ◌≡◌, refl, Bool, true, false, List, [], ◌∷◌, eqb, Result, Ok, Err, IfOk}
+use Rattle.std.specs.Prelude.{ℕ, ◌≡◌, refl, Bool, true, false, List, [], ◌∷◌, eqb, Result, Ok, Err, IfOk, ⊤}
 use Rattle.std.proofs.Common.{sym, ap, ap₂, ◌∙◌, eqb-true}
 use Rattle.std.proofs.lemmas.Bool.{eqb-false}
 use seplogic.Ra.Ura.{Ura}
@@ -19,10 +19,12 @@ use Rattle.domain.specs.declared.refusal.Refusal.{Refusal}
 use Rattle.domain.specs.declared.rows.Rows.{Rows}
 use Rattle.domain.specs.Refusal.{no_of}
 use Rattle.domain.specs.Refused.{never_0, same_refusal, same_answer, same_outcome}
-use Rattle.domain.specs.rows.Neighbours.{level_rows}
+use Rattle.domain.specs.rows.Neighbours.{level_rows, zero_rows}
 use Rattle.order.specs.declared.Reach.{Reach}
 use Rattle.order.specs.Answers.{Numbered, Flagged, Reached, numbered, flagged, reached, held}
 use Rattle.refs.specs.declared.Layout.{Layout}
+use Rattle.smooth.specs.declared.RowPair.{RowPair}
+use Rattle.smooth.specs.Answers.{Rule, FilteredRows, Smoothed, zero_pair, rule_given, rows_given, smoothed_given}
 use Rattle.refs.specs.Answers.{Gathered, GatheredPair, Laid, gathered, gathered_pair, laid}
 use Rattle.checksum.specs.Answers.{answered_same}
 use Rattle.choose.specs.declared.Chosen.{Chosen}
@@ -241,6 +243,15 @@ gathered_pair_same : (x y : Result (List Rows) Refusal) → gathered_pair x ≡ 
 gathered_pair_same x y e =
     same_answer (level_rows 0 ∷ level_rows 0 ∷ []) x y (ap (λ (g : GatheredPair). g.no) e) (ap (λ (g : GatheredPair). g.planes) e)
 
+rule_same : (x y : Result Bool Refusal) → rule_given x ≡ rule_given y → x ≡ y
+rule_same x y e = same_answer false x y (ap (λ (r : Rule). r.no) e) (ap (λ (r : Rule). r.yes) e)
+
+row_pair_same : (x y : Result RowPair Refusal) → rows_given x ≡ rows_given y → x ≡ y
+row_pair_same x y e = same_answer zero_pair x y (ap (λ (r : FilteredRows). r.no) e) (λ i. record { above = (e i).above; left = (e i).left })
+
+smoothed_same : (x y : Result Rows Refusal) → smoothed_given x ≡ smoothed_given y → x ≡ y
+smoothed_same x y e = same_answer zero_rows x y (ap (λ (r : Smoothed). r.no) e) (ap (λ (r : Smoothed). r.rows) e)
+
 laid_same : (x y : Layout) → laid x ≡ laid y → x ≡ y
 laid_same x y e =
     let r = reached_same x.reach y.reach (ap (λ (l : Laid). l.reach) e) in
@@ -252,6 +263,11 @@ own_once found (Ok r) (Ok t) e p q = sym p ∙ q
 own_once found (Ok r) (Err w) e p q = absurd (never_0 w (sym e))
 own_once found (Err v) (Ok t) e p q = absurd (never_0 v e)
 own_once found (Err v) (Err w) e p q = ap Err (same_refusal v w e)
+
+-- and of an answer that says nothing else
+by_answer : {L : Type 0} (work kept : L) {n : ℕ} {x y : Result ⊤ Refusal} {l m : L} → no_of x ≡ n → no_of y ≡ n
+    → l ≡ served (no_of x) work kept → m ≡ served (no_of y) work kept → (x ≡ y) × (l ≡ m)
+by_answer work kept {x = x} {y = y} p q u v = let e = by_number work kept p q u v in (same_outcome x y e.0, e.1)
 
 -- the mode and the sum that the chooser's contract names
 pub chosen_once : (k : ℕ) (sums : ℕ → ℕ) {x y : Chosen} → Chooses k sums x → Chooses k sums y → x ≡ y
@@ -487,13 +503,13 @@ record_join_into_once κs a x y s t p q = by_entered p q
 
 -- smooth
 smooth_should_filter_refs_once : Once (smooth-should-filter-refs.Post tt)
-smooth_should_filter_refs_once a x y s t p q = p ∙ sym q
+smooth_should_filter_refs_once a x y s t p q = rule_same x y (p ∙ sym q)
 
 smooth_filter_references_once : (κs : Lfts 2) → Once (smooth-filter-references.Post κs)
-smooth_filter_references_once κs a x y s t p q = p ∙ sym q
+smooth_filter_references_once κs a x y s t p q = row_pair_same x y (p ∙ sym q)
 
 smooth_filter_luma_refs_once : (κs : Lfts 2) → Once (smooth-filter-luma-refs.Post κs)
-smooth_filter_luma_refs_once κs a x y s t p q = p ∙ sym q
+smooth_filter_luma_refs_once κs a x y s t p q = smoothed_same x y (p ∙ sym q)
 
 -- substitution
 
@@ -605,39 +621,39 @@ walk_probes_salvrunde_probe_check_plan_once κs a x y s t p q = p ∙ sym q
 
 -- planar and DC
 planar_dc_predict_planar_into_once : (κs : Lfts 3) → OnceLeft (λ s. s.1.1.1.0.now) (planar-dc-predict-planar-into.Post κs)
-planar_dc_predict_planar_into_once κs a x y s t p q = by_number _ _ p.0 q.0 p.1 q.1
+planar_dc_predict_planar_into_once κs a x y s t p q = by_answer _ _ p.0 q.0 p.1 q.1
 
 planar_dc_predict_dc_into_once : (κs : Lfts 3) → OnceLeft (λ s. s.1.1.1.1.0.now) (planar-dc-predict-dc-into.Post κs)
-planar_dc_predict_dc_into_once κs a x y s t p q = by_number _ _ p.0 q.0 p.1 q.1
+planar_dc_predict_dc_into_once κs a x y s t p q = by_answer _ _ p.0 q.0 p.1 q.1
 
 -- angular
 angular_predict_angular_slices_once : (κs : Lfts 6)
-    → OnceRefused {K = Three} (λ r. r) (λ s. s.1.1.1.1.1.1.1.0.now)
+    → OnceRefused {K = Three} (λ r. no_of r) (λ s. s.1.1.1.1.1.1.1.0.now)
     (λ s. let l = s.1.1.1.1.1.1.1.1 in (l.0.now, (l.1.0.now, l.1.1.0.now)))
     (angular-predict-angular-slices.Post κs)
 angular_predict_angular_slices_once κs a x y s t p q =
-    and_scratch (λ r. r) (by_number _ _ p.0 q.0 p.1.0 q.1.0) (λ h. together (p.1.1 h)) (λ h. together (q.1.1 h))
+    and_scratch (λ r. no_of r) (by_answer _ _ p.0 q.0 p.1.0 q.1.0) (λ h. together (p.1.1 h)) (λ h. together (q.1.1 h))
 
 angular_vertical_refs_once : (κs : Lfts 3) → OnceLeft (λ s. s.1.1.1.1.1.0.now) (angular-vertical-refs.Post κs)
-angular_vertical_refs_once κs a x y s t p q = by_number _ _ p.0 q.0 p.1 q.1
+angular_vertical_refs_once κs a x y s t p q = by_answer _ _ p.0 q.0 p.1 q.1
 
 angular_vertical_rows_once : (κs : Lfts 3) → OnceLeft (λ s. s.1.1.1.1.1.1.0.now) (angular-vertical-rows.Post κs)
-angular_vertical_rows_once κs a x y s t p q = by_number _ _ p.0 q.0 p.1 q.1
+angular_vertical_rows_once κs a x y s t p q = by_answer _ _ p.0 q.0 p.1 q.1
 
 -- predict
 predict_predict_chroma_tb_slices_once : (κs : Lfts 6)
-    → OnceRefused {K = Three} (λ r. r) (λ s. s.1.1.1.1.1.1.0.now)
+    → OnceRefused {K = Three} (λ r. no_of r) (λ s. s.1.1.1.1.1.1.0.now)
     (λ s. let l = s.1.1.1.1.1.1.1 in (l.0.now, (l.1.0.now, l.1.1.0.now)))
     (predict-predict-chroma-tb-slices.Post κs)
 predict_predict_chroma_tb_slices_once κs a x y s t p q =
-    and_scratch (λ r. r) (by_number _ _ p.0 q.0 p.1.0 q.1.0) (λ h. together (p.1.1 h)) (λ h. together (q.1.1 h))
+    and_scratch (λ r. no_of r) (by_answer _ _ p.0 q.0 p.1.0 q.1.0) (λ h. together (p.1.1 h)) (λ h. together (q.1.1 h))
 
 predict_predict_luma_tb_slices_once : (κs : Lfts 4)
-    → OnceRefused {K = Three} (λ r. r) (λ s. s.1.1.1.1.0.now)
+    → OnceRefused {K = Three} (λ r. no_of r) (λ s. s.1.1.1.1.0.now)
     (λ s. let l = s.1.1.1.1.1 in (l.0.now, (l.1.0.now, l.1.1.0.now)))
     (predict-predict-luma-tb-slices.Post κs)
 predict_predict_luma_tb_slices_once κs a x y s t p q =
-    and_scratch (λ r. r) (by_number _ _ p.0 q.0 p.1.0 q.1.0) (λ h. together (p.1.1 h)) (λ h. together (q.1.1 h))
+    and_scratch (λ r. no_of r) (by_answer _ _ p.0 q.0 p.1.0 q.1.0) (λ h. together (p.1.1 h)) (λ h. together (q.1.1 h))
 
 -- as the probe hands it over
 abbrev handed_over : Chosen → Choice
@@ -664,15 +680,15 @@ scratch_new_once a x y s t p q = p ∙ sym q
 
 scratch_angular_predict_angular_fresh_once : (κs : Lfts 3)
     → OnceLeft (λ s. s.1.1.1.1.1.1.1.0.now) (scratch-angular-predict-angular-fresh.Post κs)
-scratch_angular_predict_angular_fresh_once κs a x y s t p q = by_number _ _ p.0 q.0 p.1 q.1
+scratch_angular_predict_angular_fresh_once κs a x y s t p q = by_answer _ _ p.0 q.0 p.1 q.1
 
 scratch_predict_predict_chroma_tb_fresh_once : (κs : Lfts 3)
     → OnceLeft (λ s. s.1.1.1.1.1.1.0.now) (scratch-predict-predict-chroma-tb-fresh.Post κs)
-scratch_predict_predict_chroma_tb_fresh_once κs a x y s t p q = by_number _ _ p.0 q.0 p.1 q.1
+scratch_predict_predict_chroma_tb_fresh_once κs a x y s t p q = by_answer _ _ p.0 q.0 p.1 q.1
 
 scratch_predict_predict_luma_tb_fresh_once : (κs : Lfts 1)
     → OnceLeft (λ s. s.1.1.1.1.0.now) (scratch-predict-predict-luma-tb-fresh.Post κs)
-scratch_predict_predict_luma_tb_fresh_once κs a x y s t p q = by_number _ _ p.0 q.0 p.1 q.1
+scratch_predict_predict_luma_tb_fresh_once κs a x y s t p q = by_answer _ _ p.0 q.0 p.1 q.1
 
 -- residual
 residual_compute_residual_i32_into_once : (κs : Lfts 3) → OnceLeft (λ s. s.1.1.1.0.now) (residual-compute-residual-i32-into.Post κs)
@@ -865,25 +881,25 @@ module _ {M : Type 1} {𝓤 : Ura M} (𝓛 : Logic 𝓤) (mem : Memory → SProp
 
   -- scratch
   scratch_angular_predict_angular_into_once : (κs : Lfts 4)
-      → OnceHeldRefused scratch-angular-predict-angular-into.ended κs (λ r. r)
+      → OnceHeldRefused scratch-angular-predict-angular-into.ended κs (λ r. no_of r)
       (λ s. s.1.1.1.1.1.1.1.0.now) (λ s. s.1.1.1.1.1.1.1.1.0.now)
       (scratch-angular-predict-angular-into.clauses 𝓛 mem run)
   scratch_angular_predict_angular_into_once κs a g x y s t =
-      held_both _ _ _ (λ p q. and_scratch (λ r. r) (by_number _ _ p.0 q.0 p.1.0 q.1.0) p.1.1 q.1.1)
+      held_both _ _ _ (λ p q. and_scratch (λ r. no_of r) (by_answer _ _ p.0 q.0 p.1.0 q.1.0) p.1.1 q.1.1)
 
   scratch_predict_predict_chroma_tb_into_once : (κs : Lfts 4)
-      → OnceHeldRefused scratch-predict-predict-chroma-tb-into.ended κs (λ r. r)
+      → OnceHeldRefused scratch-predict-predict-chroma-tb-into.ended κs (λ r. no_of r)
       (λ s. s.1.1.1.1.1.1.0.now) (λ s. s.1.1.1.1.1.1.1.0.now)
       (scratch-predict-predict-chroma-tb-into.clauses 𝓛 mem run)
   scratch_predict_predict_chroma_tb_into_once κs a g x y s t =
-      held_both _ _ _ (λ p q. and_scratch (λ r. r) (by_number _ _ p.0 q.0 p.1.0 q.1.0) p.1.1 q.1.1)
+      held_both _ _ _ (λ p q. and_scratch (λ r. no_of r) (by_answer _ _ p.0 q.0 p.1.0 q.1.0) p.1.1 q.1.1)
 
   scratch_predict_predict_luma_tb_into_once : (κs : Lfts 2)
-      → OnceHeldRefused scratch-predict-predict-luma-tb-into.ended κs (λ r. r)
+      → OnceHeldRefused scratch-predict-predict-luma-tb-into.ended κs (λ r. no_of r)
       (λ s. s.1.1.1.1.0.now) (λ s. s.1.1.1.1.1.0.now)
       (scratch-predict-predict-luma-tb-into.clauses 𝓛 mem run)
   scratch_predict_predict_luma_tb_into_once κs a g x y s t =
-      held_both _ _ _ (λ p q. and_scratch (λ r. r) (by_number _ _ p.0 q.0 p.1.0 q.1.0) p.1.1 q.1.1)
+      held_both _ _ _ (λ p q. and_scratch (λ r. no_of r) (by_answer _ _ p.0 q.0 p.1.0 q.1.0) p.1.1 q.1.1)
 
   -- plan
   plan_check_plan_once : (κs : Lfts 1) → OnceHeld plan-check-plan.ended κs {L = Unit {0}} (λ _. tt) (plan-check-plan.clauses 𝓛 mem run)
