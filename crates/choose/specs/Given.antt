@@ -5,17 +5,17 @@ use Rattle.h265.specs.Notation.{Neighbours, from_rows}
 use Rattle.predict.specs.modes.Modes.{predicted_by_mode}
 use Rattle.choose.specs.Choose.{differences, source_at, mode_sum}
 use Rattle.choose.specs.declared.Border.{Border}
-use Rattle.choose.specs.declared.Block.{Block}
+use Rattle.choose.specs.declared.Trial.{Trial}
 use Rattle.choose.specs.declared.Search.{Search}
 
 -- the neighbours that a border holds
 abbrev pub neighbours : Border → Neighbours
 neighbours b = from_rows b.corner b.above.now b.left.now
 
--- how far a block's samples are from what a mode predicts from a border as it is, edge filter on
-abbrev pub distance : Block → Border → ℕ → ℕ
-distance k b mode =
-    differences (source_at k.n k.samples.now) (predicted_by_mode k.bits true true k.n mode (neighbours b)) k.n k.n
+-- how far a block's samples are from what the mode predicts from a border as it is, edge filter on
+abbrev pub distance : Trial → ℕ
+distance t = let k = t.block in
+    differences (source_at k.n k.samples.now) (predicted_by_mode k.bits true true k.n t.mode (neighbours t.border)) k.n k.n
 
 -- the sum of a mode in a search
 abbrev pub sum_of : Search → ℕ → ℕ

@@ -140,33 +140,46 @@ fn turn(source: &[u16], n: usize, turned: &mut [u16])
     }
 }
 
-// The block of a mode, its edge filtered, and how far it is from the samples. The block that is made stands in a buffer that is lent.
-impl Block<'_> {
+// A mode that is tried: what its block is predicted from, its edge filtered, and which block it is held against.
+#[derive(Clone, Copy)]
+struct Trial<'a> {
+    mode: u8,
+    border: Border<'a>,
+    block: Block<'a>,
+    ghost known: { mode ≤ 34 },
+}
+
+// What is predicted stands in a buffer that is lent.
+impl Trial<'_> {
     ghost use Rattle.choose.specs.Given.{neighbours, distance};
 
-    // The block that is predicted from a border as it is.
-    fn predict(&self, mode: u8, border: &Border, pred: &mut [u16], tables: &mut Tables)
-        requires { (mode ≤ 34) × (self.now.n * self.now.n ≤ length pred.old) }
-        ensures { pred.new
-            ≡ block (λ (y x : ℕ). predicted_by_mode self.now.bits true true self.now.n mode (neighbours border.now) x y)
-            self.now.n pred.old }
+    fn predict(&self, pred: &mut [u16], tables: &mut Tables)
+        requires { self.now.block.n * self.now.block.n ≤ length pred.old }
+        ensures { let t = self.now in let k = self.now.block in pred.new
+            ≡ block (λ (y x : ℕ). predicted_by_mode k.bits true true k.n t.mode (neighbours t.border) x y) k.n pred.old }
     {
-        match mode {
+        let Border {
+            corner,
+            above,
+            left,
+        } = self.border;
+        let n = self.block.n;
+        match self.mode {
             0 => {
-                planar_dc::predict_planar_into(border.above, border.left, self.n, &mut *pred);
+                planar_dc::predict_planar_into(above, left, n, &mut *pred);
             }
             1 => {
-                planar_dc::predict_dc_into(border.above, border.left, self.n, true, &mut *pred);
+                planar_dc::predict_dc_into(above, left, n, true, &mut *pred);
             }
-            _ => {
+            mode => {
                 angular::predict_angular_slices(
-                    border.corner,
-                    border.above,
-                    border.left,
-                    self.n,
+                    corner,
+                    above,
+                    left,
+                    n,
                     mode,
                     true,
-                    self.bits,
+                    self.block.bits,
                     &mut *pred,
                     &mut *tables.refs,
                     &mut *tables.indices,
@@ -176,76 +189,60 @@ impl Block<'_> {
         }
     }
 
-    // How far it is from the samples.
-    fn tried(&self, mode: u8, border: &Border, pred: &mut [u16], tables: &mut Tables) -> u32
-        requires { (mode ≤ 34) × (self.now.n * self.now.n ≤ length pred.old) }
-        ensures { result ≡ distance self.now border.now mode }
+    // How far it is from the block's samples.
+    #[inline(always)]
+    fn tried(&self, pred: &mut [u16], tables: &mut Tables) -> u32
+        requires { self.now.block.n * self.now.block.n ≤ length pred.old }
+        ensures { result ≡ distance self.now }
     {
-        self.predict(mode, border, &mut *pred, tables);
-        block_sum(self.samples, &*pred, self.n)
+        self.predict(&mut *pred, tables);
+        block_sum(self.block.samples, &*pred, self.block.n)
     }
 
     // The same of a vertical mode that is not 26 and a side above 8, eight rows at a time and the last ones first: there, far from what
     // they are predicted from, samples are the furthest off. It ends once the sum is no longer below a limit.
-    fn upward(
-        &self,
-        mode: u8,
-        border: &Border,
-        limit: u32,
-        pred: &mut [u16],
-        refs: &mut [u16],
-    ) -> u32
-        requires { Upward self.now.n mode (length border.now.above.now) (length border.now.left.now) (length self.now.samples.now)
-            (length pred.old) (length refs.old) }
-        ensures { UpTo (Some limit) (distance self.now border.now mode) result }
+    fn upward(&self, limit: u32, pred: &mut [u16], refs: &mut [u16]) -> u32
+        requires { let t = self.now in let b = self.now.border in
+            Upward t.block.n t.mode (length b.above.now) (length b.left.now) (length t.block.samples.now) (length pred.old)
+            (length refs.old) }
+        ensures { UpTo (Some limit) (distance self.now) result }
     {
-        angular::vertical_refs(
-            border.corner,
-            border.above,
-            border.left,
-            self.n,
-            mode,
-            &mut *refs,
-        );
+        let Border {
+            corner,
+            above,
+            left,
+        } = self.border;
+        let n = self.block.n;
+        angular::vertical_refs(corner, above, left, n, self.mode, &mut *refs);
         let mut sum: u32 = 0;
-        for eight in (0..self.n / 8).rev() {
+        for eight in (0..n / 8).rev() {
             if sum >= limit {
                 break;
             }
             let first = 8 * eight;
-            angular::vertical_rows(
-                border.above,
-                &*refs,
-                self.n,
-                mode,
-                first,
-                first + 8,
-                &mut *pred,
-            );
-            sum += eight_sum(self.samples, first, &*pred, self.n);
+            angular::vertical_rows(above, &*refs, n, self.mode, first, first + 8, &mut *pred);
+            sum += eight_sum(self.block.samples, first, &*pred, n);
         }
         sum
     }
 
     // The same of any mode, which is dropped early where there is a limit: once its sum is no longer below that it has lost. Nothing is
     // below 0.
-    fn until(
-        &self,
-        mode: u8,
-        border: &Border,
-        limit: Option<u32>,
-        pred: &mut [u16],
-        tables: &mut Tables,
-    ) -> u32
-        requires { (mode ≤ 34) × (self.now.n * self.now.n ≤ length pred.old) }
-        ensures { UpTo limit (distance self.now border.now mode) result }
+    fn until(&self, limit: Option<u32>, pred: &mut [u16], tables: &mut Tables) -> u32
+        requires { self.now.block.n * self.now.block.n ≤ length pred.old }
+        ensures { UpTo limit (distance self.now) result }
     {
+        let Trial {
+            mode,
+            border: _,
+            block,
+        } = *self;
         match limit {
             Some(0) => 0,
-            Some(most) if (mode >= 18) & (mode != 26) & (self.n > 8) => {
-                self.upward(mode, border, most, &mut *pred, &mut *tables.refs)
+            Some(most) if (mode >= 18) & (mode != 26) & (block.n > 8) => {
+                self.upward(most, &mut *pred, &mut *tables.refs)
             }
-            _ => self.tried(mode, border, &mut *pred, tables),
+            _ => self.tried(&mut *pred, tables),
         }
     }
 }
@@ -253,9 +250,9 @@ impl Block<'_> {
 // A search over all modes: the border as it is, the same smoothed, the block, the block's samples with rows as columns, and whether a
 // mode may be dropped early.
 #[derive(Clone, Copy)]
-struct Search<'a, 's> {
+struct Search<'a> {
     border: Border<'a>,
-    smooth: Border<'s>,
+    smooth: Border<'a>,
     block: Block<'a>,
     turned: &'a [u16],
     early: bool,
@@ -264,58 +261,65 @@ struct Search<'a, 's> {
         (from_rows smooth.corner smooth.above.now smooth.left.now) },
 }
 
-impl Search<'_, '_> {
+impl<'a> Search<'a> {
     ghost use Rattle.choose.specs.Given.{distance, sum_of};
 
-    // What is added up of a mode's sum, from one of the two borders. A horizontal mode is mirrored.
-    fn mirrored(
-        &self,
-        mode: u8,
-        border: &Border,
-        limit: Option<u32>,
-        pred: &mut [u16],
-        tables: &mut Tables,
-    ) -> u32
-        requires { (mode ≤ 34) × (self.now.block.n * self.now.block.n ≤ length pred.old) }
-        ensures { UpTo limit (distance self.now.block border.now mode) result }
+    // A mode, from the smoothed border where the rule says so, and from the border as it is where it does not.
+    fn upright(&self, mode: u8) -> Trial<'a>
+        requires { mode ≤ 34 }
+        ensures { (result.mode ≡ mode) × ((result.block ≡ self.now.block) × (distance result ≡ sum_of self.now mode)) }
     {
+        if filters::smooths(mode, self.block.n) {
+            return Trial {
+                mode,
+                border: self.smooth,
+                block: self.block,
+            };
+        }
+        Trial {
+            mode,
+            border: self.border,
+            block: self.block,
+        }
+    }
+
+    // The same, a horizontal mode mirrored.
+    fn trial(&self, mode: u8) -> Trial<'a>
+        requires { mode ≤ 34 }
+        ensures { (result.block.n ≡ self.now.block.n) × (distance result ≡ sum_of self.now mode) }
+    {
+        let upright = self.upright(mode);
         if (mode >= 2) & (mode < 18) {
-            let turned = Block {
+            let border = Border {
+                corner: upright.border.corner,
+                above: upright.border.left,
+                left: upright.border.above,
+            };
+            let block = Block {
                 samples: self.turned,
                 n: self.block.n,
                 bits: self.block.bits,
             };
-            let exchanged = Border {
-                corner: border.corner,
-                above: border.left,
-                left: border.above,
+            return Trial {
+                mode: 36 - mode,
+                border,
+                block,
             };
-            return turned.until(36 - mode, &exchanged, limit, &mut *pred, tables);
         }
-        self.block.until(mode, border, limit, &mut *pred, tables)
-    }
-
-    // The same, from the smoothed border where the rule says so, and from the border as it is where it does not.
-    fn mode_sum(&self, mode: u8, limit: Option<u32>, pred: &mut [u16], tables: &mut Tables) -> u32
-        requires { (mode ≤ 34) × (self.now.block.n * self.now.block.n ≤ length pred.old) }
-        ensures { UpTo limit (sum_of self.now mode) result }
-    {
-        if filters::smooths(mode, self.block.n) {
-            return self.mirrored(mode, &self.smooth, limit, &mut *pred, tables);
-        }
-        self.mirrored(mode, &self.border, limit, &mut *pred, tables)
+        upright
     }
 
     // The first of the modes whose sum is the least: a later one takes over where it does better, so that one which may be dropped early
     // has lost once it is not below the best.
+    #[inline(always)]
     fn least(&self, pred: &mut [u16], tables: &mut Tables) -> Chosen
         requires { self.now.block.n * self.now.block.n ≤ length pred.old }
         ensures { (result.no ≡ 0) × FirstLeast (sum_of self.now) 35 result.mode result.sum }
     {
-        let mut best = self.mode_sum(0, None, &mut *pred, tables);
+        let mut best = self.trial(0).tried(&mut *pred, tables);
         let mut chosen: u8 = 0;
         for mode in 1..35u8 {
-            let sum = self.mode_sum(mode, self.early.then_some(best), &mut *pred, tables);
+            let sum = self.trial(mode).until(self.early.then_some(best), &mut *pred, tables);
             if sum < best {
                 best = sum;
                 chosen = mode;
@@ -329,11 +333,39 @@ impl Search<'_, '_> {
     }
 }
 
-// The search, with rows that are smoothed once for all modes. No mode of side 4 asks for them.
-fn search_all<'a>(
+// The search from a border and the same smoothed.
+#[inline(always)]
+fn search_from<'a>(
     border: Border<'a>,
+    smooth: Border<'a>,
     block: Block<'a>,
     turned: &'a [u16],
+    early: bool,
+    pred: &mut [u16],
+    tables: &mut Tables,
+) -> Chosen
+    requires { TurnedSource block.n block.samples.now turned.now
+        × (Smooths block.bits block.n (from_rows border.corner border.above.now border.left.now)
+        (from_rows smooth.corner smooth.above.now smooth.left.now) × (block.n * block.n ≤ length pred.old)) }
+    ensures { (result.no ≡ 0) × FirstLeast (mode_sum block.entry.bits block.entry.n
+        (from_rows border.entry.corner border.entry.above.now border.entry.left.now) block.entry.samples.now)
+        35 result.mode result.sum }
+{
+    let search = Search {
+        border,
+        smooth,
+        block,
+        turned,
+        early,
+    };
+    search.least(&mut *pred, tables)
+}
+
+// The search, with rows that are smoothed once for all modes. No mode of side 4 asks for them.
+fn search_all(
+    border: Border,
+    block: Block,
+    turned: &[u16],
     early: bool,
     pred: &mut [u16],
     tables: &mut Tables,
@@ -344,36 +376,15 @@ fn search_all<'a>(
         35 result.mode result.sum }
 {
     if block.n == 4 {
-        let all = Search {
-            border,
-            smooth: border,
-            block,
-            turned,
-            early,
-        };
-        return all.least(&mut *pred, tables);
+        return search_from(border, border, block, turned, early, &mut *pred, tables);
     }
-    let rows = smooth::filter_luma_refs(
-        border.corner,
-        border.above,
-        border.left,
-        block.n,
-        block.bits,
-    )
-    .rows;
+    let rows = smooth::filter_luma_refs(border.corner, border.above, border.left, block.n, block.bits).rows;
     let smooth = Border {
         corner: rows.corner,
         above: &rows.above,
         left: &rows.left,
     };
-    let all = Search {
-        border,
-        smooth,
-        block,
-        turned,
-        early,
-    };
-    all.least(&mut *pred, tables)
+    search_from(border, smooth, block, turned, early, &mut *pred, tables)
 }
 
 // Number 5: whether each list that is lent is long enough.

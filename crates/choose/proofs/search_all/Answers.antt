@@ -1,4 +1,4 @@
--- `choose::search_all` meets its contract. The smoothed border is the standard's where a mode asks for it. Rests on `least`.
+-- `choose::search_all` meets its contract. The smoothed border is the standard's where a mode asks for it. Rests on `search_from`.
 use mathlib.Core.Path.{sym, subst}
 use mathlib.Core.Bool.{true}
 use Rattle.h265.specs.Notation.{from_rows}
@@ -11,16 +11,24 @@ use Rattle.choose.specs.Ready.{smoothing_serves}
 use Rattle.choose.specs.Sums.{never_smoothed}
 use Rattle.choose.proofs.search_all.Goals as goal
 
-pub invariant_of-all-clause-smooths : goal.invariant_of-all-clause-smooths
-invariant_of-all-clause-smooths c = record { smooth = λ m e. absurd (never_smoothed c.args.block.n m c.if-block-eq4.true e) }
+pub search_from-requires : goal.search_from-requires
+search_from-requires c = let p = c.requires in
+    (p.0, (record { smooth = λ m e. absurd (never_smoothed c.args.block.n m c.if-block-eq4.true e) }, p.1))
 
-pub invariant_of-all-2-clause-smooths : goal.invariant_of-all-2-clause-smooths
-invariant_of-all-2-clause-smooths c = let b = c.args.border in
+pub search_from-requires-2 : goal.search_from-requires-2
+search_from-requires-2 c = let b = c.args.border in
     let k = c.args.block in
-    record {
-      smooth = λ m e.
-          subst (λ (s : Smoothed). Agree k.n (neighbours_of s.rows)
-          (filtered true k.bits k.n (from_rows b.corner b.above.now b.left.now)))
-          (sym c.filter_luma_refs.ensures)
-          (door_is_standard true b.corner b.above.now b.left.now k.n k.bits (smoothing_serves k.bits k.n _ _ k.depth k.size b.long.0 b.long.1));
-    }
+    let p = c.requires in (
+      p.0,
+      (
+        record {
+          smooth = λ m e.
+              subst (λ (s : Smoothed). Agree k.n (neighbours_of s.rows)
+              (filtered true k.bits k.n (from_rows b.corner b.above.now b.left.now)))
+              (sym c.filter_luma_refs.ensures)
+              (door_is_standard true b.corner b.above.now b.left.now k.n k.bits
+              (smoothing_serves k.bits k.n _ _ k.depth k.size b.long.0 b.long.1));
+        },
+        p.1,
+      ),
+    )
