@@ -95,6 +95,7 @@ fn run_sum(source: &[u16], from: usize, pred: &[u16], count: usize) -> u32
 }
 
 // The sum of a block. A loop for each side, so that the compiler knows how long it is.
+#[inline(always)]
 fn block_sum(source: &[u16], pred: &[u16], n: usize) -> u32
     requires { Size n × ((n * n ≤ length source.now) × (n * n ≤ length pred.now)) }
     ensures { result ≡ differences (source_at n source.now) (source_at n pred.now) n n }
@@ -149,10 +150,13 @@ struct Trial<'a> {
     ghost known: { mode ≤ 34 },
 }
 
-// What is predicted stands in a buffer that is lent.
+// What is predicted stands in a buffer that is lent. What is called for each mode is compiled into the search: else its record would be
+// laid in memory for each and read back, and the tables' lengths be tested again.
 impl Trial<'_> {
     ghost use Rattle.choose.specs.Given.{neighbours, distance};
 
+    // The block, from the border as it is.
+    #[inline(always)]
     fn predict(&self, pred: &mut [u16], tables: &mut Tables)
         requires { self.now.block.n * self.now.block.n ≤ length pred.old }
         ensures { let t = self.now in let k = self.now.block in pred.new
@@ -201,6 +205,7 @@ impl Trial<'_> {
 
     // The same of a vertical mode that is not 26 and a side above 8, eight rows at a time and the last ones first: there, far from what
     // they are predicted from, samples are the furthest off. It ends once the sum is no longer below a limit.
+    #[inline(always)]
     fn upward(&self, limit: u32, pred: &mut [u16], refs: &mut [u16]) -> u32
         requires { let t = self.now in let b = self.now.border in
             Upward t.block.n t.mode (length b.above.now) (length b.left.now) (length t.block.samples.now) (length pred.old)
@@ -228,18 +233,15 @@ impl Trial<'_> {
 
     // The same of any mode, which is dropped early where there is a limit: once its sum is no longer below that it has lost. Nothing is
     // below 0.
+    #[inline(always)]
     fn until(&self, limit: Option<u32>, pred: &mut [u16], tables: &mut Tables) -> u32
         requires { self.now.block.n * self.now.block.n ≤ length pred.old }
         ensures { UpTo limit (distance self.now) result }
     {
-        let Trial {
-            mode,
-            border: _,
-            block,
-        } = *self;
+        let mode = self.mode;
         match limit {
             Some(0) => 0,
-            Some(most) if (mode >= 18) & (mode != 26) & (block.n > 8) => {
+            Some(most) if (mode >= 18) & (mode != 26) & (self.block.n > 8) => {
                 self.upward(most, &mut *pred, &mut *tables.refs)
             }
             _ => self.tried(&mut *pred, tables),
@@ -265,6 +267,7 @@ impl<'a> Search<'a> {
     ghost use Rattle.choose.specs.Given.{distance, sum_of};
 
     // A mode, from the smoothed border where the rule says so, and from the border as it is where it does not.
+    #[inline(always)]
     fn upright(&self, mode: u8) -> Trial<'a>
         requires { mode ≤ 34 }
         ensures { (result.mode ≡ mode) × ((result.block ≡ self.now.block) × (distance result ≡ sum_of self.now mode)) }
@@ -284,6 +287,7 @@ impl<'a> Search<'a> {
     }
 
     // The same, a horizontal mode mirrored.
+    #[inline(always)]
     fn trial(&self, mode: u8) -> Trial<'a>
         requires { mode ≤ 34 }
         ensures { (result.block.n ≡ self.now.block.n) × (distance result ≡ sum_of self.now mode) }
@@ -319,7 +323,8 @@ impl<'a> Search<'a> {
         let mut best = self.trial(0).tried(&mut *pred, tables);
         let mut chosen: u8 = 0;
         for mode in 1..35u8 {
-            let sum = self.trial(mode).until(self.early.then_some(best), &mut *pred, tables);
+            let limit = self.early.then_some(best);
+            let sum = self.trial(mode).until(limit, &mut *pred, tables);
             if sum < best {
                 best = sum;
                 chosen = mode;
@@ -378,7 +383,14 @@ fn search_all(
     if block.n == 4 {
         return search_from(border, border, block, turned, early, &mut *pred, tables);
     }
-    let rows = smooth::filter_luma_refs(border.corner, border.above, border.left, block.n, block.bits).rows;
+    let rows = smooth::filter_luma_refs(
+        border.corner,
+        border.above,
+        border.left,
+        block.n,
+        block.bits,
+    )
+    .rows;
     let smooth = Border {
         corner: rows.corner,
         above: &rows.above,

@@ -9,13 +9,23 @@ pub returns-then-smooths : goal.returns-then-smooths
 returns-then-smooths c = let a = c.args in
     let s = a.self.now in
     let k = s.block in
-    let flag = sym c.smooths.ensures ∙ c.if-smooths.true in
-    (refl, (refl, sum_smoothed k.bits k.n a.mode (size_of k.n k.size) c.requires (neighbours s.border) k.samples.now
-    (neighbours s.smooth) flag (s.smooths.smooth a.mode flag)))
+    let flag = sym c.smooths.ensures ∙ c.if-smooths.true in (
+      refl,
+      (
+        refl,
+        sum_smoothed k.bits k.n a.mode (size_of k.n k.size) c.requires (neighbours s.border) k.samples.now
+            (neighbours s.smooth) flag (s.smooths.smooth a.mode flag),
+      ),
+    )
 
 pub returns : goal.returns
 returns c = let a = c.args in
     let s = a.self.now in
-    let k = s.block in
-    (refl, (refl, sum_as_is k.bits k.n a.mode (size_of k.n k.size) c.requires (neighbours s.border) k.samples.now
-    (sym c.smooths.ensures ∙ c.if-smooths.false)))
+    let k = s.block in (
+      refl,
+      (
+        refl,
+        sum_as_is k.bits k.n a.mode (size_of k.n k.size) c.requires (neighbours s.border) k.samples.now
+            (sym c.smooths.ensures ∙ c.if-smooths.false),
+      ),
+    )

@@ -2,7 +2,7 @@
 use mathlib.Core.Path.{◌≡◌, sym, ap, ◌∙◌}
 use mathlib.Core.List.{List}
 use lib.ListN.{length}
-use Prim.Native.Nat.{ℕ, ◌+◌, ◌-◌, ◌*◌, ◌/◌, ◌≤◌, ◌<◌}
+use Prim.Native.Nat.{ℕ, ◌+◌, ◌-◌, ◌*◌, ◌/◌, ◌≤◌}
 use native.Mathlib.Omega.{arith}
 use Rattle.laws.specs.Choose.{worked}
 use Rattle.laws.specs.Sum.{total}
@@ -39,7 +39,7 @@ loop-eight-preserved c = let a = c.args in
     let l = c.loop-eight in
     let first = 8 * (l.eight - 1) in
     let refs = ap length (laid (goal.at.loop-eight-preserved c).After-vertical_refs)
-        ∙ length_laid b.corner b.above.now b.left.now k.n (a.self.now.mode - 18) a.refs.now in
+    ∙ length_laid b.corner b.above.now b.left.now k.n (a.self.now.mode - 18) a.refs.now in
     let now = as_lent c.requires l.auto.pred refs in
     let some : 1 ≤ l.eight = c.loop-eight-test.true in
     let inside : first + 8 ≤ k.n = omega (arith, l.auto.eight) in
