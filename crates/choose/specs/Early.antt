@@ -1,14 +1,14 @@
 -- A mode that is dropped once it has lost: sums of its last rows, some at a time upward. A part of a sum is never more than the whole.
 -- Assumes nothing.
-use Rattle.std.specs.Prelude.{◌≡◌, Bool, false, cond, ◌&&◌, List, Option, Some, IfSome, ltb, length, get_or}
+use Rattle.std.specs.Prelude.{◌≡◌, Bool, false, cond, List, Option, Some, IfSome, ltb, length, get_or}
 use Rattle.std.specs.Bool.{then_some}
 use Rattle.std.proofs.Math.Path.{refl, sym, ap}
-use Rattle.std.proofs.Common.{◌∙◌, true≢false, zero-add, add_assoc, add-mul, suc-mul, mul-le-mul_right}
+use Rattle.std.proofs.Common.{◌∙◌, zero-add, add_assoc, add-mul, suc-mul, mul-le-mul_right}
 use Rattle.std.proofs.Math.Bool.{true}
 use Prim.Native.Nat.{ℕ, zero, suc, ◌+◌, ◌-◌, ◌*◌, ◌%◌, ◌≤◌, ◌<◌}
 use Rattle.std.proofs.Math.Nat.{zero-mul}
 use native.Mathlib.Omega.{arith}
-use borrow.Author.Tests.{le-leb, ne_eqb, lt-ltb}
+use borrow.Author.Tests.{le-leb, ne_eqb}
 use Rattle.laws.specs.Fill.{rows}
 use Rattle.laws.specs.FillLaws.{rows_at, length_run}
 use Rattle.laws.specs.Sum.{total, total_none, total_join, total_same}
@@ -26,14 +26,6 @@ use Rattle.choose.specs.Sums.{same_sum}
 pub record UpTo (limit : Option ℕ) (whole part : ℕ) : Type 0 where
   pub within : part ≤ whole
   pub all : IfSome limit (λ most. part < most) → part ≡ whole
-
--- all of it
-pub up_to_all : (limit : Option ℕ) {whole part : ℕ} → part ≡ whole → UpTo limit whole part
-up_to_all limit e = record { within = omega (arith, e); all = λ h. e }
-
--- a sum that was dropped before anything was added up
-pub up_to_none : (whole : ℕ) → UpTo (Some 0) whole 0
-up_to_none whole = record { within = omega arith; all = λ h. absurd (let l : 0 < 0 = h in omega arith) }
 
 -- the same of a number that is the same
 pub up_to_same : (limit : Option ℕ) {v w s : ℕ} → v ≡ w → UpTo limit v s → UpTo limit w s
@@ -199,11 +191,6 @@ module _ {n mode a l s p r : ℕ} (u : Upward n mode a l s p r) where
         room = omega (arith, u.room, e);
         refs = omega (arith, u.refs, f);
       }
-
--- no row is left where the sum is below the limit still
-pub none_left : (first : ℕ) (below : Bool) → below ≡ true → (ltb 0 first && below) ≡ false → first ≡ 0
-none_left zero below e f = refl
-none_left (suc first) below e f = absurd (true≢false (sym e ∙ rw (lt-ltb 0 (suc first) (omega arith)) at f))
 
 -- a turn of the loop: k rows more
 pub group_step : (n first k : ℕ) (source : List ℕ) (g : ℕ → ℕ → ℕ) (d : List ℕ) {p : List ℕ} {s v : ℕ} → first + k ≤ n → n * n ≤ length d

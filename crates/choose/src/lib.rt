@@ -82,6 +82,7 @@ fn gap(a: u16, b: u16) -> u16
 
 // The sum of absolute differences of as many samples as count, from entry from on in the source and from the first on in what was
 // predicted. Rows that follow each other are one run: the compiler adds up many samples at once, and does so to the end.
+#[tactic(auto, using(laws::specs::Sum::total_none, laws::specs::Sum::total_more))]
 fn run_sum(source: &[u16], from: usize, pred: &[u16], count: usize) -> u32
     requires { (count ≤ 1024) × ((from + count ≤ length source.now) × (count ≤ length pred.now)) }
     ensures { (result ≡ total (λ (i : ℕ). apart (entry_at source (from + i)) (entry_at pred i)) count)
@@ -121,6 +122,7 @@ fn eight_sum(source: &[u16], first: usize, pred: &[u16], n: usize) -> u32
 }
 
 // A row of the turned source: column r of the source.
+#[tactic(auto, using(laws::specs::FillLaws::run_none, laws::specs::FillLaws::run_more))]
 fn turn_row(source: &[u16], n: usize, r: usize, turned: &mut [u16])
     requires { (r < n) × ((n ≤ 32) × ((n * n ≤ length source.now) × (n * n ≤ length turned.old))) }
     ensures { turned.new
@@ -132,6 +134,7 @@ fn turn_row(source: &[u16], n: usize, r: usize, turned: &mut [u16])
 }
 
 // The source block with its rows as columns.
+#[tactic(auto, using(laws::specs::FillLaws::rows_none))]
 fn turn(source: &[u16], n: usize, turned: &mut [u16])
     requires { (n ≤ 32) × ((n * n ≤ length source.now) × (n * n ≤ length turned.old)) }
     ensures { turned.new ≡ block (turned_at n source.now) n turned.old }
