@@ -70,19 +70,10 @@ struct Lent {
     fractions: usize,
 }
 
-// How far apart two samples are, in 16 bits, in which twice as many are done at once.
-fn gap(a: u16, b: u16) -> u16
-    ensures { (result ≡ apart a b) × (result ≤ 65535) }
-{
-    if a < b {
-        return b - a;
-    }
-    a - b
-}
-
 // The sum of absolute differences of as many samples as count, from entry from on in the source and from the first on in what was
-// predicted. Rows that follow each other are one run: the compiler adds up many samples at once, and does so to the end.
-#[tactic(auto, using(laws::specs::Sum::total_none, laws::specs::Sum::total_more))]
+// predicted. Rows that follow each other are one run: the compiler adds up many samples at once, and does so to the end. Their
+// differences are of 16 bits, in which twice as many are done at once.
+#[tactic(auto, using(laws::specs::Sum::total_none, laws::specs::Sum::total_more, crate::specs::Sums::apart_is))]
 fn run_sum(source: &[u16], from: usize, pred: &[u16], count: usize) -> u32
     requires { (count ≤ 1024) × ((from + count ≤ length source.now) × (count ≤ length pred.now)) }
     ensures { (result ≡ total (λ (i : ℕ). apart (entry_at source (from + i)) (entry_at pred i)) count)
@@ -90,7 +81,7 @@ fn run_sum(source: &[u16], from: usize, pred: &[u16], count: usize) -> u32
 {
     let mut sum = 0;
     for i in 0..count {
-        sum += gap(source[from + i], pred[i]) as u32;
+        sum += source[from + i].abs_diff(pred[i]) as u32;
     }
     sum
 }
