@@ -27,10 +27,10 @@ returns-then-mode c = let a = c.args in
     let k = s.block in
     let h = horizontal (goal.at.returns-then-mode c).Then-mode in
     let nb = neighbours c.upright-upright.result.border in
-    let e = c.upright-upright.ensures in (
+    let e = c.upright-upright.ensures in
+    let held : ℕ → Block → ℕ = λ m b.
+    differences (source_at b.n b.samples.now) (predicted_by_mode b.bits true true b.n m nb) b.n b.n in (
       refl,
       mirrored_sum k.bits k.n a.mode nb k.samples.now s.turned.now (size_of k.n k.size) h.0 h.1 s.turns
-          ∙ sym (ap₂ (λ (m : ℕ) (b : Block). differences (source_at b.n b.samples.now) (predicted_by_mode b.bits true true b.n m nb) b.n b.n)
-          e.0 e.1.0)
-          ∙ e.1.1,
+          ∙ sym (ap₂ held e.0 e.1.0) ∙ e.1.1,
     )
