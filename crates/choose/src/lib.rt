@@ -15,7 +15,7 @@ ghost use Rattle.predict.specs.Lent.{entry_at, lent_neighbours};
 ghost use Rattle.predict.specs.modes.Modes.{predicted_by_mode};
 ghost use Rattle.predict.specs.refusals.Refusals.{lengths};
 ghost use Rattle.choose.specs.Choose.{apart, differences, source_at, mode_sum, lends_enough, choose_no, Chooses, lends, ScratchKept};
-ghost use Rattle.choose.specs.Early.{source_from, UpTo, Upward};
+ghost use Rattle.choose.specs.Early.{source_from, UpTo};
 ghost use Rattle.choose.specs.Sums.{turned_at, TurnedSource, Smooths};
 
 use fmt::depth;
@@ -147,7 +147,7 @@ struct Trial<'a> {
 // What is predicted stands in a buffer that is lent. What is called for each mode is compiled into the search: else its record would be
 // laid in memory for each and read back, and the tables' lengths be tested again.
 impl Trial<'_> {
-    ghost use Rattle.choose.specs.Given.{neighbours, distance};
+    ghost use Rattle.choose.specs.Given.{neighbours, distance, Upward};
 
     // The block, from the border as it is.
     #[inline(always)]
@@ -201,9 +201,7 @@ impl Trial<'_> {
     // they are predicted from, samples are the furthest off. It ends once the sum is no longer below a limit.
     #[inline(always)]
     fn upward(&self, limit: u32, pred: &mut [u16], refs: &mut [u16]) -> u32
-        requires { let t = self.now in let b = self.now.border in
-            Upward t.block.n t.mode (length b.above.now) (length b.left.now) (length t.block.samples.now) (length pred.old)
-            (length refs.old) }
+        requires { Upward self.now (length pred.old) (length refs.old) }
         ensures { UpTo (Some limit) (distance self.now) result }
     {
         let Border {

@@ -7,9 +7,8 @@ use native.Mathlib.Omega.{arith}
 use Rattle.laws.specs.Choose.{worked}
 use Rattle.laws.specs.Sum.{total}
 use Rattle.predict.specs.angular.Parts.{laid_refs, laid_at}
-use Rattle.choose.specs.Given.{distance}
-use Rattle.choose.specs.Early.{tail, tail_none, tail_done, row_apart, by_eights, group_step, upward_sum, up_to_same, as_lent}
-use Rattle.choose.specs.Early.{refs_serve, rows_serve, length_laid}
+use Rattle.choose.specs.Given.{distance, side, by_eights, refs_serve, rows_serve, as_lent}
+use Rattle.choose.specs.Early.{tail, tail_none, tail_done, row_apart, group_step, upward_sum, up_to_same, length_laid}
 use Rattle.choose.proofs.Trial.upward.Goals as goal
 use Rattle.choose.proofs.Trial.upward.Goals.{After-vertical_refs}
 
@@ -26,7 +25,8 @@ whole c = let a = c.args in
     let b = a.self.now.border in
     let u = c.requires in
     ap (λ (r : List ℕ). total (row_apart k.n k.samples.now (laid_at b.above.now r (a.self.now.mode - 18))) k.n) (laid c)
-    ∙ upward_sum k.bits k.n a.self.now.mode b.corner b.above.now b.left.now a.refs.now u.size u.low u.high u.bent u.refs k.samples.now
+    ∙ upward_sum k.bits k.n a.self.now.mode b.corner b.above.now b.left.now a.refs.now (side u) u.low a.self.now.known u.bent u.refs
+    k.samples.now
 
 pub loop-eight-init : goal.loop-eight-init
 loop-eight-init c = let n = c.args.self.now.block.n in
