@@ -1,21 +1,19 @@
 -- A mode that is dropped once it has lost: sums of its last rows, some at a time upward. A part of a sum is never more than the whole.
 -- Assumes nothing.
-use Rattle.std.specs.Prelude.{◌≡◌, Bool, false, cond, ◌&&◌, List, Option, Some, IfSome, ltb, length, get_or}
+use Rattle.std.specs.Prelude.{◌≡◌, Bool, false, cond, List, Option, Some, IfSome, ltb, length, get_or}
 use Rattle.std.specs.Bool.{then_some}
 use Rattle.std.proofs.Math.Path.{refl, sym, ap}
-use Rattle.std.proofs.Common.{◌∙◌, true≢false, zero-add, add_assoc, add-mul, suc-mul, mul-le-mul_right}
+use Rattle.std.proofs.Common.{◌∙◌, zero-add, add_assoc, add-mul, suc-mul, mul-le-mul_right}
 use Rattle.std.proofs.Math.Bool.{true}
-use Prim.Native.Nat.{ℕ, zero, suc, ◌+◌, ◌-◌, ◌*◌, ◌%◌, ◌≤◌, ◌<◌}
+use Prim.Native.Nat.{ℕ, zero, suc, ◌+◌, ◌-◌, ◌*◌, ◌≤◌, ◌<◌}
 use Rattle.std.proofs.Math.Nat.{zero-mul}
 use native.Mathlib.Omega.{arith}
-use borrow.Author.Tests.{le-leb, ne_eqb, lt-ltb}
+use borrow.Author.Tests.{ne_eqb}
 use Rattle.laws.specs.Fill.{rows}
 use Rattle.laws.specs.FillLaws.{rows_at, length_run}
 use Rattle.laws.specs.Sum.{total, total_none, total_join, total_same}
-use Rattle.domain.specs.Domain.{size_ok}
-use Rattle.domain.specs.Facts.{Size, at_size, size_small}
+use Rattle.domain.specs.Facts.{Size, size_small}
 use Rattle.h265.specs.Notation.{from_rows}
-use Rattle.predict.specs.refusals.Refusals.{refs_no, rows_no}
 use Rattle.predict.specs.angular.Parts.{laid_refs, laid_at, laid_angular}
 use Rattle.predict.specs.modes.Modes.{predicted_by_mode}
 use Rattle.choose.specs.Choose.{apart, differences, source_at}
@@ -26,14 +24,6 @@ use Rattle.choose.specs.Sums.{same_sum}
 pub record UpTo (limit : Option ℕ) (whole part : ℕ) : Type 0 where
   pub within : part ≤ whole
   pub all : IfSome limit (λ most. part < most) → part ≡ whole
-
--- all of it
-pub up_to_all : (limit : Option ℕ) {whole part : ℕ} → part ≡ whole → UpTo limit whole part
-up_to_all limit e = record { within = omega (arith, e); all = λ h. e }
-
--- a sum that was dropped before anything was added up
-pub up_to_none : (whole : ℕ) → UpTo (Some 0) whole 0
-up_to_none whole = record { within = omega arith; all = λ h. absurd (let l : 0 < 0 = h in omega arith) }
 
 -- the same of a number that is the same
 pub up_to_same : (limit : Option ℕ) {v w s : ℕ} → v ≡ w → UpTo limit v s → UpTo limit w s
@@ -129,81 +119,6 @@ unfolding differences row_apart
 group_sum n first k source g d h =
     total_same _ _ k (λ y hy. total_same _ _ n (λ x hx. ap (apart (source_at n source x (first + y)))
     (rows_at (λ (y x : ℕ). g (first + y) x) n k d y x 0 hy hx h)))
-
-of_size : {n : ℕ} → Size n → size_ok n ≡ true
-of_size {n} s = at_size (λ (m : ℕ). size_ok m ≡ true) refl refl refl refl n s
-
--- What adding up from the last rows asks for: a block of more than eight rows, a vertical mode that is not 26, whose edge is filtered, and
--- enough of all that is lent.
-pub record Upward (n mode a l s p r : ℕ) : Type 0 where
-  pub size : Size n
-  pub wide : 8 < n
-  pub low : 18 ≤ mode
-  pub high : mode ≤ 34
-  pub bent : mode ≡ 26 → ⊥
-  pub above : 65 ≤ a
-  pub left : 65 ≤ l
-  pub source : n * n ≤ s
-  pub room : n * n ≤ p
-  pub refs : 193 ≤ r
-
-module _ {n mode a l s p r : ℕ} (u : Upward n mode a l s p r) where
-  pub refs_serve : refs_no n mode a l r ≡ 0
-  unfolding refs_no
-  refs_serve =
-      let h = size_small n u.size in
-      let b = u.above in
-      let c = u.left in
-      rw (
-        of_size u.size,
-        le-leb 18 mode u.low,
-        le-leb mode 34 u.high,
-        le-leb (2 * n) a (omega arith),
-        le-leb (2 * n) l (omega arith),
-        le-leb 193 r u.refs,
-      )
-
-  pub rows_serve : (first end : ℕ) → first ≤ end → end ≤ n → rows_no n mode first end a r p ≡ 0
-  unfolding rows_no
-  rows_serve first end h k =
-      let z = size_small n u.size in
-      let b = u.above in
-      rw (
-        of_size u.size,
-        le-leb 18 mode u.low,
-        le-leb mode 34 u.high,
-        le-leb (2 * n) a (omega arith),
-        le-leb 193 r u.refs,
-        le-leb (n * n) p u.room,
-        le-leb first end h,
-        le-leb end n k,
-      )
-
-  -- eight rows at a time come to row 0
-  pub by_eights : n % 8 ≡ 0
-  by_eights =
-      at_size (λ (m : ℕ). 8 < m → m % 8 ≡ 0) (λ h. absurd (omega arith)) (λ h. refl) (λ h. refl) (λ h. refl) n u.size u.wide
-
-  -- where others of the same lengths are lent
-  pub as_lent : {p' r' : ℕ} → p' ≡ p → r' ≡ r → Upward n mode a l s p' r'
-  as_lent e f =
-      record {
-        size = u.size;
-        wide = u.wide;
-        low = u.low;
-        high = u.high;
-        bent = u.bent;
-        above = u.above;
-        left = u.left;
-        source = u.source;
-        room = omega (arith, u.room, e);
-        refs = omega (arith, u.refs, f);
-      }
-
--- no row is left where the sum is below the limit still
-pub none_left : (first : ℕ) (below : Bool) → below ≡ true → (ltb 0 first && below) ≡ false → first ≡ 0
-none_left zero below e f = refl
-none_left (suc first) below e f = absurd (true≢false (sym e ∙ rw (lt-ltb 0 (suc first) (omega arith)) at f))
 
 -- a turn of the loop: k rows more
 pub group_step : (n first k : ℕ) (source : List ℕ) (g : ℕ → ℕ → ℕ) (d : List ℕ) {p : List ℕ} {s v : ℕ} → first + k ≤ n → n * n ≤ length d

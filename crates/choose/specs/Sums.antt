@@ -1,8 +1,9 @@
 -- The sum of a mode, from the block that is predicted for it: the same samples, the block mirrored, the rows smoothed. Rests on the modes'
 -- laws and the standard's rule.
 use Rattle.std.specs.Prelude.{◌≡◌, refl, Bool, false, not, ◌&&◌, ◌||◌, List, ℕ, ◌+◌, ◌*◌, ◌-◌, ◌≤◌, ◌<◌, ltb, eqb, length, get_or}
+use Rattle.std.specs.Int.{abs_diff}
 use Rattle.std.proofs.Math.Path.{sym}
-use Rattle.std.proofs.Common.{ap₂, ◌∙◌}
+use Rattle.std.proofs.Common.{ap₂, ◌∙◌, rules}
 use Rattle.std.proofs.Math.Bool.{true}
 use Rattle.std.proofs.lemmas.Bool.{false≢true}
 use Rattle.laws.specs.Fill.{block}
@@ -18,6 +19,10 @@ use Rattle.predict.specs.angular.Unsigned.{mirror}
 use Rattle.predict.specs.modes.Modes.{predicted_by_mode, is_by_mode, by_mode_alone}
 use Rattle.choose.specs.Choose.{apart, differences, source_at, mode_sum}
 use Rattle.choose.specs.Mirror.{mirrored}
+
+-- how far apart the library has two numbers
+pub apart_is : (a b : ℕ) → abs_diff a b ≡ apart a b
+apart_is a b = search rules
 
 -- the sum of the same samples
 pub same_sum : (n k : ℕ) (s t p q : ℕ → ℕ → ℕ) → ((x y : ℕ) → x < n → y < k → s x y ≡ t x y)

@@ -15,7 +15,7 @@ ghost use Rattle.predict.specs.Lent.{entry_at, lent_neighbours};
 ghost use Rattle.predict.specs.modes.Modes.{predicted_by_mode};
 ghost use Rattle.predict.specs.refusals.Refusals.{lengths};
 ghost use Rattle.choose.specs.Choose.{apart, differences, source_at, mode_sum, lends_enough, choose_no, Chooses, lends, ScratchKept};
-ghost use Rattle.choose.specs.Early.{source_from, UpTo, Upward};
+ghost use Rattle.choose.specs.Early.{source_from, UpTo};
 ghost use Rattle.choose.specs.Sums.{turned_at, TurnedSource, Smooths};
 
 use domain::rows;
@@ -72,18 +72,10 @@ struct Lent {
     fractions: usize,
 }
 
-// How far apart two samples are, in 16 bits, in which twice as many are done at once.
-fn gap(a: u16, b: u16) -> u16
-    ensures { (result ≡ apart a b) × (result ≤ 65535) }
-{
-    if a < b {
-        return b - a;
-    }
-    a - b
-}
-
 // The sum of absolute differences of as many samples as count, from entry from on in the source and from the first on in what was
-// predicted. Rows that follow each other are one run: the compiler adds up many samples at once, and does so to the end.
+// predicted. Rows that follow each other are one run: the compiler adds up many samples at once, and does so to the end. Their
+// differences are of 16 bits, in which twice as many are done at once.
+#[tactic(auto, using(laws::specs::Sum::total_none, laws::specs::Sum::total_more, crate::specs::Sums::apart_is))]
 fn run_sum(source: &[u16], from: usize, pred: &[u16], count: usize) -> u32
     requires { (count ≤ 1024) × ((from + count ≤ length source.now) × (count ≤ length pred.now)) }
     ensures { (result ≡ total (λ (i : ℕ). apart (entry_at source (from + i)) (entry_at pred i)) count)
@@ -91,12 +83,13 @@ fn run_sum(source: &[u16], from: usize, pred: &[u16], count: usize) -> u32
 {
     let mut sum = 0;
     for i in 0..count {
-        sum += gap(source[from + i], pred[i]) as u32;
+        sum += source[from + i].abs_diff(pred[i]) as u32;
     }
     sum
 }
 
 // The sum of a block. A loop for each side, so that the compiler knows how long it is.
+#[inline(always)]
 fn block_sum(source: &[u16], pred: &[u16], n: usize) -> u32
     requires { Size n × ((n * n ≤ length source.now) × (n * n ≤ length pred.now)) }
     ensures { result ≡ differences (source_at n source.now) (source_at n pred.now) n n }
@@ -122,6 +115,7 @@ fn eight_sum(source: &[u16], first: usize, pred: &[u16], n: usize) -> u32
 }
 
 // A row of the turned source: column r of the source.
+#[tactic(auto, using(laws::specs::FillLaws::run_none, laws::specs::FillLaws::run_more))]
 fn turn_row(source: &[u16], n: usize, r: usize, turned: &mut [u16])
     requires { (r < n) × ((n ≤ 32) × ((n * n ≤ length source.now) × (n * n ≤ length turned.old))) }
     ensures { turned.new
@@ -133,6 +127,7 @@ fn turn_row(source: &[u16], n: usize, r: usize, turned: &mut [u16])
 }
 
 // The source block with its rows as columns.
+#[tactic(auto, using(laws::specs::FillLaws::rows_none))]
 fn turn(source: &[u16], n: usize, turned: &mut [u16])
     requires { (n ≤ 32) × ((n * n ≤ length source.now) × (n * n ≤ length turned.old)) }
     ensures { turned.new ≡ block (turned_at n source.now) n turned.old }
@@ -142,33 +137,49 @@ fn turn(source: &[u16], n: usize, turned: &mut [u16])
     }
 }
 
-// The block of a mode, its edge filtered, and how far it is from the samples. The block that is made stands in a buffer that is lent.
-impl Block<'_> {
-    ghost use Rattle.choose.specs.Given.{neighbours, distance};
+// A mode that is tried: what its block is predicted from, its edge filtered, and which block it is held against.
+#[derive(Clone, Copy)]
+struct Trial<'a> {
+    mode: u8,
+    border: Border<'a>,
+    block: Block<'a>,
+    ghost known: { mode ≤ 34 },
+}
 
-    // The block that is predicted from a border as it is.
-    fn predict(&self, mode: u8, border: &Border, pred: &mut [u16], tables: &mut Tables)
-        requires { (mode ≤ 34) × (self.now.n * self.now.n ≤ length pred.old) }
-        ensures { pred.new
-            ≡ block (λ (y x : ℕ). predicted_by_mode self.now.bits true true self.now.n mode (neighbours border.now) x y)
-            self.now.n pred.old }
+// What is predicted stands in a buffer that is lent. What is called for each mode is compiled into the search: else its record would be
+// laid in memory for each and read back, and the tables' lengths be tested again.
+impl Trial<'_> {
+    ghost use Rattle.choose.specs.Given.{neighbours, distance, Upward};
+
+    // The block, from the border as it is.
+    #[inline(always)]
+    fn predict(&self, pred: &mut [u16], tables: &mut Tables)
+        requires { self.now.block.n * self.now.block.n ≤ length pred.old }
+        ensures { let t = self.now in let k = self.now.block in pred.new
+            ≡ block (λ (y x : ℕ). predicted_by_mode k.bits true true k.n t.mode (neighbours t.border) x y) k.n pred.old }
     {
-        match mode {
+        let Border {
+            corner,
+            above,
+            left,
+        } = self.border;
+        let n = self.block.n;
+        match self.mode {
             0 => {
-                let _ = planar_dc::predict_planar_into(border.above, border.left, self.n, &mut *pred);
+                let _ = planar_dc::predict_planar_into(above, left, n, &mut *pred);
             }
             1 => {
-                let _ = planar_dc::predict_dc_into(border.above, border.left, self.n, true, &mut *pred);
+                let _ = planar_dc::predict_dc_into(above, left, n, true, &mut *pred);
             }
-            _ => {
+            mode => {
                 let _ = angular::predict_angular_slices(
-                    border.corner,
-                    border.above,
-                    border.left,
-                    self.n,
+                    corner,
+                    above,
+                    left,
+                    n,
                     mode,
                     true,
-                    self.bits,
+                    self.block.bits,
                     &mut *pred,
                     &mut *tables.refs,
                     &mut *tables.indices,
@@ -178,76 +189,56 @@ impl Block<'_> {
         }
     }
 
-    // How far it is from the samples.
-    fn tried(&self, mode: u8, border: &Border, pred: &mut [u16], tables: &mut Tables) -> u32
-        requires { (mode ≤ 34) × (self.now.n * self.now.n ≤ length pred.old) }
-        ensures { result ≡ distance self.now border.now mode }
+    // How far it is from the block's samples.
+    #[inline(always)]
+    fn tried(&self, pred: &mut [u16], tables: &mut Tables) -> u32
+        requires { self.now.block.n * self.now.block.n ≤ length pred.old }
+        ensures { result ≡ distance self.now }
     {
-        self.predict(mode, border, &mut *pred, tables);
-        block_sum(self.samples, &*pred, self.n)
+        self.predict(&mut *pred, tables);
+        block_sum(self.block.samples, &*pred, self.block.n)
     }
 
     // The same of a vertical mode that is not 26 and a side above 8, eight rows at a time and the last ones first: there, far from what
     // they are predicted from, samples are the furthest off. It ends once the sum is no longer below a limit.
-    fn upward(
-        &self,
-        mode: u8,
-        border: &Border,
-        limit: u32,
-        pred: &mut [u16],
-        refs: &mut [u16],
-    ) -> u32
-        requires { Upward self.now.n mode (length border.now.above.now) (length border.now.left.now) (length self.now.samples.now)
-            (length pred.old) (length refs.old) }
-        ensures { UpTo (Some limit) (distance self.now border.now mode) result }
+    #[inline(always)]
+    fn upward(&self, limit: u32, pred: &mut [u16], refs: &mut [u16]) -> u32
+        requires { Upward self.now (length pred.old) (length refs.old) }
+        ensures { UpTo (Some limit) (distance self.now) result }
     {
-        let _ = angular::vertical_refs(
-            border.corner,
-            border.above,
-            border.left,
-            self.n,
-            mode,
-            &mut *refs,
-        );
+        let Border {
+            corner,
+            above,
+            left,
+        } = self.border;
+        let n = self.block.n;
+        let _ = angular::vertical_refs(corner, above, left, n, self.mode, &mut *refs);
         let mut sum: u32 = 0;
-        for eight in (0..self.n / 8).rev() {
+        for eight in (0..n / 8).rev() {
             if sum >= limit {
                 break;
             }
             let first = 8 * eight;
-            let _ = angular::vertical_rows(
-                border.above,
-                &*refs,
-                self.n,
-                mode,
-                first,
-                first + 8,
-                &mut *pred,
-            );
-            sum += eight_sum(self.samples, first, &*pred, self.n);
+            let _ = angular::vertical_rows(above, &*refs, n, self.mode, first, first + 8, &mut *pred);
+            sum += eight_sum(self.block.samples, first, &*pred, n);
         }
         sum
     }
 
     // The same of any mode, which is dropped early where there is a limit: once its sum is no longer below that it has lost. Nothing is
     // below 0.
-    fn until(
-        &self,
-        mode: u8,
-        border: &Border,
-        limit: Option<u32>,
-        pred: &mut [u16],
-        tables: &mut Tables,
-    ) -> u32
-        requires { (mode ≤ 34) × (self.now.n * self.now.n ≤ length pred.old) }
-        ensures { UpTo limit (distance self.now border.now mode) result }
+    #[inline(always)]
+    fn until(&self, limit: Option<u32>, pred: &mut [u16], tables: &mut Tables) -> u32
+        requires { self.now.block.n * self.now.block.n ≤ length pred.old }
+        ensures { UpTo limit (distance self.now) result }
     {
+        let mode = self.mode;
         match limit {
             Some(0) => 0,
-            Some(most) if (mode >= 18) & (mode != 26) & (self.n > 8) => {
-                self.upward(mode, border, most, &mut *pred, &mut *tables.refs)
+            Some(most) if (mode >= 18) & (mode != 26) & (self.block.n > 8) => {
+                self.upward(most, &mut *pred, &mut *tables.refs)
             }
-            _ => self.tried(mode, border, &mut *pred, tables),
+            _ => self.tried(&mut *pred, tables),
         }
     }
 }
@@ -255,9 +246,9 @@ impl Block<'_> {
 // A search over all modes: the border as it is, the same smoothed, the block, the block's samples with rows as columns, and whether a
 // mode may be dropped early.
 #[derive(Clone, Copy)]
-struct Search<'a, 's> {
+struct Search<'a> {
     border: Border<'a>,
-    smooth: Border<'s>,
+    smooth: Border<'a>,
     block: Block<'a>,
     turned: &'a [u16],
     early: bool,
@@ -266,58 +257,68 @@ struct Search<'a, 's> {
         (from_rows smooth.corner smooth.above.now smooth.left.now) },
 }
 
-impl Search<'_, '_> {
+impl<'a> Search<'a> {
     ghost use Rattle.choose.specs.Given.{distance, sum_of};
 
-    // What is added up of a mode's sum, from one of the two borders. A horizontal mode is mirrored.
-    fn mirrored(
-        &self,
-        mode: u8,
-        border: &Border,
-        limit: Option<u32>,
-        pred: &mut [u16],
-        tables: &mut Tables,
-    ) -> u32
-        requires { (mode ≤ 34) × (self.now.block.n * self.now.block.n ≤ length pred.old) }
-        ensures { UpTo limit (distance self.now.block border.now mode) result }
+    // A mode, from the smoothed border where the rule says so, and from the border as it is where it does not.
+    #[inline(always)]
+    fn upright(&self, mode: u8) -> Trial<'a>
+        requires { mode ≤ 34 }
+        ensures { (result.mode ≡ mode) × ((result.block ≡ self.now.block) × (distance result ≡ sum_of self.now mode)) }
     {
+        if filters::smooths(mode, self.block.n) {
+            return Trial {
+                mode,
+                border: self.smooth,
+                block: self.block,
+            };
+        }
+        Trial {
+            mode,
+            border: self.border,
+            block: self.block,
+        }
+    }
+
+    // The same, a horizontal mode mirrored.
+    #[inline(always)]
+    fn trial(&self, mode: u8) -> Trial<'a>
+        requires { mode ≤ 34 }
+        ensures { (result.block.n ≡ self.now.block.n) × (distance result ≡ sum_of self.now mode) }
+    {
+        let upright = self.upright(mode);
         if (mode >= 2) & (mode < 18) {
-            let turned = Block {
+            let border = Border {
+                corner: upright.border.corner,
+                above: upright.border.left,
+                left: upright.border.above,
+            };
+            let block = Block {
                 samples: self.turned,
                 n: self.block.n,
                 bits: self.block.bits,
             };
-            let exchanged = Border {
-                corner: border.corner,
-                above: border.left,
-                left: border.above,
+            return Trial {
+                mode: 36 - mode,
+                border,
+                block,
             };
-            return turned.until(36 - mode, &exchanged, limit, &mut *pred, tables);
         }
-        self.block.until(mode, border, limit, &mut *pred, tables)
-    }
-
-    // The same, from the smoothed border where the rule says so, and from the border as it is where it does not.
-    fn mode_sum(&self, mode: u8, limit: Option<u32>, pred: &mut [u16], tables: &mut Tables) -> u32
-        requires { (mode ≤ 34) × (self.now.block.n * self.now.block.n ≤ length pred.old) }
-        ensures { UpTo limit (sum_of self.now mode) result }
-    {
-        if filters::smooths(mode, self.block.n) {
-            return self.mirrored(mode, &self.smooth, limit, &mut *pred, tables);
-        }
-        self.mirrored(mode, &self.border, limit, &mut *pred, tables)
+        upright
     }
 
     // The first of the modes whose sum is the least: a later one takes over where it does better, so that one which may be dropped early
     // has lost once it is not below the best.
+    #[inline(always)]
     fn least(&self, pred: &mut [u16], tables: &mut Tables) -> Chosen
         requires { self.now.block.n * self.now.block.n ≤ length pred.old }
         ensures { (result.no ≡ 0) × FirstLeast (sum_of self.now) 35 result.mode result.sum }
     {
-        let mut best = self.mode_sum(0, None, &mut *pred, tables);
+        let mut best = self.trial(0).tried(&mut *pred, tables);
         let mut chosen: u8 = 0;
         for mode in 1..35u8 {
-            let sum = self.mode_sum(mode, self.early.then_some(best), &mut *pred, tables);
+            let limit = self.early.then_some(best);
+            let sum = self.trial(mode).until(limit, &mut *pred, tables);
             if sum < best {
                 best = sum;
                 chosen = mode;
@@ -331,11 +332,39 @@ impl Search<'_, '_> {
     }
 }
 
-// The search, with rows that are smoothed once for all modes. No mode of side 4 asks for them.
-fn search_all<'a>(
+// The search from a border and the same smoothed.
+#[inline(always)]
+fn search_from<'a>(
     border: Border<'a>,
+    smooth: Border<'a>,
     block: Block<'a>,
     turned: &'a [u16],
+    early: bool,
+    pred: &mut [u16],
+    tables: &mut Tables,
+) -> Chosen
+    requires { TurnedSource block.n block.samples.now turned.now
+        × (Smooths block.bits block.n (from_rows border.corner border.above.now border.left.now)
+        (from_rows smooth.corner smooth.above.now smooth.left.now) × (block.n * block.n ≤ length pred.old)) }
+    ensures { (result.no ≡ 0) × FirstLeast (mode_sum block.entry.bits block.entry.n
+        (from_rows border.entry.corner border.entry.above.now border.entry.left.now) block.entry.samples.now)
+        35 result.mode result.sum }
+{
+    let search = Search {
+        border,
+        smooth,
+        block,
+        turned,
+        early,
+    };
+    search.least(&mut *pred, tables)
+}
+
+// The search, with rows that are smoothed once for all modes. No mode of side 4 asks for them.
+fn search_all(
+    border: Border,
+    block: Block,
+    turned: &[u16],
     early: bool,
     pred: &mut [u16],
     tables: &mut Tables,
@@ -346,14 +375,7 @@ fn search_all<'a>(
         35 result.mode result.sum }
 {
     if block.n == 4 {
-        let all = Search {
-            border,
-            smooth: border,
-            block,
-            turned,
-            early,
-        };
-        return all.least(&mut *pred, tables);
+        return search_from(border, border, block, turned, early, &mut *pred, tables);
     }
     let rows = smooth::filter_luma_refs(
         border.corner,
@@ -368,14 +390,7 @@ fn search_all<'a>(
         above: &rows.above,
         left: &rows.left,
     };
-    let all = Search {
-        border,
-        smooth,
-        block,
-        turned,
-        early,
-    };
-    all.least(&mut *pred, tables)
+    search_from(border, smooth, block, turned, early, &mut *pred, tables)
 }
 
 // Number 5: whether each list that is lent is long enough.
