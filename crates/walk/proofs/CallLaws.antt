@@ -18,16 +18,6 @@ use Rattle.walk.specs.calls.Door.{replay_verdict, replay_after, walk_verdict, wa
 use Rattle.walk.specs.calls.Ready.{ReplayReady, WalkReady}
 use Rattle.walk.specs.calls.Laws.{replay_sound, walk_sound, refused_upto}
 
--- a step's number is its verdict's
-module _ (v : Verdict) (count done grant : ℕ) where
-  pub step_no : (step_of v count done grant).no ≡ v.no
-  unfolding step_of
-  step_no = go (ℕ_discrete v.no 0)
-    where
-      go : Dec (v.no ≡ 0) → (step_of v count done grant).no ≡ v.no
-      go (yes z) = ap (λ (x : Step). x.no) (sym (worked v.no _ _ z)) ∙ sym z
-      go (no d) = ap (λ (x : Step). x.no) (sym (unserved v.no _ _ d))
-
 -- how far a call goes: one that has a block to do is served
 module _ (v : Verdict) (count done grant upto : ℕ) (is : upto ≡ (step_of v count done grant).upto) where
   served_upto : v.no ≡ 0 → upto ≡ done + doing_of count done grant

@@ -18,14 +18,14 @@ use Rattle.walk.specs.declared.Progress.{Progress}
 use Rattle.walk.specs.Answers.{Call}
 use Rattle.walk.specs.Door.{stepped_by}
 use Rattle.walk.specs.Answers.{Step}
-use Rattle.walk.specs.calls.Steps.{step_of}
+use Rattle.walk.specs.calls.Steps.{step_of, step_no}
 use Rattle.walk.specs.Listed.{bare, call_by, call_of, refused_call, granted_call, answer_is, upto_is, refused_so}
 use Rattle.walk.proofs.CallLaws as asked
 
 -- a call by its step: granted, or rejected with the record as given
 module _ (v : Verdict) (plan : Plan) (p : Progress) (grant : ℕ) (x : Step) (is : x ≡ step_of v plan.count p.done grant) where
   number_is : x.no ≡ v.no
-  number_is = ap (λ (y : Step). y.no) is ∙ asked.step_no v plan.count p.done grant
+  number_is = ap (λ (y : Step). y.no) is ∙ step_no v plan.count p.done grant
 
   pub granted_is : x.no ≡ 0 → call_by x (record { done = x.upto }) ≡ call_of v plan p grant
   granted_is z = granted_call v plan p grant x is (sym number_is ∙ z)

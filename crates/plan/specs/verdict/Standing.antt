@@ -1,7 +1,7 @@
 -- The check of a plan block by block, where a refusal passes through: each step, what it asks, and that the last step gives the verdict.
 -- Rests on the turns of Steps.
 use Rattle.std.specs.Prelude.{◌≡◌, refl, Bool, true, false, cond, ℕ, ◌+◌, ◌*◌, ◌≤◌, ◌<◌, [], ◌∷◌, eqb}
-use Rattle.std.proofs.Common.{sym, subst, arith, eq-eqb, ne_eqb}
+use Rattle.std.proofs.Common.{arith, eq-eqb, ne_eqb}
 use Rattle.std.proofs.Math.Decide.{ℕ_discrete}
 use Rattle.laws.specs.Choose.{◌unless◌, first_fail}
 use Rattle.order.specs.Order.{picture_ok}
@@ -58,9 +58,9 @@ pub record Standing (f : Frame) (plan : Plan) (i : ℕ) (t : Checking) : Type 0 
 pub standing_asks : {f : Frame} {plan : Plan} {i : ℕ} {t : Checking} → Standing f plan i t → Unrefused f t i
 standing_asks s z = (s.good z, omega (arith, (s.runs z).few, (s.runs z).fits, area_small (s.good z)))
 
-pub standing_none : (f : Frame) (plan : Plan) (t : Checking) → t ≡ check_start f plan.whole → Standing f plan 0 t
+pub standing_none : (f : Frame) (plan : Plan) → Standing f plan 0 (check_start f plan.whole)
 unfolding check_start plan_verdict
-standing_none f plan t q = subst (Standing f plan 0) (sym q) (go (picture_ok (picture_of f)) plan.whole refl refl)
+standing_none f plan = go (picture_ok (picture_of f)) plan.whole refl refl
   where
     go : (b w : Bool) → picture_ok (picture_of f) ≡ b → plan.whole ≡ w
         → Standing f plan 0 (record { no = first_fail ((4 unless b) ∷ (5 unless w) ∷ []); block = 0; covered = 0 })
