@@ -243,8 +243,7 @@ fn store_plane_rows(
 // A gather's answer where its buffer may be short of the rows of so many planes: that comes before the block's place, and after the
 // other refusals.
 fn with_room(early: Result<Reach, Refusal>, planes: u32, room: usize) -> Result<Reach, Refusal>
-    ensures number { no_of result ≡ room_no (leb (262 * planes) room) (no_of early) }
-    ensures own { IfOk result (λ r. early ≡ Ok r) }
+    ensures { (no_of result ≡ room_no (leb (262 * planes) room) (no_of early)) × IfOk result (λ r. early ≡ Ok r) }
 {
     if 262 * (planes as usize) <= room {
         return early;
@@ -259,8 +258,7 @@ fn with_room(early: Result<Reach, Refusal>, planes: u32, room: usize) -> Result<
 // Whether a gather out of a plane of so many bytes is served, and then its block's reach.
 fn check_luma_bytes(len: usize, geo: LumaRefGeometry, l: Layout) -> Result<Reach, Refusal>
     requires { laid l ≡ luma_layout geo }
-    ensures number { no_of result ≡ luma_bytes_no len geo }
-    ensures own { IfOk result (λ r. l.reach ≡ Ok r) }
+    ensures { (no_of result ≡ luma_bytes_no len geo) × IfOk result (λ r. l.reach ≡ Ok r) }
 {
     let whole = octets::whole_in(len, l.length);
     refs::check_gather(geo.bits, l.reach, whole)
@@ -313,8 +311,7 @@ fn check_chroma_bytes(
     l: Layout,
 ) -> Result<Reach, Refusal>
     requires { laid l ≡ chroma_layout geo }
-    ensures number { no_of result ≡ chroma_bytes_no cb cr geo }
-    ensures own { IfOk result (λ r. l.reach ≡ Ok r) }
+    ensures { (no_of result ≡ chroma_bytes_no cb cr geo) × IfOk result (λ r. l.reach ≡ Ok r) }
 {
     let whole = octets::whole_in(cb, l.length) & octets::whole_in(cr, l.length);
     refs::check_gather(geo.bits, l.reach, whole)

@@ -1,8 +1,7 @@
-// The absolute value, the lesser of two and the clamp that document 000 takes from Rust's numbers, and the multiples of a block's side,
-// each once. Rests on the standard's Clip3 and on the laws of signed numbers.
-ghost use Rattle.std.specs.Prelude.{◌≡◌, ◌%◌, ◌<◌, min as least, eqb, pos, nat_abs, ◌-ℤ◌};
+// The absolute value, the lesser of two and the clamp that document 000 takes from Rust's numbers, each once.
+// Rests on the standard's Clip3 and on the laws of signed numbers.
+ghost use Rattle.std.specs.Prelude.{◌≡◌, ◌<◌, min as least, pos, nat_abs, ◌-ℤ◌};
 ghost use Rattle.h265.specs.Notation.{clip_to};
-ghost use Rattle.domain.specs.Facts.{Size};
 ghost use Rattle.domain.specs.helpers.Ways.{Narrowed};
 
 // The lesser of two.
@@ -17,19 +16,6 @@ pub fn min_len(a: usize, b: usize) -> usize
     ensures { result ≡ least a b }
 {
     if a < b { a } else { b }
-}
-
-// Whether a number is a multiple of a block's side.
-pub fn multiple(v: usize, n: usize) -> bool
-    requires { Size n }
-    ensures { result ≡ eqb (v % n) 0 }
-{
-    match n {
-        4 => v % 4 == 0,
-        8 => v % 8 == 0,
-        16 => v % 16 == 0,
-        _ => v % 32 == 0,
-    }
 }
 
 // How far apart two numbers are.

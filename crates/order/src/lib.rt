@@ -18,7 +18,6 @@ ghost use Rattle.order.specs.Blocks.{luma_site, chroma_site};
 ghost use Rattle.fmt.specs.Fmt.{Subsampling};
 ghost use Rattle.domain.specs.Facts.{Size};
 
-use domain::helpers;
 use domain::refusal::Refusal;
 use fmt::{ChromaCol, ChromaFormat, ChromaRow, LumaCol, LumaRow};
 
@@ -308,6 +307,19 @@ fn corner_there(s: Shifts, e: Site, unit: usize, n: usize, limit: usize) -> bool
     number(s, e.above.0 as usize, e.left.0 as usize) < limit
 }
 
+// Whether a number is a multiple of a block's side.
+fn multiple(v: usize, n: usize) -> bool
+    requires { Size n }
+    ensures { result ≡ eqb (v % n) 0 }
+{
+    match n {
+        4 => v % 4 == 0,
+        8 => v % 8 == 0,
+        16 => v % 16 == 0,
+        _ => v % 32 == 0,
+    }
+}
+
 // Whether a block is at a multiple of its side and wholly in its plane.
 fn in_plane(height: usize, width: usize, row: u32, col: u32, n: usize) -> bool
     requires { Size n }
@@ -315,7 +327,7 @@ fn in_plane(height: usize, width: usize, row: u32, col: u32, n: usize) -> bool
 {
     let r = row as usize;
     let c = col as usize;
-    helpers::multiple(r, n) & helpers::multiple(c, n) & (r + n <= height) & (c + n <= width)
+    multiple(r, n) & multiple(c, n) & (r + n <= height) & (c + n <= width)
 }
 
 // Whether a luma block has a reach, or why it is refused.

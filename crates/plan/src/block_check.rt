@@ -14,7 +14,12 @@ fn aligned(row: usize, col: usize, n: usize) -> bool
     requires { Size n }
     ensures { result ≡ (eqb (row % n) 0 && eqb (col % n) 0) }
 {
-    domain::helpers::multiple(row, n) & domain::helpers::multiple(col, n)
+    match n {
+        4 => (row % 4 == 0) & (col % 4 == 0),
+        8 => (row % 8 == 0) & (col % 8 == 0),
+        16 => (row % 16 == 0) & (col % 16 == 0),
+        _ => (row % 32 == 0) & (col % 32 == 0),
+    }
 }
 
 // Number 6: whether a block's place is not refused.

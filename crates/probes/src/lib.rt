@@ -263,6 +263,19 @@ pub struct References {
     pub left: [u16; 65],
 }
 
+#[unsafe(no_mangle)]
+pub extern "C" fn salvrunde_probe_filter_luma_refs(
+    corner: u16,
+    above: &[u16],
+    left: &[u16],
+    n: usize,
+    bits: u32,
+) -> References
+    ensures { result ≡ luma_answer corner above.now left.now n bits }
+{
+    references_of(smooth::filter_luma_refs(corner, above, left, n, bits))
+}
+
 // What smoothing, a gather and substitution answer.
 fn references_of(answer: Result<Rows, Refusal>) -> References
     ensures { result ≡ gathered_of (gathered answer) }
@@ -285,19 +298,6 @@ fn references_of(answer: Result<Rows, Refusal>) -> References
             left: [0; 65],
         },
     }
-}
-
-#[unsafe(no_mangle)]
-pub extern "C" fn salvrunde_probe_filter_luma_refs(
-    corner: u16,
-    above: &[u16],
-    left: &[u16],
-    n: usize,
-    bits: u32,
-) -> References
-    ensures { result ≡ luma_answer corner above.now left.now n bits }
-{
-    references_of(smooth::filter_luma_refs(corner, above, left, n, bits))
 }
 
 // The corner of the rows and its flag come first, then the rows and theirs.

@@ -160,8 +160,7 @@ fn plane_rows(plane: &[u16], s: Spot, r: Reach, n: usize, neutral: u16) -> Rows
 // How far the neighbours of a gather's block reach, or why the gather is refused: its depth, then the block's size or picture, then its
 // planes, then the block's place.
 pub fn check_gather(bits: u32, reach: Result<Reach, Refusal>, whole: bool) -> Result<Reach, Refusal>
-    ensures number { no_of result ≡ gather_no bits (no_of reach) whole }
-    ensures own { IfOk result (λ r. reach ≡ Ok r) }
+    ensures { (no_of result ≡ gather_no bits (no_of reach) whole) × IfOk result (λ r. reach ≡ Ok r) }
 {
     if !domain::depth_ok(bits) {
         return Err(Refusal::Depth);
