@@ -18,7 +18,7 @@ use domain::rows;
 use samples::filters;
 
 // The two rows in the [1 2 1] form.
-#[derive(Clone, Copy)]
+#[derive(Clone, Copy, Debug, PartialEq, Eq)]
 pub struct RowPair {
     pub above: [u16; 65],
     pub left: [u16; 65],
