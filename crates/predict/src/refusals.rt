@@ -32,7 +32,7 @@ pub(crate) fn check_flat(n: usize, above: usize, left: usize, pred: usize) -> Re
 }
 
 // What a call lends, by its lengths.
-#[derive(Clone, Copy)]
+#[derive(Clone, Copy, Debug, PartialEq, Eq)]
 pub(crate) struct Lent {
     pub above: usize,
     pub left: usize,

@@ -263,30 +263,6 @@ pub struct References {
     pub left: [u16; 65],
 }
 
-// What smoothing, a gather and substitution answer.
-fn references_of(answer: Result<Rows, Refusal>) -> References
-    ensures { result ≡ gathered_of (gathered answer) }
-{
-    match answer {
-        Ok(rows) => {
-            let above = rows.above;
-            let left = rows.left;
-            References {
-                no: 0,
-                corner: rows.corner,
-                above,
-                left,
-            }
-        }
-        Err(why) => References {
-            no: why.number(),
-            corner: 0,
-            above: [0; 65],
-            left: [0; 65],
-        },
-    }
-}
-
 #[unsafe(no_mangle)]
 pub extern "C" fn salvrunde_probe_filter_luma_refs(
     corner: u16,
@@ -300,7 +276,7 @@ pub extern "C" fn salvrunde_probe_filter_luma_refs(
     references_of(smooth::filter_luma_refs(corner, above, left, n, bits))
 }
 
-// What a gather answers, and substitution.
+// What smoothing, a gather and substitution answer.
 fn references_of(answer: Result<Rows, Refusal>) -> References
     ensures { result ≡ gathered_of (gathered answer) }
 {

@@ -18,7 +18,7 @@ use domain::rows;
 use samples::filters;
 
 // The two rows in the [1 2 1] form.
-#[derive(Clone, Copy)]
+#[derive(Clone, Copy, Debug, PartialEq, Eq)]
 pub struct RowPair {
     pub above: [u16; 65],
     pub left: [u16; 65],
@@ -39,6 +39,7 @@ fn check_rule(mode: u8, n: usize) -> Result<(), Refusal>
 }
 
 // Whether the references of a block of side n are smoothed for a mode.
+#[tactic(auto, unfolding(crate::specs::Smoothing::should_filter_refs))]
 pub fn should_filter_refs(mode: u8, n: usize) -> Result<bool, Refusal>
     ensures { rule_given result ≡ should_filter_refs mode n }
 {
@@ -145,6 +146,7 @@ fn smooth_rows(
 }
 
 // The two rows in the [1 2 1] form, whatever the depth.
+#[tactic(auto, unfolding(crate::specs::Smoothing::filter_references))]
 pub fn filter_references(
     corner: u16,
     above: &[u16],
@@ -160,6 +162,7 @@ pub fn filter_references(
 }
 
 // The corner and the two rows; at n = 32 in the strong form where both rows are nearly straight.
+#[tactic(auto, unfolding(crate::specs::Smoothing::filter_luma_refs))]
 pub fn filter_luma_refs(
     corner: u16,
     above: &[u16],
