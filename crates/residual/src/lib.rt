@@ -85,21 +85,18 @@ pub fn compute_residual_i32_into(
     let entry = |i: usize|
         requires { (i < length orig.now) × (i < length pred.now) }
         ensures { result ≡ difference_at orig.entry.now pred.entry.now i }
-    {
-        deltas::less(orig[i], pred[i])
-    };
+    { deltas::less(orig[i], pred[i]) };
     fill_runs(runs_of(n), 0, entry, &mut *residual);
     Ok(())
 }
 
-// Whether so many runs of residuals are in range; no early way out, so that many are tested at once.
-fn all_in_range(residual: &[i32], runs: usize) -> bool
-    requires { (runs * 16 ≤ length residual.now) × (runs ≤ 64) }
-    ensures { result ≡ all_in_range residual.now (runs * 16) }
+// Whether all residuals are in range; no early way out, so that many are tested at once.
+fn all_in_range(residual: &[i32]) -> bool
+    ensures { result ≡ all_in_range residual.now (length residual.now) }
 {
     let mut ok = true;
-    for i in 0..runs * 16 {
-        ok = ok & deltas::residual_ok(residual[i]);
+    for r in residual {
+        ok = ok & deltas::residual_ok(*r);
     }
     ok
 }
@@ -111,27 +108,28 @@ fn high_part(r: i32) -> u16
     (std::num::wrapping_add_u32(deltas::raised(r), 2147516416) / 65536) as u16
 }
 
-// The high parts of so many runs of residuals, one laid over the other.
-fn high_parts(residual: &[i32], runs: usize) -> u16
-    requires { (runs * 16 ≤ length residual.now) × (runs ≤ 64) }
-    ensures { result ≡ 0 → all_in_range residual.now (runs * 16) ≡ true }
+// The high parts of residuals, one laid over the other.
+fn high_parts(residual: &[i32]) -> u16
+    ensures { result ≡ 0 → all_in_range residual.now (length residual.now) ≡ true }
 {
     let mut parts = 0u16;
-    for i in 0..runs * 16 {
-        parts = parts | high_part(residual[i]);
+    for r in residual {
+        parts = parts | high_part(*r);
     }
     parts
 }
 
-// Whether so many runs of residuals are in range. Most often all fit an i16, which is sooner told.
-fn runs_in_range(residual: &[i32], runs: usize) -> bool
-    requires { (runs * 16 ≤ length residual.now) × (runs ≤ 64) }
-    ensures { result ≡ all_in_range residual.now (runs * 16) }
+// Whether the first so many residuals are in range. Most often all fit an i16, which is sooner told.
+#[tactic(auto, using(crate::specs::Laws::first_in_range))]
+fn first_in_range(residual: &[i32], count: usize) -> bool
+    requires { count ≤ length residual.now }
+    ensures { result ≡ all_in_range residual.now count }
 {
-    if high_parts(residual, runs) == 0 {
+    let first = &residual[..count];
+    if high_parts(first) == 0 {
         return true;
     }
-    all_in_range(residual, runs)
+    all_in_range(first)
 }
 
 // The depth before the buffers, and the residuals' range after them.
@@ -149,7 +147,7 @@ fn check_rebuilding(
         return Err(Refusal::Depth);
     }
     check_block(n, pred, residual.len(), out)?;
-    if !runs_in_range(residual, runs_of(n)) {
+    if !first_in_range(residual, runs_of(n) * 16) {
         return Err(Refusal::Residual);
     }
     Ok(())
@@ -171,9 +169,7 @@ pub fn reconstruct_into(
     let entry = |i: usize|
         requires { (i < length pred.now) × (i < length residual.now) × (unsigned_abs (slice_index_or residual.now i (pos 0)) ≤ 65535) }
         ensures { result ≡ rebuilt_to largest pred.entry.now residual.entry.now i }
-    {
-        rebuilt(pred[i], residual[i], largest)
-    };
+    { rebuilt(pred[i], residual[i], largest) };
     fill_runs(runs_of(n), 0, entry, &mut *out);
     Ok(())
 }
