@@ -19,7 +19,7 @@ use crate::text::Text;
 use plan::tiling::Block;
 use predict::scratch::AngularScratch;
 use walk::checks::Still;
-use walk::{Progress, Stepped};
+use walk::{Advance, Progress, Rejected};
 
 // The text and how many bytes it has.
 #[derive(Clone, Debug, Drop, PartialEq, Eq)]
@@ -52,7 +52,7 @@ fn push_lines(text: &mut Text, plan: &[Block], residuals: &[i32])
 }
 
 // The whole walk.
-fn walk_all(job: &Job, work: &mut [u16], residuals: &mut [i32]) -> Stepped
+fn walk_all(job: &Job, work: &mut [u16], residuals: &mut [i32]) -> Result<Advance, Rejected>
     requires { count job.now.plan.now ≤ 512 }
     ensures { WholeWalk (held_job job.now) (world_before work residuals) (world_after work residuals) result }
 {
@@ -75,7 +75,7 @@ fn replay_all(job: &Job, residuals: &[i32], plane: &mut [u16])
         plane.new ≡ replay_after j.still j.plan scratch_tables 0 (count job.now.plan.now) residuals.now plane.old }
 {
     let mut scratch = AngularScratch::new();
-    Progress::fresh().replay(
+    let _ = Progress::fresh().replay(
         job.still,
         job.plan,
         residuals,
@@ -91,9 +91,8 @@ fn tell(text: &mut Text, job: &Job, work: &mut [u16], residuals: &mut [i32], pla
     requires empty { text.old.bytes ≡ [] }
     ensures { text.new.bytes ≡ told (held_job job.now) }
 {
-    let walked = walk_all(job, work, residuals);
-    if walked.no != 0 {
-        text::push_refusal(text, walked.no, walked.block);
+    if let Err(rejected) = walk_all(job, work, residuals) {
+        text::push_refusal(text, rejected.fault.why.number(), rejected.fault.block);
         return;
     }
     replay_all(job, residuals, plane);
@@ -136,7 +135,7 @@ fn push_report(text: &mut Text, input: &[u8])
 {
     match Trailer::read(input) {
         Some(t) => tell_file(text, input, t),
-        None => text::push_refusal(text, 12, 0),
+        None => text::push_refusal(text, Refusal::File.number(), 0),
     }
 }
 
