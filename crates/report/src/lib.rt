@@ -8,6 +8,7 @@ mod text;
 
 ghost use Rattle.std.specs.Prelude.{◌≡◌, ◌≤◌, [], length as count};
 ghost use Rattle.plan.specs.tiling.Plan.{listed};
+ghost use Rattle.walk.specs.Answers.{stepped_of};
 ghost use Rattle.walk.specs.Lent.{scratch_tables, world, world_before, world_after};
 ghost use Rattle.walk.specs.calls.Door.{replay_after};
 ghost use Rattle.report.specs.Told.{held_job, lines, told, job_of, printed, report_of};
@@ -16,7 +17,8 @@ ghost use Rattle.report.specs.Whole.{Blank, GoodFile};
 
 use crate::file::Trailer;
 use crate::text::Text;
-use plan::tiling::Block;
+use domain::refusal::Refusal;
+use plan::tiling::{Block, Fault};
 use predict::scratch::AngularScratch;
 use walk::checks::Still;
 use walk::{Advance, Progress, Rejected};
@@ -54,7 +56,7 @@ fn push_lines(text: &mut Text, plan: &[Block], residuals: &[i32])
 // The whole walk.
 fn walk_all(job: &Job, work: &mut [u16], residuals: &mut [i32]) -> Result<Advance, Rejected>
     requires { count job.now.plan.now ≤ 512 }
-    ensures { WholeWalk (held_job job.now) (world_before work residuals) (world_after work residuals) result }
+    ensures { WholeWalk (held_job job.now) (world_before work residuals) (world_after work residuals) (stepped_of result) }
 {
     let mut scratch = AngularScratch::new();
     Progress::fresh().walk(
@@ -91,14 +93,15 @@ fn tell(text: &mut Text, job: &Job, work: &mut [u16], residuals: &mut [i32], pla
     requires empty { text.old.bytes ≡ [] }
     ensures { text.new.bytes ≡ told (held_job job.now) }
 {
-    if let Err(rejected) = walk_all(job, work, residuals) {
-        text::push_refusal(text, rejected.fault.why.number(), rejected.fault.block);
-        return;
+    match walk_all(job, work, residuals) {
+        Err(rejected) => text::push_refusal(text, rejected.fault),
+        Ok(_) => {
+            replay_all(job, residuals, plane);
+            let same = sums::agrees(plane, job.source);
+            push_lines(text, job.plan, residuals);
+            text::push_ending(text, job.plan.len(), same);
+        }
     }
-    replay_all(job, residuals, plane);
-    let same = sums::agrees(plane, job.source);
-    push_lines(text, job.plan, residuals);
-    text::push_ending(text, job.plan.len(), same);
 }
 
 // The text of a file that number 12 is not given for.
@@ -135,7 +138,7 @@ fn push_report(text: &mut Text, input: &[u8])
 {
     match Trailer::read(input) {
         Some(t) => tell_file(text, input, t),
-        None => text::push_refusal(text, Refusal::File.number(), 0),
+        None => text::push_refusal(text, Fault::from(Refusal::File)),
     }
 }
 

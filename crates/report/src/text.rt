@@ -1,11 +1,12 @@
 // The lines that intrawalk prints (document 01, 'The program'), added to a text of fixed room. Whoever calls knows that it has room
 // for them. Rests on the kit's text of fixed room and its decimal numbers.
 ghost use Rattle.std.specs.Prelude.{◌≡◌, ◌+◌, ◌<◌, ◌≤◌, ◌++◌, length};
+ghost use Rattle.domain.specs.Refusal.{number as number_of};
 ghost use Rattle.report.specs.text.Text.{number, block_line, refusal, ending};
 
 use arrayvec::ArrayString;
 use itoa::Buffer;
-use plan::tiling::Block;
+use plan::tiling::{Block, Fault};
 
 // What is printed, at most 65,536 bytes.
 pub(crate) type Text = ArrayString<65536>;
@@ -35,13 +36,13 @@ pub(crate) fn push_line(text: &mut Text, b: Block, sum: u64)
 }
 
 // `refused N B`
-pub(crate) fn push_refusal(text: &mut Text, number: u32, block: u32)
+pub(crate) fn push_refusal(text: &mut Text, fault: Fault)
     requires { length text.old.bytes + 50 ≤ 65536 }
-    ensures { text.new.bytes ≡ text.old.bytes ++ refusal number block }
+    ensures { text.new.bytes ≡ text.old.bytes ++ refusal (number_of fault.why) fault.block }
 {
     text.push_str("refused ");
-    push_number(text, u64::from(number), ' ');
-    push_number(text, u64::from(block), '\n');
+    push_number(text, u64::from(fault.why.number()), ' ');
+    push_number(text, u64::from(fault.block), '\n');
 }
 
 // `end COUNT same` or `end COUNT differs`
