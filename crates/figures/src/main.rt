@@ -72,7 +72,7 @@ fn opening_row(first: u16) -> [u16; 65]
 fn order_at(picture: Picture, row: u32, col: u32) -> u32
     ensures { result ≡ order_at picture row col }
 {
-    order::decode_order(LumaRow(row), LumaCol(col), picture).value
+    order::decode_order(LumaRow(row), LumaCol(col), picture).unwrap_or(0)
 }
 
 // Whether a mode is smoothed; 2 would be a refused call.
