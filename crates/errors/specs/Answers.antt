@@ -20,6 +20,6 @@ abbrev pub counted_of : Result Report Rejected → Counted
 counted_of (Ok r) = record { no = 0; block = 0; next = r }
 counted_of (Err e) = record { no = number e.fault.why; block = e.fault.block; next = e.report }
 
-abbrev pub joined_of : Result Report Rejected → Joined
-joined_of (Ok r) = record { no = 0; next = r }
-joined_of (Err e) = record { no = number e.fault.why; next = e.report }
+-- the sum of two records is about no block
+abbrev pub whole_of : Joined → Counted
+whole_of j = record { no = j.no; block = 0; next = j.next }

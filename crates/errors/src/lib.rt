@@ -16,7 +16,7 @@ ghost use Rattle.errors.specs.Errors.{at_most, keeps_limits, room_for_pair, pair
 ghost use Rattle.errors.specs.Errors.{same_settings, join_no, join_reports, raised, tally_of};
 ghost use Rattle.errors.specs.Served.{SamplesLow, BlockPair, RoomFor, Limitable};
 ghost use Rattle.errors.specs.Blocks.{with_block};
-ghost use Rattle.errors.specs.Answers.{counted_of, joined_of};
+ghost use Rattle.errors.specs.Answers.{counted_of, whole_of};
 ghost use Rattle.domain.specs.Refusal.{no_of};
 ghost use Rattle.plan.specs.Answers.{verdict_of};
 
@@ -173,7 +173,7 @@ impl Report {
     // Adds another report of the same depth, picture and CTU: what was counted apart is counted together.
     #[tactic(auto, unfolding(crate::specs::Errors::join_reports), using(domain::specs::Refused::never_0))]
     pub fn join(self, other: Report) -> Result<Report, Rejected>
-        ensures { joined_of result ≡ join_reports self other }
+        ensures { counted_of result ≡ whole_of (join_reports self other) }
     {
         match self.check_join(other) {
             Err(why) => Err(self.rejected(Fault::from(why))),

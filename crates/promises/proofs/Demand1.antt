@@ -4,7 +4,7 @@
 -- `a.1.0` the second; `b`, `c` and `d` begin with the fifth, the ninth and the thirteenth. tests/doors finds a public function that
 -- gives a number and has no theorem here. What a refusal leaves: tables/Refused and run_tables/Refused. Rests on the rows of tables and
 -- run_tables.
-use Rattle.std.specs.Prelude.{◌≡◌, refl, List, ℕ, length, Result, Ok, Err}
+use Rattle.std.specs.Prelude.{◌≡◌, refl, Bool, true, false, cond, List, ℕ, leb, eqb, length, Result, Ok, Err}
 use Rattle.std.proofs.Common.{sym, ◌∙◌, subst}
 use Rattle.std.proofs.Math.Path.{ap}
 use seplogic.Ra.Ura.{Ura}
@@ -18,15 +18,24 @@ use denote.Triple.Clauses.{Ended, AtExit, Clauses}
 use denote.Triple.Entry.{Args, Res}
 use Rattle.domain.specs.declared.refusal.Refusal.{Refusal}
 use Rattle.domain.specs.Refusal.{no_of}
+use Rattle.domain.specs.Refused.{never_0}
+use Rattle.std.proofs.lemmas.Bool.{eqb-false}
 use Rattle.fmt.specs.declared.depth.BitDepth.{BitDepth}
 use Rattle.fmt.specs.depth.Depth.{depth_from, depth_number}
 use Rattle.refs.specs.Door.{luma_block, luma_geometry, chroma_block, chroma_geometry}
 use Rattle.checksum.specs.Checksum.{row_range}
-use Rattle.errors.specs.Answers.{Counted}
+use Rattle.errors.specs.Answers.{Counted, counted_of}
 use Rattle.errors.specs.Errors.{counted_by}
 use Rattle.errors.specs.RecordBytes.{Entered, count_entry}
 use Rattle.predict.specs.refusals.Refusals.{lengths}
-use Rattle.plan.specs.Answers.{Verdict}
+use Rattle.plan.specs.declared.tiling.Fault.{Fault}
+use Rattle.plan.specs.Answers.{Verdict, verdict_of}
+use Rattle.plan.specs.tiling.PlanCheck.{plan_verdict}
+use Rattle.walk.specs.declared.Advance.{Advance}
+use Rattle.walk.specs.Answers.{stepped_of, step_in}
+use Rattle.walk.specs.checks.Checks.{settle}
+use Rattle.walk.specs.calls.Steps.{step_of, step_granted, step_refused}
+use Rattle.plan.proofs.check.Reads as plan-check
 use Rattle.plan.specs.tiling.Plan.{plan_of, listed}
 use Rattle.walk.specs.declared.checks.Still.{Still}
 use Rattle.walk.specs.Lent.{tables, scratch_tables, world}
@@ -146,8 +155,8 @@ use Rattle.walk.specs.contracts.Progress.replay as walk-replay
 use Rattle.walk.proofs.Progress.replay_numbers.Reads as walk-replay-numbers
 use Rattle.walk.specs.contracts.Progress.walk as walk-walk
 use Rattle.walk.proofs.Progress.walk_numbers.Reads as walk-walk-numbers
-use Rattle.walk.proofs.checks.opening_no.Reads as checks-opening-no
-use Rattle.walk.proofs.checks.settled.Reads as checks-settled
+use Rattle.walk.proofs.checks.check_opening.Reads as checks-check-opening
+use Rattle.walk.proofs.granted.Reads as walk-granted
 
 -- the number in every answer that meets a contract, by the rows of a theorem
 record Tabled {A X S : Type 0} (post : A → X → S → Type 0) (number : X → ℕ) {of : A → ℕ} {rows : A → List (Row ℕ)}
@@ -233,7 +242,7 @@ abbrev counted_in : Counted → Verdict
 counted_in v = about v.no v.block
 
 errors_count_numbers_row : (κs : Lfts 6)
-    → TabledFirst (errors-count-numbers.Post κs) (λ a r. counted_in r)
+    → TabledFirst (errors-count-numbers.Post κs) (λ a r. counted_in (counted_of r))
     (λ a. let b = a.1.1.1.1 in
     pairs.count-pair a.0 a.1.0.now a.1.1.0.now
     (plan_of a.1.1.1.0.now b.0.now b.1.0.now b.1.1.0.now))
@@ -241,12 +250,12 @@ unfolding counted_by
 errors_count_numbers_row κs = tabled_first (λ a x s p. ap counted_in p)
 
 on_bytes_count_bytes_row : (κs : Lfts 3)
-    → TabledFirst (on-bytes-count-bytes.Post κs) (λ a r. counted_in r)
+    → TabledFirst (on-bytes-count-bytes.Post κs) (λ a r. counted_in (counted_of r))
     (λ a. pairs.count-bytes a.0 a.1.0.now a.1.1.0.now a.1.1.1.0.now)
 unfolding counted_by
 on_bytes_count_bytes_row κs = tabled_first (λ a x s p. ap counted_in p)
 
-errors_join_row : Tabled (errors-join.Post tt) (λ r. r.no) (λ a. pairs.join a.0 a.1.0)
+errors_join_row : Tabled (errors-join.Post tt) (λ r. (counted_of r).no) (λ a. pairs.join a.0 a.1.0)
 errors_join_row = tabled (λ a x s p. ap (λ r. r.no) p)
 
 -- the number that an entry gives, with its block
@@ -365,29 +374,59 @@ residual_reconstruct_into_row κs = tabled (λ a x s p. p.0)
 
 -- plan
 plan_check_plan_numbers_row : (κs : Lfts 4)
-    → TabledFirst (plan-check-plan-numbers.Post κs) (λ a r. r)
+    → TabledFirst (plan-check-plan-numbers.Post κs) (λ a r. verdict_of r)
     (λ a. let b = a.1.1.1.1 in check_plan_numbers a.0 a.1.0.now a.1.1.0.now a.1.1.1.0.now b.0.now)
 plan_check_plan_numbers_row κs = tabled_first (λ a x s p. p)
 
 plan_check_plan_bytes_row : (κs : Lfts 1)
-    → TabledFirst (plan-check-plan-bytes.Post κs) (λ a r. r) (λ a. check_plan_bytes a.0 a.1.0.now)
+    → TabledFirst (plan-check-plan-bytes.Post κs) (λ a r. verdict_of r) (λ a. check_plan_bytes a.0 a.1.0.now)
 plan_check_plan_bytes_row κs = tabled_first (λ a x s p. p)
 
--- walk
-checks_opening_no_row : Tabled (checks-opening-no.Post tt) (λ r. r) (λ a. opening a.0 a.1.0)
-checks_opening_no_row = tabled (λ a x s p. p)
+-- of a plan in any form
+plan_check_row : (P : _) (laws : _) (copy : _) (blocks : _) (methods : _) (clone : _) (cloned : _) (κs : Lfts 1)
+    → TabledFirst (plan-check.Post P laws copy blocks methods clone cloned κs) (λ a r. verdict_of r)
+    (λ a. check_plan a.0 (blocks.plan a.1.0))
+plan_check_row P laws copy blocks methods clone cloned κs = tabled_first (λ a x s p. p)
 
-checks_settled_row : TabledFirst (checks-settled.Post tt) (λ a r. r) (λ a. settled a.1.1.0 a.1.0 a.0 a.1.1.1.0)
-checks_settled_row = tabled_first (λ a x s p. p)
+-- walk
+checks_check_opening_row : Tabled (checks-check-opening.Post tt) (λ r. no_of r) (λ a. opening a.0 a.1.0)
+checks_check_opening_row = tabled (λ a x s p. p)
+
+-- what a call that is granted says of its verdict
+granted_verdict : (v : Verdict) (count done grant : ℕ) → (v.no ≡ 0 → v.block ≡ 0) → (r : Result Advance Fault)
+    → step_in r ≡ step_of v count done grant → verdict_of r ≡ v
+granted_verdict v count done grant clean (Ok a) e =
+    let g = step_granted v count done grant e refl in λ i. record { no = sym g.0 i; block = sym (clean g.0) i }
+granted_verdict v count done grant clean (Err f) e = step_refused v count done grant e (never_0 f.why)
+
+settle_clean : (found : Verdict) (count done early : ℕ) → (settle found count done early).no ≡ 0 → (settle found count done early).block ≡ 0
+unfolding settle
+settle_clean found count done early = go (eqb early 0) (eqb found.no 0) refl refl
+  where
+    go : (a b : Bool) → eqb early 0 ≡ a → eqb found.no 0 ≡ b
+        → (cond a (cond b (record { no = cond (leb done count) 0 11; block = 0 }) found) (record { no = early; block = 0 })).no ≡ 0
+        → (cond a (cond b (record { no = cond (leb done count) 0 11; block = 0 }) found) (record { no = early; block = 0 })).block ≡ 0
+    go true true p q e = refl
+    go true false p q e = absurd (eqb-false found.no 0 q e)
+    go false b p q e = absurd (eqb-false early 0 p e)
+
+walk_granted_row : (P : _) (laws : _) (copy : _) (blocks : _) (methods : _) (clone : _) (cloned : _) (κs : Lfts 1)
+    → TabledFirst (walk-granted.Post P laws copy blocks methods clone cloned κs) (λ a r. verdict_of r)
+    (λ a. let plan = blocks.plan a.1.1.0 in settled (plan_verdict a.1.0 plan) plan.count a.0.done (no_of a.1.1.1.0))
+walk_granted_row P laws copy blocks methods clone cloned κs =
+    tabled_first
+    (λ a x s p. let plan = blocks.plan a.1.1.0 in
+    granted_verdict _ plan.count a.0.done a.1.1.1.1.0
+    (settle_clean (plan_verdict a.1.0 plan) plan.count a.0.done (no_of a.1.1.1.0)) x p)
 
 walk_replay_numbers_row : (κs : Lfts 9)
-    → TabledFirst (walk-replay-numbers.Post κs) (λ a r. verdict_in r)
+    → TabledFirst (walk-replay-numbers.Post κs) (λ a r. verdict_in (stepped_of r))
     (λ a. let b = a.1.1.1.1 in let c = b.1.1.1.1 in
     replay a.1.0 (plan_of a.1.1.0.now a.1.1.1.0.now b.0.now b.1.0.now) a.0 (tables c.0.now c.1.0.now c.1.1.0.now) c.1.1.1.0 b.1.1.0.now b.1.1.1.0.now)
 walk_replay_numbers_row κs = tabled_first (λ a x s p. ap verdict_in p.0)
 
 walk_walk_numbers_row : (κs : Lfts 10)
-    → TabledFirst (walk-walk-numbers.Post κs) (λ a r. verdict_in r)
+    → TabledFirst (walk-walk-numbers.Post κs) (λ a r. verdict_in (stepped_of r))
     (λ a. let b = a.1.1.1.1 in let c = b.1.1.1.1 in let d = c.1.1.1.1 in
     walk a.1.0 (plan_of a.1.1.0.now a.1.1.1.0.now b.0.now b.1.0.now) a.0 (tables c.1.0.now c.1.1.0.now c.1.1.1.0.now) d.0 b.1.1.0.now (world b.1.1.1.0.now c.0.now))
 walk_walk_numbers_row κs = tabled_first (λ a x s p. ap verdict_in p.0)
@@ -699,26 +738,26 @@ module _ {M : Type 1} {𝓤 : Ura M} (𝓛 : Logic 𝓤) (mem : Memory → SProp
 
   -- plan
   plan_check_plan_row : (κs : Lfts 1)
-      → TabledHeldFirst plan-check-plan.ended κs (plan-check-plan.clauses 𝓛 mem run) (λ a r. r)
+      → TabledHeldFirst plan-check-plan.ended κs (plan-check-plan.clauses 𝓛 mem run) (λ a r. verdict_of r)
       (λ a. check_plan a.0 (listed a.1.0.now))
   plan_check_plan_row κs = tabled_held_first (λ a g x s. fact_mono 𝓤 _ _ (λ p. p))
 
   -- errors
   errors_count_row : (κs : Lfts 3)
-      → TabledHeldFirst errors-count.ended κs (errors-count.clauses 𝓛 mem run) (λ a r. counted_in r)
+      → TabledHeldFirst errors-count.ended κs (errors-count.clauses 𝓛 mem run) (λ a r. counted_in (counted_of r))
       (λ a. pairs.count-pair a.0 a.1.0.now a.1.1.0.now (listed a.1.1.1.0.now))
   unfolding counted_by
   errors_count_row κs = tabled_held_first (λ a g x s. fact_mono 𝓤 _ _ (λ p. ap counted_in p))
 
   -- walk
   walk_replay_row : (κs : Lfts 4)
-      → TabledHeldFirst walk-replay.ended κs (walk-replay.clauses 𝓛 mem run) (λ a r. verdict_in r)
+      → TabledHeldFirst walk-replay.ended κs (walk-replay.clauses 𝓛 mem run) (λ a r. verdict_in (stepped_of r))
       (λ a. let b = a.1.1.1.1 in
       replay a.1.0 (listed a.1.1.0.now) a.0 scratch_tables b.1.1.0 a.1.1.1.0.now b.0.now)
   walk_replay_row κs = tabled_held_first (λ a g x s. fact_mono 𝓤 _ _ (λ p. ap verdict_in p.0))
 
   walk_walk_row : (κs : Lfts 5)
-      → TabledHeldFirst walk-walk.ended κs (walk-walk.clauses 𝓛 mem run) (λ a r. verdict_in r)
+      → TabledHeldFirst walk-walk.ended κs (walk-walk.clauses 𝓛 mem run) (λ a r. verdict_in (stepped_of r))
       (λ a. let b = a.1.1.1.1 in
       walk a.1.0 (listed a.1.1.0.now) a.0 scratch_tables b.1.1.1.0 a.1.1.1.0.now (world b.0.now b.1.0.now))
   walk_walk_row κs = tabled_held_first (λ a g x s. fact_mono 𝓤 _ _ (λ p. ap verdict_in p.0))

@@ -17,7 +17,7 @@ use Rattle.laws.specs.Choose.{served}
 use Rattle.laws.specs.Least.{least_once}
 use Rattle.domain.specs.declared.refusal.Refusal.{Refusal}
 use Rattle.domain.specs.declared.rows.Rows.{Rows}
-use Rattle.domain.specs.Refusal.{no_of}
+use Rattle.domain.specs.Refusal.{number, no_of}
 use Rattle.domain.specs.Refused.{never_0, same_refusal, same_answer, same_outcome}
 use Rattle.domain.specs.rows.Neighbours.{level_rows, zero_rows}
 use Rattle.order.specs.declared.Reach.{Reach}
@@ -27,6 +27,14 @@ use Rattle.smooth.specs.declared.RowPair.{RowPair}
 use Rattle.smooth.specs.Answers.{Rule, FilteredRows, Smoothed, zero_pair, rule_given, rows_given, smoothed_given}
 use Rattle.refs.specs.Answers.{Gathered, GatheredPair, Laid, gathered, gathered_pair, laid}
 use Rattle.checksum.specs.Answers.{answered_same}
+use Rattle.plan.specs.declared.tiling.Fault.{Fault}
+use Rattle.plan.specs.Answers.{Verdict, verdict_of}
+use Rattle.errors.specs.declared.Report.{Report}
+use Rattle.errors.specs.declared.Rejected as errors-refused
+use Rattle.errors.specs.Answers.{Counted, counted_of}
+use Rattle.walk.specs.declared.Advance.{Advance}
+use Rattle.walk.specs.declared.Rejected.{Rejected}
+use Rattle.walk.specs.Answers.{Step, Stepped, step_in, stepped_of}
 use Rattle.choose.specs.declared.Chosen.{Chosen}
 use Rattle.choose.specs.Choose.{Chooses}
 use Rattle.octets.specs.Bytes.{pair_into}
@@ -113,15 +121,14 @@ use Rattle.refs.proofs.check_gather.Reads as refs-check-gather
 use Rattle.refs.proofs.luma_layout.Reads as refs-luma-layout
 use Rattle.refs.proofs.chroma_layout.Reads as refs-chroma-layout
 use Rattle.plan.proofs.records.record_at.Reads as records-record-at
-use Rattle.plan.proofs.block_at.Reads as plan-block-at
-use Rattle.plan.proofs.is_whole.Reads as plan-is-whole
+use Rattle.plan.proofs.check.Reads as plan-check
 use Rattle.plan.proofs.check_plan_bytes.Reads as plan-check-plan-bytes
 use Rattle.plan.proofs.check_plan_numbers.Reads as plan-check-plan-numbers
 use Rattle.plan.specs.contracts.check_plan as plan-check-plan
 use Rattle.walk.proofs.calls.doing_of.Reads as calls-doing-of
 use Rattle.walk.proofs.Progress.fresh.Reads as walk-fresh
-use Rattle.walk.proofs.checks.opening_no.Reads as checks-opening-no
-use Rattle.walk.proofs.checks.settled.Reads as checks-settled
+use Rattle.walk.proofs.checks.check_opening.Reads as checks-check-opening
+use Rattle.walk.proofs.granted.Reads as walk-granted
 use Rattle.walk.proofs.block.geometry.Reads as block-geometry
 use Rattle.walk.proofs.block.base_of.Reads as block-base-of
 use Rattle.probes.proofs.salvrunde_probe_picture_checksum.Reads as probes-salvrunde-probe-picture-checksum
@@ -256,6 +263,37 @@ laid_same : (x y : Layout) → laid x ≡ laid y → x ≡ y
 laid_same x y e =
     let r = reached_same x.reach y.reach (ap (λ (l : Laid). l.reach) e) in
     λ i. record { reach = r i; spot = (e i).spot; length = (e i).length }
+
+fault_same : (v w : Fault) → number v.why ≡ number w.why → v.block ≡ w.block → v ≡ w
+fault_same v w e b = let k = same_refusal v.why w.why e in λ i. record { why = k i; block = b i }
+
+verdict_same : (x y : Result ⊤ Fault) → verdict_of x ≡ verdict_of y → x ≡ y
+verdict_same (Ok v) (Ok w) e = refl
+verdict_same (Ok v) (Err w) e = absurd (never_0 w.why (sym (ap (λ (r : Verdict). r.no) e)))
+verdict_same (Err v) (Ok w) e = absurd (never_0 v.why (ap (λ (r : Verdict). r.no) e))
+verdict_same (Err v) (Err w) e = ap Err (fault_same v w (ap (λ (r : Verdict). r.no) e) (ap (λ (r : Verdict). r.block) e))
+
+granted_same : (x y : Result Advance Fault) → step_in x ≡ step_in y → x ≡ y
+granted_same (Ok v) (Ok w) e = λ i. Ok (record { did = (e i).did; next = record { done = (e i).upto } })
+granted_same (Ok v) (Err w) e = absurd (never_0 w.why (sym (ap (λ (r : Step). r.no) e)))
+granted_same (Err v) (Ok w) e = absurd (never_0 v.why (ap (λ (r : Step). r.no) e))
+granted_same (Err v) (Err w) e = ap Err (fault_same v w (ap (λ (r : Step). r.no) e) (ap (λ (r : Step). r.block) e))
+
+stepped_same : (x y : Result Advance Rejected) → stepped_of x ≡ stepped_of y → x ≡ y
+stepped_same (Ok v) (Ok w) e = λ i. Ok (record { did = (e i).did; next = (e i).next })
+stepped_same (Ok v) (Err w) e = absurd (never_0 w.fault.why (sym (ap (λ (r : Stepped). r.no) e)))
+stepped_same (Err v) (Ok w) e = absurd (never_0 v.fault.why (ap (λ (r : Stepped). r.no) e))
+stepped_same (Err v) (Err w) e =
+    let f = fault_same v.fault w.fault (ap (λ (r : Stepped). r.no) e) (ap (λ (r : Stepped). r.block) e) in
+    λ i. Err (record { fault = f i; progress = (e i).next })
+
+counted_same : (x y : Result Report errors-refused.Rejected) → counted_of x ≡ counted_of y → x ≡ y
+counted_same (Ok v) (Ok w) e = λ i. Ok (e i).next
+counted_same (Ok v) (Err w) e = absurd (never_0 w.fault.why (sym (ap (λ (r : Counted). r.no) e)))
+counted_same (Err v) (Ok w) e = absurd (never_0 v.fault.why (ap (λ (r : Counted). r.no) e))
+counted_same (Err v) (Err w) e =
+    let f = fault_same v.fault w.fault (ap (λ (r : Counted). r.no) e) (ap (λ (r : Counted). r.block) e) in
+    λ i. Err (record { fault = f i; report = (e i).next })
 
 -- one that is another's own where it is not refused
 own_once : (found x y : Result Reach Refusal) → no_of x ≡ no_of y → IfOk x (λ r. found ≡ Ok r) → IfOk y (λ r. found ≡ Ok r) → x ≡ y
@@ -484,13 +522,13 @@ errors_fresh_once : Once (errors-fresh.Post tt)
 errors_fresh_once a x y s t p q = p ∙ sym q
 
 errors_count_numbers_once : (κs : Lfts 6) → Once (errors-count-numbers.Post κs)
-errors_count_numbers_once κs a x y s t p q = p ∙ sym q
+errors_count_numbers_once κs a x y s t p q = counted_same x y (p ∙ sym q)
 
 errors_join_once : Once (errors-join.Post tt)
-errors_join_once a x y s t p q = p ∙ sym q
+errors_join_once a x y s t p q = counted_same x y (p ∙ sym q)
 
 on_bytes_count_bytes_once : (κs : Lfts 3) → Once (on-bytes-count-bytes.Post κs)
-on_bytes_count_bytes_once κs a x y s t p q = p ∙ sym q
+on_bytes_count_bytes_once κs a x y s t p q = counted_same x y (p ∙ sym q)
 
 by_entered : {x y : ℕ} {l m : List ℕ} {w : Entered} → entered x l ≡ w → entered y m ≡ w → (x ≡ y) × (l ≡ m)
 by_entered p q = (ap (λ (v : Entered). v.number) (p ∙ sym q), ap (λ (v : Entered). v.bytes) (p ∙ sym q))
@@ -537,17 +575,16 @@ records_record_at_once : (κs : Lfts 1) → Once (records-record-at.Post κs)
 records_record_at_once κs a x y s t p q = p ∙ sym q
 
 -- plan
-plan_block_at_once : (κs : Lfts 4) → Once (plan-block-at.Post κs)
-plan_block_at_once κs a x y s t p q = p ∙ sym q
-
-plan_is_whole_once : (κs : Lfts 4) → Once (plan-is-whole.Post κs)
-plan_is_whole_once κs a x y s t p q = p ∙ sym q
+-- of a plan in any form
+plan_check_once : (P : _) (laws : _) (copy : _) (blocks : _) (methods : _) (clone : _) (cloned : _) (κs : Lfts 1)
+    → Once (plan-check.Post P laws copy blocks methods clone cloned κs)
+plan_check_once P laws copy blocks methods clone cloned κs a x y s t p q = verdict_same x y (p ∙ sym q)
 
 plan_check_plan_numbers_once : (κs : Lfts 4) → Once (plan-check-plan-numbers.Post κs)
-plan_check_plan_numbers_once κs a x y s t p q = p ∙ sym q
+plan_check_plan_numbers_once κs a x y s t p q = verdict_same x y (p ∙ sym q)
 
 plan_check_plan_bytes_once : (κs : Lfts 1) → Once (plan-check-plan-bytes.Post κs)
-plan_check_plan_bytes_once κs a x y s t p q = p ∙ sym q
+plan_check_plan_bytes_once κs a x y s t p q = verdict_same x y (p ∙ sym q)
 
 -- calls
 calls_doing_of_once : Once (calls-doing-of.Post tt)
@@ -559,11 +596,12 @@ walk_fresh_once a x y s t p q = p ∙ sym q
 
 -- checks
 
-checks_opening_no_once : Once (checks-opening-no.Post tt)
-checks_opening_no_once a x y s t p q = p ∙ sym q
+checks_check_opening_once : Once (checks-check-opening.Post tt)
+checks_check_opening_once a x y s t p q = same_outcome x y (p ∙ sym q)
 
-checks_settled_once : Once (checks-settled.Post tt)
-checks_settled_once a x y s t p q = p ∙ sym q
+walk_granted_once : (P : _) (laws : _) (copy : _) (blocks : _) (methods : _) (clone : _) (cloned : _) (κs : Lfts 1)
+    → Once (walk-granted.Post P laws copy blocks methods clone cloned κs)
+walk_granted_once P laws copy blocks methods clone cloned κs a x y s t p q = granted_same x y (p ∙ sym q)
 
 -- block
 block_geometry_once : Once (block-geometry.Post tt)
@@ -843,19 +881,19 @@ camera_salvrunde_replay_once κs a x y s t p q = by_after p q
 
 -- walk
 walk_replay_numbers_once : (κs : Lfts 9)
-    → OnceRefused {K = Three} (λ r. r.no) (λ s. s.1.1.1.1.1.1.1.0.now)
+    → OnceRefused {K = Three} (λ r. (stepped_of r).no) (λ s. s.1.1.1.1.1.1.1.0.now)
     (λ s. let l = s.1.1.1.1.1.1.1.1 in (l.0.now, (l.1.0.now, l.1.1.0.now)))
     (walk-replay-numbers.Post κs)
 walk_replay_numbers_once κs a x y s t p q =
-    and_scratch (λ r. r.no) (p.0 ∙ sym q.0, p.1.0 ∙ sym q.1.0) (λ h. together (p.1.1 h)) (λ h. together (q.1.1 h))
+    and_scratch (λ r. (stepped_of r).no) (stepped_same x y (p.0 ∙ sym q.0), p.1.0 ∙ sym q.1.0) (λ h. together (p.1.1 h)) (λ h. together (q.1.1 h))
 
 walk_walk_numbers_once : (κs : Lfts 10)
-    → OnceRefused {L = World} {K = Three} (λ r. r.no)
+    → OnceRefused {L = World} {K = Three} (λ r. (stepped_of r).no)
     (λ s. record { work = s.1.1.1.1.1.1.1.0.now; residuals = s.1.1.1.1.1.1.1.1.0.now })
     (λ s. let l = s.1.1.1.1.1.1.1.1.1 in (l.0.now, (l.1.0.now, l.1.1.0.now)))
     (walk-walk-numbers.Post κs)
 walk_walk_numbers_once κs a x y s t p q =
-    and_scratch (λ r. r.no) (p.0 ∙ sym q.0, p.1.0 ∙ sym q.1.0) (λ h. together (p.1.1 h)) (λ h. together (q.1.1 h))
+    and_scratch (λ r. (stepped_of r).no) (stepped_same x y (p.0 ∙ sym q.0), p.1.0 ∙ sym q.1.0) (λ h. together (p.1.1 h)) (λ h. together (q.1.1 h))
 
 -- report
 report_report_once : (κs : Lfts 1) → Once (report-report.Post κs)
@@ -903,25 +941,25 @@ module _ {M : Type 1} {𝓤 : Ura M} (𝓛 : Logic 𝓤) (mem : Memory → SProp
 
   -- plan
   plan_check_plan_once : (κs : Lfts 1) → OnceHeld plan-check-plan.ended κs {L = Unit {0}} (λ _. tt) (plan-check-plan.clauses 𝓛 mem run)
-  plan_check_plan_once κs a g x y s t = held_both _ _ _ (λ p q. (p ∙ sym q, refl))
+  plan_check_plan_once κs a g x y s t = held_both _ _ _ (λ p q. (verdict_same x y (p ∙ sym q), refl))
 
   -- errors
   errors_count_once : (κs : Lfts 3) → OnceHeld errors-count.ended κs {L = Unit {0}} (λ _. tt) (errors-count.clauses 𝓛 mem run)
-  errors_count_once κs a g x y s t = held_both _ _ _ (λ p q. (p ∙ sym q, refl))
+  errors_count_once κs a g x y s t = held_both _ _ _ (λ p q. (counted_same x y (p ∙ sym q), refl))
 
   -- walk
   walk_replay_once : (κs : Lfts 4)
-      → OnceHeldRefused walk-replay.ended κs (λ r. r.no) (λ s. s.1.1.1.1.0.now)
+      → OnceHeldRefused walk-replay.ended κs (λ r. (stepped_of r).no) (λ s. s.1.1.1.1.0.now)
       (λ s. s.1.1.1.1.1.0.now) (walk-replay.clauses 𝓛 mem run)
   walk_replay_once κs a g x y s t =
-      held_both _ _ _ (λ p q. and_scratch (λ r. r.no) (p.0 ∙ sym q.0, p.1.0 ∙ sym q.1.0) p.1.1 q.1.1)
+      held_both _ _ _ (λ p q. and_scratch (λ r. (stepped_of r).no) (stepped_same x y (p.0 ∙ sym q.0), p.1.0 ∙ sym q.1.0) p.1.1 q.1.1)
 
   walk_walk_once : (κs : Lfts 5)
-      → OnceHeldRefused walk-walk.ended κs {L = World} (λ r. r.no)
+      → OnceHeldRefused walk-walk.ended κs {L = World} (λ r. (stepped_of r).no)
       (λ s. record { work = s.1.1.1.1.0.now; residuals = s.1.1.1.1.1.0.now })
       (λ s. s.1.1.1.1.1.1.0.now) (walk-walk.clauses 𝓛 mem run)
   walk_walk_once κs a g x y s t =
-      held_both _ _ _ (λ p q. and_scratch (λ r. r.no) (p.0 ∙ sym q.0, p.1.0 ∙ sym q.1.0) p.1.1 q.1.1)
+      held_both _ _ _ (λ p q. and_scratch (λ r. (stepped_of r).no) (stepped_same x y (p.0 ∙ sym q.0), p.1.0 ∙ sym q.1.0) p.1.1 q.1.1)
 
   -- probes
   walk_probes_salvrunde_probe_replay_records_once : (κs : Lfts 4)

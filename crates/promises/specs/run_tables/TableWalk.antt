@@ -3,7 +3,7 @@
 -- (`plan_of`), of records (`listed`) or of bytes (`records_of`). Where the call takes the scratch struct, its tables (`scratch_tables`)
 -- are never short. Rests on Exact and on what the plan's verdict tells.  plan::check_plan, any plan                       check_plan
 -- plan::check_plan_numbers                         check_plan_numbers plan::check_plan_bytes
--- check_plan_bytes checks::opening_no, checks::settled              opening, settled Progress::walk, Progress::walk_numbers
+-- check_plan_bytes checks::check_opening, walk::granted              opening, settled Progress::walk, Progress::walk_numbers
 -- walk Progress::replay, Progress::replay_numbers       replay
 use Rattle.std.specs.Prelude.{◌≡◌, Bool, true, List, [], ◌∷◌, ℕ, zero, suc, ◌*◌, ◌<◌, leb, eqb, ℤ, pos, nat_abs, length, get_or}
 use Rattle.std.proofs.Math.Path.{refl}
