@@ -1,11 +1,12 @@
 -- What a sum that is not refused rests on. Assumes nothing.
-use Rattle.std.specs.Prelude.{◌≡◌, ℕ, ◌+◌, ◌-◌, ◌*◌, ◌%◌, ◌^◌, ◌<◌, ◌≤◌, Bool, true, false, ◌&&◌, leb, List, [], ◌∷◌, ◌==◌, nat_le, refl}
-use Rattle.std.proofs.Common.{sym, ap, ◌∙◌, mul-le-mul_right, suc-mul, arith, leb-true}
+use Rattle.std.specs.Prelude.{◌≡◌, ℕ, ◌+◌, ◌-◌, ◌*◌, ◌%◌, ◌^◌, ◌<◌, ◌≤◌, Bool, true, false, ◌&&◌, leb, List, [], ◌∷◌, length, ◌==◌, nat_eq, nat_le, refl}
+use Rattle.std.proofs.Common.{sym, ap, ◌∙◌, mul-le-mul_right, suc-mul, arith, leb-true, eqb-true}
 use Rattle.laws.specs.Choose.{◌unless◌, first_fail, passed, both_true, worked}
 use Rattle.laws.specs.Every.{every}
 use Rattle.h265.specs.Checksum.{sum_of_rows}
 use Rattle.domain.specs.Domain.{depth_ok, plane_side_ok}
 use Rattle.domain.specs.Facts.{depth_of}
+use Rattle.octets.specs.Bytes.{samples_of}
 use Rattle.fmt.specs.depth.Depth.{largest_of}
 use Rattle.fmt.specs.depth.Laws.{largest_of_is}
 use Rattle.checksum.specs.declared.RowRange.{RowRange}
@@ -58,6 +59,15 @@ pub row_in : (r : RowRange) (fit ok : Bool) (entries : ℕ) → checksum_no_by r
 row_in r fit ok entries e long y h =
     let f = fine r fit ok e in
     omega (arith, long f.whole, row_inside f y h)
+
+-- the same of bytes, two a sample
+pub bytes_in : (r : RowRange) (bytes : List ℕ) (roomy : Bool)
+    → checksum_no r (roomy && length bytes == 2 * (r.height * r.width)) (samples_of bytes) ≡ 0
+    → (y : ℕ) → y < r.end → 2 * (y * r.width + r.width) ≤ length bytes
+bytes_in r bytes roomy e y h =
+    let whole = nat_eq (length bytes) (2 * (r.height * r.width)) in
+    let f = fine r (roomy && whole) (every (λ v. leb v (2 ^ r.bits - 1)) (samples_of bytes)) e in
+    omega (arith, eqb-true (length bytes) (2 * (r.height * r.width)) (both_true roomy whole f.whole).1, row_inside f y h)
 
 -- the number by a test of the samples against the figure of the depth: where the depth is none, that test is not looked at
 abbrev five_checks : Bool → Bool → Bool → Bool → Bool → ℕ

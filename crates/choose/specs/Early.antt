@@ -3,8 +3,9 @@
 use Rattle.std.specs.Prelude.{◌≡◌, Bool, false, cond, List, Option, Some, IfSome, ltb, length, get_or}
 use Rattle.std.specs.Bool.{then_some}
 use Rattle.std.proofs.Math.Path.{refl, sym, ap}
-use Rattle.std.proofs.Common.{◌∙◌, zero-add, add_assoc, add-mul, suc-mul, mul-le-mul_right}
+use Rattle.std.proofs.Common.{subst, ◌∙◌, zero-add, add_assoc, add-mul, suc-mul, mul-le-mul_right}
 use Rattle.std.proofs.Math.Bool.{true}
+use Rattle.std.proofs.lemmas.Bool.{false≢true}
 use Prim.Native.Nat.{ℕ, zero, suc, ◌+◌, ◌-◌, ◌*◌, ◌≤◌, ◌<◌}
 use Rattle.std.proofs.Math.Nat.{zero-mul}
 use native.Mathlib.Omega.{arith}
@@ -12,7 +13,8 @@ use borrow.Author.Tests.{ne_eqb}
 use Rattle.laws.specs.Fill.{rows}
 use Rattle.laws.specs.FillLaws.{rows_at, length_run}
 use Rattle.laws.specs.Sum.{total, total_none, total_join, total_same}
-use Rattle.domain.specs.Facts.{Size, size_small}
+use Rattle.domain.specs.Domain.{size_ok}
+use Rattle.domain.specs.Facts.{Size, at_size, size_small}
 use Rattle.h265.specs.Notation.{from_rows}
 use Rattle.predict.specs.angular.Parts.{laid_refs, laid_at, laid_angular}
 use Rattle.predict.specs.modes.Modes.{predicted_by_mode}
@@ -24,6 +26,15 @@ use Rattle.choose.specs.Sums.{same_sum}
 pub record UpTo (limit : Option ℕ) (whole part : ℕ) : Type 0 where
   pub within : part ≤ whole
   pub all : IfSome limit (λ most. part < most) → part ≡ whole
+
+-- a sum that was dropped before anything was added up
+pub up_to_none : (early : Bool) (limit whole : ℕ) → early ≡ true → limit ≡ 0 → UpTo (then_some early limit) whole 0
+up_to_none true limit whole t e = record { within = omega arith; all = λ l. absurd (omega arith) }
+up_to_none false limit whole t e = absurd (false≢true t)
+
+-- one that may be
+pub up_to_early : (early : Bool) (limit whole s : ℕ) → early ≡ true → UpTo (Some limit) whole s → UpTo (then_some early limit) whole s
+up_to_early early limit whole s t u = subst (λ (b : Bool). UpTo (then_some b limit) whole s) (sym t) u
 
 -- the same of a number that is the same
 pub up_to_same : (limit : Option ℕ) {v w s : ℕ} → v ≡ w → UpTo limit v s → UpTo limit w s
@@ -119,6 +130,9 @@ unfolding differences row_apart
 group_sum n first k source g d h =
     total_same _ _ k (λ y hy. total_same _ _ n (λ x hx. ap (apart (source_at n source x (first + y)))
     (rows_at (λ (y x : ℕ). g (first + y) x) n k d y x 0 hy hx h)))
+
+of_size : {n : ℕ} → Size n → size_ok n ≡ true
+of_size {n} s = at_size (λ (m : ℕ). size_ok m ≡ true) refl refl refl refl n s
 
 -- a turn of the loop: k rows more
 pub group_step : (n first k : ℕ) (source : List ℕ) (g : ℕ → ℕ → ℕ) (d : List ℕ) {p : List ℕ} {s v : ℕ} → first + k ≤ n → n * n ≤ length d

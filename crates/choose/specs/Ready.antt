@@ -1,13 +1,19 @@
 -- What a choice that is not refused has, and that no predictor and no smoothing refuses it. Rests on the numbers of all three.
 use Rattle.std.specs.Prelude.{◌≡◌, true, List, ℕ, ◌*◌, ◌≤◌, leb, length}
 use Rattle.std.proofs.Common.{arith}
+use Rattle.std.specs.Borrow.{Bor, MutBor}
 use borrow.Author.Tests.{leb-true, le-leb}
 use Rattle.laws.specs.Choose.{passed, both_true}
 use Rattle.domain.specs.Domain.{depth_ok, size_ok, smoothing_row}
 use Rattle.domain.specs.Facts.{size_of, size_small}
 use Rattle.smooth.specs.Smoothing.{filter_luma_no}
-use Rattle.predict.specs.refusals.Refusals.{Lengths, is_enough, flat_no, angular_no}
+use Rattle.predict.specs.refusals.Refusals.{Lengths, lengths, is_enough, flat_no, angular_no}
 use Rattle.choose.specs.Choose.{lends_enough, choose_no}
+
+-- the lengths of what a private function is lent
+abbrev pub held_by : Bor (List ℕ) → Bor (List ℕ) → MutBor (List ℕ) → MutBor (List ℕ) → MutBor (List ℕ) → MutBor (List ℕ) → Lengths
+held_by above left pred refs indices fractions =
+    lengths (length above.now) (length left.now) (length pred.now) (length refs.now) (length indices.now) (length fractions.now)
 
 -- rows and scratch are long enough
 pub record Long (n : ℕ) (l : Lengths) : Type 0 where
@@ -52,6 +58,18 @@ ready bits n source l e =
     let s = passed (lends_enough n (length source) l) _ 5 (omega arith) q.1 in
     let w = long_enough n (length source) l s.0 in
     record { depth = p.0; size = q.0; room = w.1; long = w.0 }
+
+-- with other rows
+pub with_rows : {bits n source : ℕ} {l : Lengths} → Ready bits n source l → (above left : ℕ) → 65 ≤ above → 65 ≤ left
+    → Ready bits n source (lengths above left l.pred l.refs l.indices l.fractions)
+with_rows r above left h k =
+    let w = r.long in
+    record {
+      depth = r.depth;
+      size = r.size;
+      room = r.room;
+      long = record { above = h; left = k; room = w.room; refs = w.refs; indices = w.indices; fractions = w.fractions };
+    }
 
 -- nothing that it calls refuses it
 module _ {n : ℕ} {l : Lengths} (size : size_ok n ≡ true) (w : Long n l) where

@@ -1,15 +1,15 @@
 -- How figures add up: what a tally adds in two steps it adds in one, in either order; over a list of them, in any order and in any parts.
 -- That a sum keeps the limits of number 15. Rests on what a counted pair rests on.
 use Rattle.std.specs.Prelude.{◌≡◌, refl, true, ◌&&◌, leb, eqb, get_or, replicate}
-use Rattle.std.proofs.Common.{sym, ap, ap₂, ◌∙◌, arith, add-mul, add_comm, add_assoc, leb-true, eqb-true}
+use Rattle.std.proofs.Common.{sym, ap, ap₂, ◌∙◌, subst, arith, add-mul, add_comm, add_assoc, leb-true, eqb-true}
 use mathlib.Core.List.{List, [], ◌∷◌, Permᴰ}
 use Prim.Native.Nat.{ℕ, ◌+◌, ◌-◌, ◌*◌, ◌/◌, ◌^◌, ◌≤◌, ◌<◌}
 use Rattle.std.proofs.Math.ListN.{length}
 use Rattle.std.proofs.lemmas.List.{length-replicate, get_or-replicate}
-use Rattle.laws.specs.Choose.{passed, both_true, both_same}
+use Rattle.laws.specs.Choose.{worked, unserved, passed, both_true, both_same}
 use Rattle.laws.specs.Every.{most_all}
 use Rattle.laws.specs.FillLaws.{fill_same}
-use Rattle.domain.specs.Domain.{depth_ok}
+use Rattle.domain.specs.Domain.{depth_ok, side_ok, ctu_ok}
 use Rattle.domain.specs.Facts.{Depth, depth_of}
 use Rattle.order.specs.Order.{picture_ok}
 use Rattle.order.specs.Good.{Good}
@@ -18,8 +18,8 @@ use Rattle.plan.specs.tiling.Tiling.{picture_of}
 use Rattle.plan.specs.tiling.Tests.{picture_good}
 use Rattle.errors.specs.declared.Report.{Report}
 use Rattle.errors.specs.Errors.{Tally, tallied, tally_of, raised, fresh_report, plane_area, top_of, samples_so_far}
-use Rattle.errors.specs.Errors.{keeps_limits, same_settings, join_no}
-use Rattle.errors.specs.Served.{Figured}
+use Rattle.errors.specs.Errors.{keeps_limits, same_settings, join_no, join_reports}
+use Rattle.errors.specs.Served.{Figured, Limitable}
 use Rattle.errors.specs.Limits.{raised_at, length_raised, same_figures, limits_small, limits_each}
 
 -- a tally and another
@@ -213,6 +213,18 @@ settings_same r s e =
     let u = both_true (eqb s.bits r.bits) w q.0 in
     (eqb-true _ _ u.0, (eqb-true _ _ u.1, (eqb-true _ _ q.1, eqb-true _ _ p.1)))
 
+-- what the first's settings are, the second's are
+pub same_limitable : (r s : Report) → same_settings r s ≡ true → Depth r.bits → picture_ok (picture_of r.frame) ≡ true → s.pairs ≤ 65536
+    → Limitable s
+same_limitable r s e d g few =
+    let q = settings_same r s e in
+    record {
+      depth = subst Depth (sym q.0) d;
+      picture = picture_good s.frame
+          (both_same (both_same (ap side_ok q.1.0) (ap side_ok q.1.1.0)) (ap ctu_ok q.1.1.1) ∙ g);
+      few = few;
+    }
+
 pub joinable : (r s : Report) → join_no r s ≡ 0 → Joinable r s
 unfolding join_no
 joinable r s e =
@@ -250,3 +262,19 @@ pub join_fits : (r s : Report) → join_no r s ≡ 0 → (m : ℕ) → (get_or r
 join_fits r s e m =
     let j = joinable r s e in
     sum_fits r (tally_of s) j.first_keeps (join_modest r s j) j.depth j.picture j.few m
+
+-- the sum, list by list
+pub added_same : (r s : Report) {a b c : List ℕ} → a ≡ raised (λ m. get_or s.blocks m 0) r.blocks
+    → b ≡ raised (λ m. get_or s.samples m 0) r.samples → c ≡ raised (λ m. get_or s.squares m 0) r.squares
+    → record { bits = r.bits; frame = r.frame; pairs = r.pairs + s.pairs; blocks = a; samples = b; squares = c } ≡ tallied r (tally_of s)
+unfolding made
+added_same r s x y z = made_same r refl x y z
+
+-- the two ways of a sum
+pub joined_not : (r s : Report) {k : ℕ} → k ≡ join_no r s → (k ≡ 0 → ⊥) → record { no = k; next = r } ≡ join_reports r s
+unfolding join_reports
+joined_not r s e d = ap₂ (λ (n : ℕ) (x : Report). record { no = n; next = x }) e (unserved (join_no r s) _ r (λ z. d (e ∙ z)))
+
+pub joined_so : (r s : Report) → join_no r s ≡ 0 → {x : Report} → x ≡ tallied r (tally_of s) → record { no = 0; next = x } ≡ join_reports r s
+unfolding join_reports
+joined_so r s e q = ap₂ (λ (n : ℕ) (y : Report). record { no = n; next = y }) (sym e) (q ∙ worked (join_no r s) _ r e)

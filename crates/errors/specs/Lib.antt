@@ -9,6 +9,8 @@ pub mod Limits
 pub mod Added
 -- Blocks: a pair block by block.
 pub mod Blocks
+-- Listed: a pair under a plan of records, block by block.
+pub mod Listed
 -- RecordBytes: a report as bytes, with RecordLaws, how it is read and stored.
 pub mod RecordBytes
 pub mod RecordLaws

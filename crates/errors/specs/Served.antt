@@ -1,8 +1,8 @@
 -- What a pair that is counted rests on: the numbers of its report, its planes and its plan, as facts. Rests on what a verdict tells.
-use Rattle.std.specs.Prelude.{◌≡◌, refl, Bool, true, false, cond, ◌&&◌, List, [], ◌∷◌, ℕ, ◌+◌, ◌-◌, ◌*◌, ◌^◌, ◌≤◌, ◌<◌, ltb, eqb, length, get_or, set}
-use Rattle.std.proofs.Common.{ap, ◌∙◌, arith, mul-le-mul_right, ltb-true, eqb-true, eq-eqb}
+use Rattle.std.specs.Prelude.{◌≡◌, refl, Bool, true, false, cond, ◌&&◌, List, [], ◌∷◌, ℕ, suc, ◌+◌, ◌-◌, ◌*◌, ◌^◌, ◌≤◌, ◌<◌, ltb, eqb, length, get_or, set}
+use Rattle.std.proofs.Common.{sym, ap, ap₂, ◌∙◌, arith, mul-le-mul_right, mul-le-mul, ltb-true, eqb-true, eq-eqb}
 use Rattle.std.proofs.lemmas.Bool.{eqb-false}
-use Rattle.laws.specs.Choose.{◌unless◌, first_fail, passed, both_true, both_same}
+use Rattle.laws.specs.Choose.{◌unless◌, first_fail, served, worked, unserved, passed, both_true, both_same}
 use Rattle.laws.specs.Every.{most_at}
 use Rattle.domain.specs.Domain.{depth_ok}
 use Rattle.domain.specs.Facts.{Depth, Size, depth_of, at_depth, size_small}
@@ -17,6 +17,7 @@ use Rattle.plan.specs.tiling.Plan.{Plan}
 use Rattle.plan.specs.tiling.PlanCheck.{plan_verdict}
 use Rattle.plan.specs.tiling.Verdict.{Accepted, verdict_good}
 use Rattle.errors.specs.declared.Report.{Report}
+use Rattle.errors.specs.Errors.{Tally, tallied, counted_by}
 use Rattle.errors.specs.Errors.{plane_area, top_of, at_most, keeps_limits, room_for_pair, pair_no, settle_full, pair_verdict}
 
 -- samples of a depth
@@ -49,6 +50,14 @@ pub record RoomFor (blocks samples squares : List ℕ) (t : Block) (more : ℕ) 
   pub for_block : get_or blocks t.mode 0 + 1 < 18446744073709551616
   pub for_samples : get_or samples t.mode 0 + t.side * t.side < 18446744073709551616
   pub for_squares : get_or squares t.mode 0 + more < 18446744073709551616
+
+-- a row of a block lies in the plane too
+pub row_within : {width : ℕ} {t : Block} {entries : ℕ} → BlockWithin width t entries → (r : ℕ) → r < t.side
+    → ((t.row + r) * width ≤ 16777216) × ((t.row + r) * width + t.col + t.side ≤ entries)
+row_within {width} {t} {entries} w r h =
+    let a = mul-le-mul_right width (let l : suc (t.row + r) ≤ t.row + t.side = omega arith in l) in
+    let b = mul-le-mul (let l : t.row + r ≤ 4096 = omega (arith, w.down) in l) w.narrow in
+    (omega (arith, b), omega (arith, a, w.inside, w.across))
 
 pub side_small : {a b : List ℕ} {width : ℕ} {t : Block} → BlockPair a b width t → t.side ≤ 32
 side_small {t = t} p = (size_small t.side p.in_a.size).1
@@ -137,6 +146,23 @@ by_top r fit a b {x} {y} {largest} is e q =
     unlooked (depth_ok r.bits) (picture_ok (picture_of r.frame)) fit (x && y) (at_most (top_of r) a && at_most (top_of r) b)
     (λ d. let t = is ∙ largest_of_is r.bits (depth_of r.bits d) in
     both_same (e ∙ ap (λ (m : ℕ). at_most m a) t) (q ∙ ap (λ (m : ℕ). at_most m b) t))
+
+-- the two ways of a call
+pub counted_not : (r : Report) (v : Verdict) (t : Tally) {w : Verdict} → w ≡ v → (w.no ≡ 0 → ⊥)
+    → record { no = w.no; block = w.block; next = r } ≡ counted_by r v t
+unfolding counted_by
+counted_not r v t {w} e d =
+    ap (λ (u : Verdict). record { no = u.no; block = u.block; next = r }) e
+    ∙ ap (λ (x : Report). record { no = v.no; block = v.block; next = x })
+    (unserved v.no (tallied r t) r (λ z. d (ap (λ (u : Verdict). u.no) e ∙ z)))
+
+pub counted_so : (r : Report) (v : Verdict) (t : Tally) {w : Verdict} → w ≡ v → w.no ≡ 0 → v.block ≡ 0 → {x : Report} → x ≡ tallied r t
+    → record { no = 0; block = 0; next = x } ≡ counted_by r v t
+unfolding counted_by
+counted_so r v t {w} e z b {x} is =
+    let n = sym (ap (λ (u : Verdict). u.no) e) ∙ z in
+    ap (λ (y : Report). record { no = 0; block = 0; next = y }) (is ∙ worked v.no (tallied r t) r n)
+    ∙ ap₂ (λ (k m : ℕ). record { no = k; block = m; next = served v.no (tallied r t) r }) (sym n) (sym b)
 
 -- a counted pair is about no block
 no_block : (early : ℕ) (found : Verdict) (room : Bool) → (settle_full early found room).no ≡ 0 → (settle_full early found room).block ≡ 0

@@ -15,6 +15,7 @@ use Rattle.walk.specs.Lent.{scratch_tables}
 use Rattle.walk.specs.calls.Places.{place_in}
 use Rattle.report.specs.sums.Sums.{absolutes}
 use Rattle.report.specs.text.Text.{block_line}
+use Rattle.report.specs.text.Laid.{Laid, then, said}
 use Rattle.report.specs.Told.{Job, none_done, lines}
 
 -- a plan whose blocks have their residuals among so many, and of which the text has room
@@ -40,6 +41,21 @@ pub lines_more : (plan : ℕ → Block) (v : List ℤ) (k : ℕ) {sum : ℕ} {x 
     → sum ≡ absolutes v (place plan k) ((plan k).side * (plan k).side) → y ≡ x ++ block_line (plan k) sum → y ≡ lines plan v (k + 1)
 unfolding lines
 lines_more plan v k before s this = rw add-one (this ∙ ap₂ (λ (c : List ℕ) (n : ℕ). c ++ block_line (plan k) n) before s)
+
+-- the same in a buffer
+module _ (plan : Plan) (v : List ℤ) (ok : Listed plan (length v)) (k at : ℕ) (b : Block) (l : k < plan.count)
+    (e : at ≡ place plan.block k) (q : b ≡ plan.block k) where
+  pub next_line : {p r sum : ℕ} {d x y : List ℕ} → Laid 0 (lines plan.block v k) d x p (105 * k) → sum
+      ≡ absolutes v at (b.side * b.side)
+      → Laid p (block_line b sum) x y r 105 → 105 * k ≤ length d → Laid 0 (lines plan.block v (k + 1)) d y r (105 * (k + 1))
+  next_line {p} {r} {sum} {d} {x} {y} before s this h =
+      let t : block_line b sum ≡ block_line (plan.block k)
+      (absolutes v (place plan.block k) ((plan.block k).side * (plan.block k).side)) =
+      ap (block_line b) (s ∙ ap (λ (i : ℕ). absolutes v i (b.side * b.side)) e)
+      ∙ ap (λ (u : Block). block_line u (absolutes v (place plan.block k) (u.side * u.side))) q in
+      said _ _ (then before this (omega arith))
+      (ap (λ (u : List ℕ). lines plan.block v k ++ u) t ∙ lines_more plan.block v k refl refl refl)
+      (omega arith)
 
 -- what the walk gives: its number, the block of a refusal, and the residuals
 pub record WholeWalk (j : Job) (w x : World) (r : Stepped) : Type 0 where

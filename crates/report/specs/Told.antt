@@ -1,5 +1,7 @@
 -- Document 01, 'The program': what it prints, from the walk of the still and from the replay of its residuals over zeros. Assumes nothing.
 use Rattle.std.specs.Prelude.{ℕ, zero, suc, ◌*◌, cond, List, [], ◌++◌, eqb, ℤ, pos, length, replicate}
+use Rattle.std.specs.Borrow.{Bor}
+use denote.Triple.Both.{Both}
 use Rattle.plan.specs.Answers.{Verdict}
 use Rattle.plan.specs.declared.tiling.Block.{Block}
 use Rattle.plan.specs.tiling.Tiling.{place}
@@ -7,7 +9,7 @@ use Rattle.plan.specs.tiling.Plan.{Plan, listed}
 use Rattle.walk.specs.declared.checks.Still.{Still}
 use Rattle.walk.specs.declared.Progress.{Progress}
 use Rattle.walk.specs.block.Walked.{World}
-use Rattle.walk.specs.Lent.{scratch_tables}
+use Rattle.walk.specs.Lent.{scratch_tables, lent_plan}
 use Rattle.walk.specs.calls.Door.{walk_verdict, walk_after, replay_after}
 use Rattle.report.specs.declared.Job.{Job as Held}
 use Rattle.report.specs.declared.Printout.{Printout}
@@ -25,6 +27,13 @@ pub record Job : Type 0 where
 -- the same as the program holds it
 abbrev pub held_job : Held → Job
 held_job h = record { still = h.still; plan = listed h.plan.now; source = h.source.now }
+
+-- the same in a still and lent slices, as they stand in an `ensures`
+abbrev pub Numbers : Type 0
+Numbers = Both (Bor (List ℕ)) (Bor (List ℕ))
+
+abbrev pub lent_job : Still → Numbers → Numbers → Numbers → Numbers → Numbers → Job
+lent_job still rows cols sides modes source = record { still = still; plan = lent_plan rows cols sides modes; source = source.entry.now }
 
 -- the still that a trailer names
 abbrev pub still_in : Trailer → Still

@@ -136,7 +136,19 @@ fill_long f k m z {d} e h =
     let l : length d ≡ m = ap length e ∙ length_fill f k (replicate m z) ∙ length-replicate m z in
     sym (length-take-le k d (omega (arith, l)))
 
+pub part_long : {A : Type 0} (n : ℕ) (d : List A) {m : ℕ} → length d ≡ m → n ≤ m → n ≡ length (take n d)
+part_long n d e h = sym (length-take-le n d (omega arith))
+
+pub zeros_long : {A : Type 0} (n m : ℕ) (z : A) {d : List A} → d ≡ replicate m z → n ≤ m → n ≡ length (take n d)
+zeros_long n m z {d} e h = part_long n d (ap length e ∙ length-replicate m z) h
+
+pub fill_room : {A : Type 0} (f : ℕ → A) (k m n : ℕ) (z : A) {d : List A} → d ≡ fill f k (replicate m z) → n ≤ m → n ≤ length d
+fill_room f k m n z {d} e h = omega (arith, ap length e ∙ length_fill f k (replicate m z) ∙ length-replicate m z)
+
 -- parts of arrays of zeros
+take_zeros : {A : Type 0} (n m : ℕ) (z : A) → n ≤ m → take n (replicate m z) ≡ replicate n z
+take_zeros n m z h = take-replicate n m z h
+
 pub blank_part : {f : List ℕ} (s : Still) (t : Trailer) (n blocks : ℕ) → GoodFile f t → s ≡ still_in t → n ≡ area_of t → blocks ≡ t.blocks
     → let plane : List ℕ = take n (replicate 8192 0) in
     Blank s blocks (record { work = plane; residuals = take n (replicate 8192 (pos 0)) }) plane

@@ -1,3 +1,4 @@
--- Text: the lines that are printed, and text laid over a buffer. Laws: what joins the functions that lay it.
+-- Text: the lines that are printed, and text laid over a buffer. Laws: the kit's digits. Laid: one text laid after the other.
 pub mod Text
 pub mod Laws
+pub mod Laid

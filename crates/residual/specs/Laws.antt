@@ -1,16 +1,16 @@
 -- Residuals one after the other, and how the tests are taken apart. Assumes nothing.
-use Rattle.std.specs.Prelude.{◌≡◌, ℕ, zero, suc, ◌+◌, ◌*◌, ◌<◌, ◌≤◌, Bool, true, ◌&&◌, leb, List, length, get_or, take, replicate, ℤ, pos, bit_or, nat_le, slice_index_or, unsigned_abs, refl}
+use Rattle.std.specs.Prelude.{◌≡◌, ℕ, zero, suc, ◌+◌, ◌*◌, ◌<◌, ◌≤◌, Bool, true, false, ◌&&◌, leb, List, [], ◌∷◌, length, get_or, take, replicate, ℤ, pos, ◌≢◌, bit_or, nat_le, slice_index_or, unsigned_abs, refl}
 use Rattle.std.proofs.Common.{ap, ◌∙◌, ⊎_elim, not-suc-le-zero, eq-or-lt_of_le, le_of_suc-le-suc, add-one, arith, leb-true}
 use Rattle.std.specs.Int.Bits.{or_add_and}
 use Rattle.std.proofs.lemmas.Nat.{and_le_l, and_le_r}
 use Rattle.std.proofs.lemmas.List.{length-replicate, length-take-le, get_or-take}
 use Rattle.laws.specs.Fill.{fill, run}
 use Rattle.laws.specs.FillLaws.{fill_at, fill_run}
-use Rattle.laws.specs.Choose.{passed, both_true}
+use Rattle.laws.specs.Choose.{Check, ◌unless◌, first_fail, passed, both_true}
 use Rattle.domain.specs.Domain.{depth_ok, size_ok}
 use Rattle.domain.specs.Facts.{Depth, Size, depth_of, size_of}
 use Rattle.samples.specs.deltas.Deltas.{residual_ok}
-use Rattle.residual.specs.Residual.{all_in_range, residual_no, reconstruct_no}
+use Rattle.residual.specs.Residual.{all_in_range, block_checks, residual_no, reconstruct_no}
 
 -- nothing laid over nothing
 pub both_none : (a b : ℕ) → bit_or a b ≡ 0 → (a ≡ 0) × (b ≡ 0)
@@ -68,6 +68,29 @@ runs_fit n a b c e runs q h =
     let y = leb-true k b one.1 in
     let z = leb-true k c two.1 in
     record { few = h; first = omega arith; second = omega arith; third = omega arith }
+
+-- the checks of the buffers, and those after them
+abbrev both : Bool → Bool → List Check → ℕ
+both s l more = first_fail ((2 unless s) ∷ (5 unless l) ∷ more)
+
+stops : (s l : Bool) (more : List Check) → (both s l [] ≢ 0) → both s l [] ≡ both s l more
+stops true true more h = absurd (h refl)
+stops true false more h = refl
+stops false l more h = refl
+
+goes : (s l : Bool) (more : List Check) → both s l [] ≡ 0 → first_fail more ≡ both s l more
+goes true true more e = refl
+goes true false more e = absurd (omega arith)
+goes false l more e = absurd (omega arith)
+
+module _ (n a b c : ℕ) (more : List Check) where
+  pub first_stops : (residual_no n a b c ≢ 0) → residual_no n a b c ≡ first_fail (block_checks n a b c more)
+  unfolding residual_no
+  first_stops h = stops (size_ok n) (nat_le (n * n) a && nat_le (n * n) b && nat_le (n * n) c) more h
+
+  pub first_goes : residual_no n a b c ≡ 0 → first_fail more ≡ first_fail (block_checks n a b c more)
+  unfolding residual_no
+  first_goes e = goes (size_ok n) (nat_le (n * n) a && nat_le (n * n) b && nat_le (n * n) c) more e
 
 -- a reconstruction that is not refused
 pub record ReconstructReady (bits n pred : ℕ) (rs : List ℤ) (out : ℕ) : Type 0 where

@@ -1,9 +1,10 @@
 -- What the code reads of a plane around a block, and that the rows made of it are the gather's. Assumes nothing.
-use Rattle.std.specs.Prelude.{◌≡◌, true, List, ℕ, ◌+◌, ◌-◌, ◌*◌, ◌≤◌, ◌<◌, length, replicate}
-use Rattle.std.proofs.Common.{sym, ap, ap₂, ◌∙◌}
+use Rattle.std.specs.Prelude.{◌≡◌, refl, true, List, ℕ, ◌+◌, ◌-◌, ◌*◌, ◌≤◌, ◌<◌, length, set, replicate}
+use Rattle.std.proofs.Common.{sym, ap, ap₂, ◌∙◌, arith}
 use Rattle.std.proofs.Math.Path.{subst}
 use Rattle.laws.specs.Choose.{if_yes}
 use Rattle.laws.specs.Fill.{fill, run}
+use Rattle.laws.specs.FillLaws.{run_none, run_more}
 use Rattle.order.specs.declared.Reach.{Reach}
 use Rattle.domain.specs.declared.rows.Rows.{Rows}
 use Rattle.domain.specs.rows.Neighbours.{level_rows}
@@ -23,7 +24,15 @@ edge_in plane e n = padded_edge (2 * n + 1) e.have (on_edge plane e.at e.step) e
 abbrev pub read_edge : List ℕ → Border → ℕ → List ℕ → List ℕ
 read_edge plane e n row = padded (2 * n + 1) e.have e.rest (fill (on_edge plane e.at e.step) e.have row)
 
--- both steps of it
+-- a loop that goes on where another ended: none, one entry more, and all
+pub rest_none : (v k : ℕ) (d : List ℕ) → d ≡ run (λ j. v) k (k - k) d
+rest_none v k d = run_none (λ j. v) k d ∙ ap (λ (m : ℕ). run (λ (j : ℕ). v) k m d) (let q : 0 ≡ k - k = omega arith in q)
+
+pub rest_more : (v k i : ℕ) (d : List ℕ) {e : List ℕ} → k ≤ i → e ≡ run (λ j. v) k (i - k) d → set e i v ≡ run (λ j. v) k (i + 1 - k) d
+rest_more v k i d {e} h p =
+    ap (λ (j : ℕ). set e j v) (let q : i ≡ k + (i - k) = omega arith in q) ∙ run_more (λ j. v) k d p refl
+    ∙ ap (λ (j : ℕ). run (λ (m : ℕ). v) k j d) (let q : i - k + 1 ≡ i + 1 - k = omega arith in q)
+
 pub edge_read : (plane : List ℕ) (e : Border) (n : ℕ) (d : List ℕ) {k i : ℕ} {x y : List ℕ} → k ≡ e.have → i ≡ 2 * n + 1 → x
     ≡ fill (on_edge plane e.at e.step) k d
     → y ≡ run (λ j. e.rest) k (i - k) x → y ≡ read_edge plane e n d

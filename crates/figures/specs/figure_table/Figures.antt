@@ -2,8 +2,9 @@
 -- that they are the same. What a door gives is what its contract names; rows are lent whole, 65 entries, and block buffers hold 9 before.
 -- Assumes nothing.
 use Rattle.std.specs.Prelude.{ℕ, ◌+◌, ◌*◌, ◌≡◌, refl, Bool, true, false, not, List, [], ◌∷◌, ◌++◌, map, eqb, ℤ, pos, negsuc, length, get_or, replicate, set}
+use Rattle.std.proofs.Common.{sym, ap, ◌∙◌}
 use Rattle.laws.specs.Fill.{fill, rows, block}
-use Rattle.laws.specs.Choose.{served}
+use Rattle.laws.specs.Choose.{served, worked, unserved}
 use Rattle.h265.specs.Notation.{from_rows, halvings}
 use Rattle.h265.specs.Order.{min_tb_addr_zs, z_scan, interleaved}
 use Rattle.h265.specs.Filtering as filtering
@@ -13,6 +14,7 @@ use Rattle.h265.specs.Dc.{sum_to, dc_val, dc}
 use Rattle.h265.specs.Angular.{intra_pred_angle, inv_angle, ref, project, angular}
 use Rattle.order.specs.declared.Picture.{Picture}
 use Rattle.order.specs.Order.{number_at, order_no, decode_order}
+use Rattle.smooth.specs.Answers.{Rule}
 use Rattle.smooth.specs.Smoothing.{row_of, smoothed, should_filter_refs, filter_references, filter_luma_refs}
 use Rattle.predict.specs.refusals.Refusals.{flat_no, angular_no}
 use Rattle.residual.specs.Residual.{all_in_range, reconstruct_no, reconstructed}
@@ -44,6 +46,10 @@ angular_block mode edge corner above left =
     served (angular_no 8 4 mode (record { above = length above; left = length left; pred = 16; refs = 193; indices = 32; fractions = 32 }))
     (block (λ (y x : ℕ). angular 8 edge 4 mode (from_rows corner above left) x y) 4 blank) blank
 
+-- what is left by the number that a call gave is what is left by the number that its contract names
+pub by_number : (work : List ℕ) {k n : ℕ} {left : List ℕ} → k ≡ n → left ≡ served k work blank → left ≡ served n work blank
+by_number work e h = h ∙ ap (λ (k : ℕ). served k work blank) e
+
 -- the sample in a row and a column of a block of 4
 abbrev at : List ℕ → ℕ → ℕ → ℕ
 at b row col = get_or b (row * 4 + col) 0
@@ -69,6 +75,13 @@ bit false = 0
 -- whether a mode is smoothed; 2 would be a refused call
 abbrev pub smooths_at : ℕ → ℕ → ℕ
 smooths_at n mode = served (should_filter_refs mode n).no (bit (should_filter_refs mode n).yes) 2
+
+pub smooths_refused : {a : Rule} (n mode : ℕ) → a ≡ should_filter_refs mode n → ¬ (a.no ≡ 0) → 2 ≡ smooths_at n mode
+smooths_refused n mode e h = unserved (should_filter_refs mode n).no _ 2 (λ z. h (ap (λ (r : Rule). r.no) e ∙ z))
+
+pub smooths_told : {a : Rule} (n mode : ℕ) → a ≡ should_filter_refs mode n → a.no ≡ 0 → bit a.yes ≡ smooths_at n mode
+smooths_told n mode e z =
+    ap (λ (r : Rule). bit r.yes) e ∙ worked (should_filter_refs mode n).no _ 2 (sym (ap (λ (r : Rule). r.no) e) ∙ z)
 
 -- P8's row: 100 up to entry 62, then the entry given; entry 31 of the smoothed row above, and whether it is another than the ordinary form
 -- gives

@@ -33,6 +33,9 @@ paired_none s d = record { is = fill_none _ _; small = λ h. absurd (omega arith
 pub paired_more : (s d : List ℕ) {i v : ℕ} {e : List ℕ} → Paired s i d e → v ≡ pair_of s i → Below s → Paired s (i + 1) d (set e i v)
 paired_more s d p q b = record { is = fill_more (pair_of s) d p.is q; small = λ h. b }
 
+pub paired_done : (s d : List ℕ) {i k : ℕ} {e : List ℕ} → i ≤ k → k ≤ i → Paired s i d e → Paired s k d e
+paired_done s d {i} {k} {e} p q h = subst (λ (m : ℕ). Paired s m d e) (let r : i ≡ k = omega arith in r) h
+
 -- half j of a list of such numbers
 abbrev pub half_of : List ℕ → ℕ → ℕ
 half_of w j = get_or w (j / 2) 0 / 65536 ^ (j % 2) % 65536

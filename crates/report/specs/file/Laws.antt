@@ -1,7 +1,7 @@
--- Little-endian numbers of two bytes and of four, as the kit reads them. Assumes nothing.
-use Rattle.std.specs.Prelude.{◌≡◌, List, [], ◌∷◌, ℕ, ◌+◌, get_or}
+-- Little-endian numbers of two bytes and of four, as the kit reads them, and the area of two sides of 16 bits. Assumes nothing.
+use Rattle.std.specs.Prelude.{◌≡◌, List, [], ◌∷◌, ℕ, ◌+◌, ◌*◌, ◌≤◌, ◌<◌, get_or}
 use Rattle.std.specs.Int.{w16, w32, from_le_bytes}
-use Rattle.std.proofs.Common.{ap, arith}
+use Rattle.std.proofs.Common.{ap, mul-le-mul, arith}
 use Rattle.laws.specs.Bytes.{le_at}
 
 pub le_two : (b : List ℕ) (i : ℕ) → from_le_bytes w16 (get_or b i 0 ∷ get_or b (i + 1) 0 ∷ []) ≡ le_at 2 b i
@@ -15,3 +15,6 @@ le_four b i =
     let two : i + 1 + 1 ≡ i + 2 = omega arith in
     let three : i + 1 + 1 + 1 ≡ i + 3 = omega arith in
     omega (arith, ap (λ (k : ℕ). get_or b k 0) two, ap (λ (k : ℕ). get_or b k 0) three)
+
+pub sides_small : (h w : ℕ) → h < 65536 → w < 65536 → h * w < 4294967296
+sides_small h w p q = let a : h ≤ 65535 = omega arith in let b : w ≤ 65535 = omega arith in let m = mul-le-mul a b in omega (arith, m)

@@ -2,7 +2,7 @@
 use Rattle.std.specs.Prelude.{◌≡◌, refl, Bool, true, false, ◌&&◌, List, [], ◌∷◌, ◌++◌, ℕ, zero, suc, ◌+◌, ◌≤◌, eqb, ℤ, pos, nat_abs, length}
 use Rattle.std.specs.Prelude.{get_or, take, drop, sum_by}
 use Rattle.std.specs.Cmp.Lexicographic.{pointwise}
-use Rattle.std.proofs.Common.{sym, ap, ap₂, ◌∙◌, arith, length-drop, length-take-le}
+use Rattle.std.proofs.Common.{sym, ap, ap₂, ◌∙◌, add-one, arith, length-drop, length-take-le}
 use Rattle.std.proofs.Math.Seq.{take-suc, take-length}
 use Rattle.std.proofs.lemmas.List.{get_or-drop}
 use Rattle.std.proofs.lemmas.List.Sums.{sum_by_push}
@@ -17,6 +17,15 @@ sum_is v at (suc k) h =
     ap (sum_by nat_abs) (take-suc rest k (pos 0) (omega (arith, length-drop at v)))
     ∙ sum_by_push nat_abs (take k rest) (get_or rest k (pos 0))
     ∙ ap₂ (λ (s : ℕ) (r : ℤ). s + nat_abs r) (sum_is v at k (omega arith)) (get_or-drop at v k (pos 0))
+
+-- planes that agree so far
+pub agree_none : (a b : List ℕ) → true ≡ agree a b 0
+unfolding agree
+agree_none a b = refl
+
+pub agree_more : (a b : List ℕ) (i : ℕ) {t : Bool} → t ≡ agree a b i → (t && eqb (get_or a i 0) (get_or b i 0)) ≡ agree a b (i + 1)
+unfolding agree
+agree_more a b i e = rw (add-one, e)
 
 -- planes compared entry by entry, from the front and from the back
 and_true : (t : Bool) → t && true ≡ t
