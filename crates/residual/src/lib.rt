@@ -102,10 +102,11 @@ fn all_in_range(residual: &[i32]) -> bool
 }
 
 // What r + 32768 has above its 16 low bits: 0 where r fits an i16, and then it is in range.
+#[tactic(auto, unfolding(crate::specs::Narrow::high_part))]
 fn high_part(r: i32) -> u16
     ensures { result ≡ high_part r }
 {
-    (std::num::wrapping_add_u32(deltas::raised(r), 2147516416) / 65536) as u16
+    (deltas::raised(r).wrapping_add(2147516416) / 65536) as u16
 }
 
 // The high parts of residuals, one laid over the other.
