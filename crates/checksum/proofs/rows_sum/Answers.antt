@@ -19,7 +19,8 @@ row_sum-more-requires g c = let r = c.args.r in
     let f = fine _ _ _ c.requires in
     let n = r.height * r.width in
     let i : y * r.width + r.width ≤ length (g.S.Samples.list c.args.plane) =
-    row_in r _ _ _ c.requires (λ e. g.met.S.Samples.whole c.args.plane n (both_true c.args.roomy (g.S.Samples.exactly c.args.plane n) e).1) y c.loop-y-test.true in
+    row_in r _ _ _ c.requires
+    (λ e. g.met.S.Samples.whole c.args.plane n (both_true c.args.roomy (g.S.Samples.exactly c.args.plane n) e).1) y c.loop-y-test.true in
     (row_low f y c.loop-y-test.true, i, f.narrow)
 
 pub loop-y-preserved : goal.loop-y-preserved
