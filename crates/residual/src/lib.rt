@@ -2,14 +2,13 @@
 // (deltas) and the helpers.
 #![tactic(auto)]
 
-ghost use Rattle.std.specs.Prelude.{◌≡◌, ℕ, ◌+◌, ◌*◌, ◌<◌, ◌≤◌, true, length, get_or, replicate, pos, ◌+ℤ◌, slice_index, slice_index_or, unsigned_abs};
-ghost use Rattle.laws.specs.Fill.{fill, run};
+ghost use Rattle.std.specs.Prelude.{◌≡◌, ℕ, ◌*◌, ◌<◌, ◌≤◌, true, length, pos, ◌+ℤ◌, slice_index_or, unsigned_abs};
+ghost use Rattle.laws.specs.Fill.{fill};
 ghost use Rattle.h265.specs.Notation.{clip_to};
 ghost use Rattle.domain.specs.Facts.{Size};
 ghost use Rattle.domain.specs.Refusal.{no_of};
 ghost use Rattle.residual.specs.Residual.{difference_at, rebuilt_to, all_in_range, residual_no, reconstruct_no, residuals_after};
 ghost use Rattle.residual.specs.Residual.{reconstructed};
-ghost use Rattle.residual.specs.Laws.{RunsFit};
 ghost use Rattle.residual.specs.Narrow.{high_part};
 
 use domain::helpers;
