@@ -13,7 +13,6 @@ ghost use Rattle.checksum.specs.Answers.{answered};
 ghost use Rattle.checksum.specs.Checksum.{sample_in_plane, checksum_no_by, checksum_no, summed_by, checksum_of};
 ghost use Rattle.checksum.specs.Laws.{sample_adds, column_adds};
 
-use domain::helpers;
 use domain::refusal::Refusal;
 use fmt::depth;
 use octets::lent;
@@ -30,6 +29,7 @@ pub struct RowRange {
 }
 
 // The mask of column x and row y.
+#[tactic(auto, using(crate::specs::Laws::mask_small), unfolding(h265::specs::Checksum::xor_mask))]
 fn xor_mask(x: u16, y: u16) -> u16
     ensures { (result ≡ xor_mask x y) × (result < 256) }
 {
@@ -47,6 +47,7 @@ fn added_by(v: u16, mask: u16, wide: bool) -> u16
 }
 
 // What a stretch of a row adds, from column x on: 128 samples at most, so that 16 bits hold it.
+#[tactic(auto, using(laws::specs::Sum::total_none, laws::specs::Sum::total_more))]
 fn stretch_sum<S: Samples>(plane: S, at: usize, x: u16, count: u16, y: u16, wide: bool) -> u16
     requires { (at ≤ 4096 * 4096) × (at + (x + count) ≤ length (S.list plane)) × (x + count ≤ 4096) × (count ≤ 128) }
     ensures { (result ≡ total (λ (i : ℕ). column_adds wide (λ (k : ℕ). get_or (S.list plane) (at + k) 0) y (x + i)) count)
@@ -69,7 +70,7 @@ fn row_sum<S: Samples>(plane: S, at: usize, width: u32, y: u16, wide: bool) -> u
 {
     let mut sum = 0;
     for x in (0..width).step_by(128) {
-        let count = helpers::min(width - x, 128);
+        let count = (width - x).min(128);
         let more = stretch_sum(plane, at, x as u16, count as u16, y, wide);
         sum += more as u32;
     }
@@ -87,7 +88,7 @@ fn rows_sum<S: Samples>(plane: S, r: RowRange, roomy: bool, sum: u32) -> u32
     let mut sum = sum;
     for y in r.first..r.end {
         let more = row_sum(plane, (y as usize) * across, r.width, y as u16, wide);
-        sum = std::num::wrapping_add_u32(sum, more);
+        sum = sum.wrapping_add(more);
     }
     sum
 }

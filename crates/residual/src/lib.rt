@@ -2,14 +2,13 @@
 // (deltas) and the helpers.
 #![tactic(auto)]
 
-ghost use Rattle.std.specs.Prelude.{◌≡◌, ℕ, ◌+◌, ◌*◌, ◌<◌, ◌≤◌, true, length, get_or, replicate, pos, ◌+ℤ◌, slice_index, slice_index_or, unsigned_abs};
-ghost use Rattle.laws.specs.Fill.{fill, run};
+ghost use Rattle.std.specs.Prelude.{◌≡◌, ℕ, ◌*◌, ◌<◌, ◌≤◌, true, length, pos, ◌+ℤ◌, slice_index_or, unsigned_abs};
+ghost use Rattle.laws.specs.Fill.{fill};
 ghost use Rattle.h265.specs.Notation.{clip_to};
 ghost use Rattle.domain.specs.Facts.{Size};
 ghost use Rattle.domain.specs.Refusal.{no_of};
 ghost use Rattle.residual.specs.Residual.{difference_at, rebuilt_to, all_in_range, residual_no, reconstruct_no, residuals_after};
 ghost use Rattle.residual.specs.Residual.{reconstructed};
-ghost use Rattle.residual.specs.Laws.{RunsFit};
 ghost use Rattle.residual.specs.Narrow.{high_part};
 
 use domain::helpers;
@@ -102,10 +101,11 @@ fn all_in_range(residual: &[i32]) -> bool
 }
 
 // What r + 32768 has above its 16 low bits: 0 where r fits an i16, and then it is in range.
+#[tactic(auto, unfolding(crate::specs::Narrow::high_part))]
 fn high_part(r: i32) -> u16
     ensures { result ≡ high_part r }
 {
-    (std::num::wrapping_add_u32(deltas::raised(r), 2147516416) / 65536) as u16
+    (deltas::raised(r).wrapping_add(2147516416) / 65536) as u16
 }
 
 // The high parts of residuals, one laid over the other.

@@ -1,5 +1,5 @@
 -- The rows one after the other. Assumes nothing.
-use Rattle.std.proofs.Common.{◌≡◌, ◌*◌, ◌≤◌, ◌+◌, length, mod-lt, arith}
+use Rattle.std.proofs.Common.{◌≡◌, ◌*◌, ◌≤◌, ◌+◌, length, mod-lt, arith, refl}
 use Rattle.laws.specs.Choose.{both_true}
 use Rattle.checksum.specs.Checksum.{sample_in_plane}
 use Rattle.checksum.specs.Served.{fine, row_low, row_in}
@@ -19,16 +19,16 @@ row_sum-more-requires g c = let r = c.args.r in
     let f = fine _ _ _ c.requires in
     let n = r.height * r.width in
     let i : y * r.width + r.width ≤ length (g.S.Samples.list c.args.plane) =
-    row_in r _ _ _ c.requires (λ e. g.met.S.Samples.whole c.args.plane n (both_true c.args.roomy (g.S.Samples.exactly c.args.plane n) e).1) y c.loop-y-test.true in
+    row_in r _ _ _ c.requires
+    (λ e. g.met.S.Samples.whole c.args.plane n (both_true c.args.roomy (g.S.Samples.exactly c.args.plane n) e).1) y c.loop-y-test.true in
     (row_low f y c.loop-y-test.true, i, f.narrow)
 
 pub loop-y-preserved : goal.loop-y-preserved
 loop-y-preserved g c = let a = c.args in
-    let l = c.loop-y in
-    let e = c.wrapping_add_u32-sum.ensures.value in (
-      rw e (mod-lt (l.sum + c.row_sum-more.result) (omega arith)),
+    let l = c.loop-y in (
+      mod-lt (l.sum + c.row_sum-more.result) (omega arith),
       rows_more a.r.bits (sample_in_plane (g.S.Samples.list a.plane) a.r.width) a.r.width a.r.first a.sum l.y l.auto.y
-          l.invariant.0 l.invariant.1 c.row_sum-more.ensures e,
+          l.invariant.0 l.invariant.1 c.row_sum-more.ensures refl,
     )
 
 pub returns : goal.returns

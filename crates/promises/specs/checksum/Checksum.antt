@@ -49,7 +49,8 @@ pub record ChecksumPromise : Type 1 where
   pub standard_bytes : (κ : Lfts 1) (plane : LentSlice) (bits width height : ℕ) (roomy : Bool) (v : Result ℕ Refusal)
       → SumsBytes κ plane (row_range bits width height 0 height) 0 roomy v
       → (answered v).sum ≡ picture_checksum bits (sample_in_plane (samples_of plane.now) width) width height
-  pub split_bytes : (κ λ' μ : Lfts 1) (plane : LentSlice) (bits width height a b c sum : ℕ) (roomy : Bool) (upper lower whole : Result ℕ Refusal)
+  pub split_bytes : (κ λ' μ : Lfts 1) (plane : LentSlice) (bits width height a b c sum : ℕ) (roomy : Bool)
+      (upper lower whole : Result ℕ Refusal)
       → SumsBytes κ plane (row_range bits width height a b) sum roomy upper
       → SumsBytes λ' plane (row_range bits width height b c) (answered upper).sum roomy lower
       → SumsBytes μ plane (row_range bits width height a c) sum roomy whole

@@ -19,7 +19,9 @@ runs_of-requires c = size_fits _ _ _ _ (sym c.in_ok-check_block.ensures)
 
 pub fill_runs-requires : goal.fill_runs-requires
 fill_runs-requires c = let a = c.args in
-    let f = runs_fit a.n (length a.orig.now) (length a.pred.now) (length a.residual.now) (sym c.in_ok-check_block.ensures) c.runs_of.result c.runs_of.ensures.0 c.runs_of.ensures.1 in
+    let k = c.runs_of.ensures in
+    let z = sym c.in_ok-check_block.ensures in
+    let f = runs_fit a.n (length a.orig.now) (length a.pred.now) (length a.residual.now) z c.runs_of.result k.0 k.1 in
     record { fits = (f.few, f.third); callable = λ i h. (omega (arith, h, f.first), omega (arith, h, f.second)) }
 
 pub returns : goal.returns

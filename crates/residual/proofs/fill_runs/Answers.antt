@@ -12,7 +12,8 @@ pub loop-j-init : goal.loop-j-init
 loop-j-init g c = λ f says. fill_none _ _
 
 pub loop-j-preserved : goal.loop-j-preserved
-loop-j-preserved g c = λ f says. fill_more _ _ (c.loop-j.invariant f says) (says (c.loop-r.r * 16 + c.loop-j.j) c.entry.result (omega arith) c.entry.ensures)
+loop-j-preserved g c = λ f says.
+    fill_more _ _ (c.loop-j.invariant f says) (says (c.loop-r.r * 16 + c.loop-j.j) c.entry.result (omega arith) c.entry.ensures)
 
 pub loop-j-2-init : goal.loop-j-2-init
 loop-j-2-init g c = run_none _ _ _
