@@ -267,6 +267,7 @@ fn luma_rows(plane: &[u8], geo: LumaRefGeometry, s: Spot, reach: Reach) -> Rows
 }
 
 // The reference rows of a luma block.
+#[tactic(auto, unfolding(crate::specs::gather::Door::luma_bytes_door), using(domain::specs::Refused::never_0))]
 pub(crate) fn get_reference_samples(plane: &[u8], geo: LumaRefGeometry) -> Result<Rows, Refusal>
     ensures { gathered result ≡ luma_bytes_door plane.now geo }
 {

@@ -116,6 +116,7 @@ fn check_place(p: Picture, row: LumaRow, col: LumaCol) -> Result<(), Refusal>
 }
 
 // The number, in decode order, of the cell that holds a luma sample.
+#[tactic(auto, unfolding(crate::specs::Order::decode_order), using(domain::specs::Refused::never_0))]
 pub fn decode_order(r: LumaRow, c: LumaCol, picture: Picture) -> Result<u32, Refusal>
     ensures { numbered result ≡ decode_order picture r c }
 {
@@ -150,6 +151,7 @@ fn comes_before(p: Picture, limit: usize, row: i64, col: i64) -> bool
 }
 
 // Whether a luma neighbour is available to a block.
+#[tactic(auto, unfolding(crate::specs::Order::is_available), using(domain::specs::Refused::never_0))]
 pub fn is_available(
     neighbour: LumaNeighbour,
     block_row: LumaRow,
@@ -393,6 +395,7 @@ fn luma_work(b: LumaBlock) -> Reach
 }
 
 // How far the neighbours of a luma block reach that are available to it.
+#[tactic(auto, unfolding(crate::specs::Reach::luma_reach), using(domain::specs::Refused::never_0))]
 pub fn luma_reach(b: LumaBlock) -> Result<Reach, Refusal>
     ensures { reached result ≡ luma_reach b }
 {
@@ -490,6 +493,7 @@ fn chroma_work(b: ChromaBlock) -> Reach
 }
 
 // How far the neighbours of a chroma block reach that the chroma rule has for it.
+#[tactic(auto, unfolding(crate::specs::Reach::chroma_reach), using(domain::specs::Refused::never_0))]
 pub fn chroma_reach(b: ChromaBlock) -> Result<Reach, Refusal>
     ensures { reached result ≡ chroma_reach b }
 {

@@ -182,15 +182,15 @@ chroma-number whole g l el ew ek =
     ek ∙ ap₂ (gather_no g.bits) (ap (λ (q : Laid). q.reach.no) el ∙ chroma-reach-no g) ew ∙ sym (chroma-no whole g)
 
 -- so at the doors over samples, by the planes' lengths
-pub luma-door : (len : ℕ) (g : LumaRefGeometry) (l : Layout) {k : ℕ} → laid l ≡ luma_layout g
+pub luma_door : (len : ℕ) (g : LumaRefGeometry) (l : Layout) {k : ℕ} → laid l ≡ luma_layout g
     → k ≡ gather_no g.bits (no_of l.reach) (eqb len l.length) → k ≡ luma_no len g
 unfolding luma_no
-luma-door len g l el ek = luma-number (eqb len (luma_length g)) g l el (ap (λ (q : Laid). eqb len q.length) el) ek
+luma_door len g l el ek = luma-number (eqb len (luma_length g)) g l el (ap (λ (q : Laid). eqb len q.length) el) ek
 
-pub chroma-door : (cb cr : ℕ) (g : ChromaRefGeometry) (l : Layout) {k : ℕ} → laid l ≡ chroma_layout g
+pub chroma_door : (cb cr : ℕ) (g : ChromaRefGeometry) (l : Layout) {k : ℕ} → laid l ≡ chroma_layout g
     → k ≡ gather_no g.bits (no_of l.reach) (eqb cb l.length && eqb cr l.length) → k ≡ chroma_no cb cr g
 unfolding chroma_no
-chroma-door cb cr g l el ek =
+chroma_door cb cr g l el ek =
     chroma-number (eqb cb (chroma_length g) && eqb cr (chroma_length g)) g l el
     (ap (λ (q : Laid). eqb cb q.length && eqb cr q.length) el) ek
 

@@ -179,6 +179,7 @@ fn check_substitute(n: usize, bits: u32) -> Result<(), Refusal>
 }
 
 // Reference rows with the missing entries substituted (H.265 8.4.4.2.2, document 01, module 3).
+#[tactic(auto, unfolding(crate::specs::substitution::Door::substitute_refs), using(domain::specs::Refused::never_0))]
 pub fn substitute_refs(rows: Rows, flags: Flags, n: usize, bits: u32) -> Result<Rows, Refusal>
     ensures { gathered result ≡ substitute_refs rows flags n bits }
 {

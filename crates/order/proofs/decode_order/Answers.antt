@@ -1,16 +1,8 @@
 -- `order::decode_order` meets its contract: refused as its place is, or the place's own number.
-use Rattle.std.proofs.Common.{sym, arith, ne_eqb}
-use Rattle.std.proofs.lemmas.Result.{err_from_is_err_and}
-use Rattle.domain.specs.Refused.{never_0}
+use Rattle.std.proofs.Common.{sym, arith}
 use Rattle.order.specs.Order.{decode_order}
 use Rattle.order.specs.Good.{good_of, small_of, number_of, number_small}
 use Rattle.order.proofs.decode_order.Goals as goal
-
-pub returns-in_err-check_place : goal.returns-in_err-check_place
-unfolding decode_order
-returns-in_err-check_place c =
-    let p = err_from_is_err_and c.from_residual.result c.from_residual.ensures.1 in
-    rw (p.1, p.2) (simp (← c.in_err-check_place.ensures, ne_eqb _ 0 (never_0 c.in_err-check_place.field-0.0)))
 
 pub shifts_of-s-requires : goal.shifts_of-s-requires
 shifts_of-s-requires c = (good_of _ _ _ (sym c.in_ok-check_place.ensures)).0

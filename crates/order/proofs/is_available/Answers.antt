@@ -1,18 +1,9 @@
 -- `order::is_available` meets its contract: refused as the block's place is, or the neighbour held against the block's own number.
-use Rattle.std.proofs.Common.{sym, arith, to_z-of_z, ne_eqb}
-use Rattle.std.proofs.lemmas.Result.{err_from_is_err_and}
+use Rattle.std.proofs.Common.{sym, arith, to_z-of_z}
 use Rattle.std.specs.Int.{w64}
-use Rattle.domain.specs.Refused.{never_0}
 use Rattle.order.specs.Signs.{avail_is}
-use Rattle.order.specs.Order.{is_available}
 use Rattle.order.specs.Good.{good_of, small_of, number_of}
 use Rattle.order.proofs.is_available.Goals as goal
-
-pub returns-in_err-check_place : goal.returns-in_err-check_place
-unfolding is_available
-returns-in_err-check_place c =
-    let p = err_from_is_err_and c.from_residual.result c.from_residual.ensures.1 in
-    rw (p.1, p.2) (simp (← c.in_err-check_place.ensures, ne_eqb _ 0 (never_0 c.in_err-check_place.field-0.0)))
 
 pub shifts_of-requires : goal.shifts_of-requires
 shifts_of-requires c = (good_of _ _ _ (sym c.in_ok-check_place.ensures)).0
