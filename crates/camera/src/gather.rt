@@ -12,7 +12,8 @@ ghost use Rattle.order.specs.Reach.{luma_reach, chroma_reach};
 ghost use Rattle.refs.specs.Answers.{gathered, laid};
 ghost use Rattle.refs.specs.Door.{luma_block, luma_no, luma_rows, chroma_block, chroma_no, chroma_pair};
 ghost use Rattle.refs.specs.Counts.{start_of, corner_of, rest_of};
-ghost use Rattle.refs.specs.Spots.{luma_spot, chroma_spot, luma_layout, chroma_layout, on_edge, corner_on, above_on_plane, left_on, plane_rows, Reads};
+ghost use Rattle.refs.specs.Spots.{luma_spot, chroma_spot, luma_layout, chroma_layout};
+ghost use Rattle.refs.specs.Spots.{on_edge, corner_on, above_on_plane, left_on, plane_rows, Reads};
 ghost use Rattle.refs.specs.Seen.{padded};
 ghost use Rattle.camera.specs.gather.Line.{sample_byte, rows_at, room_no};
 ghost use Rattle.camera.specs.Written.{wrote};
@@ -281,7 +282,8 @@ pub(crate) fn get_reference_samples(plane: &[u8], geo: LumaRefGeometry) -> Resul
 }
 
 fn store_luma_rows(plane: &[u8], geo: LumaRefGeometry, s: Spot, reach: Reach, out: &mut [u8])
-    requires { (s ≡ luma_spot geo) × (there reach ≡ luma_reach (luma_block geo)) × (luma_no (length (samples_of plane.now)) geo ≡ 0) × (262 ≤ length out.old) }
+    requires { (s ≡ luma_spot geo) × (there reach ≡ luma_reach (luma_block geo))
+        × (luma_no (length (samples_of plane.now)) geo ≡ 0) × (262 ≤ length out.old) }
     ensures { out.new ≡ rows_at 0 (luma_rows (samples_of plane.now) geo) out.old }
 {
     let neutral = depth::neutral_of(geo.bits);
@@ -326,7 +328,9 @@ fn store_chroma_rows(
     reach: Reach,
     out: &mut [u8],
 )
-    requires { (s ≡ chroma_spot geo) × (there reach ≡ chroma_reach (chroma_block geo)) × (chroma_no (length (samples_of plane_cb.now)) (length (samples_of plane_cr.now)) geo ≡ 0) × (524 ≤ length out.old) }
+    requires { (s ≡ chroma_spot geo) × (there reach ≡ chroma_reach (chroma_block geo))
+        × (chroma_no (length (samples_of plane_cb.now)) (length (samples_of plane_cr.now)) geo ≡ 0)
+        × (524 ≤ length out.old) }
     ensures { out.new ≡ pair_at (chroma_pair (samples_of plane_cb.now) (samples_of plane_cr.now) geo) out.old }
 {
     let neutral = depth::neutral_of(geo.bits);

@@ -1,6 +1,7 @@
 -- The samples that are there, as they are read out of a plane, and the rows made of these values alone, whatever held them. Assumes
 -- nothing.
-use Rattle.std.specs.Prelude.{◌≡◌, Bool, true, false, ◌||◌, List, [], ◌∷◌, ℕ, zero, suc, ◌+◌, ◌-◌, ◌*◌, ◌≤◌, ◌<◌, ltb, length, get_or, set, replicate, take, drop}
+use Rattle.std.specs.Prelude.{◌≡◌, Bool, true, false, ◌||◌, List, [], ◌∷◌, ℕ, zero, suc, ◌+◌, ◌-◌, ◌*◌, ◌≤◌, ◌<◌, ltb}
+use Rattle.std.specs.Prelude.{length, get_or, set, replicate, take, drop}
 use Rattle.std.proofs.Math.Path.{refl, ap}
 use Rattle.std.proofs.Common.{sym, ◌∙◌, subst, lt-ltb, le-ltb, ltb-true, add-one}
 use Rattle.std.proofs.Math.Bool.{cond}
@@ -45,7 +46,8 @@ pasted v a (suc k) d h =
     (sym (fill_from_more d a k v (omega arith)) ∙ run_more (λ (i : ℕ). v) a d (pasted v a k d (omega arith)) refl)
 
 pub padded_by : (count have rest : ℕ) (row : List ℕ) {part : List ℕ} → have ≤ count → count ≤ length row
-    → part ≡ replicate (length (take (count - have) (drop have row))) rest → put_mid have (count - have) row part ≡ padded count have rest row
+    → part ≡ replicate (length (take (count - have) (drop have row))) rest
+    → put_mid have (count - have) row part ≡ padded count have rest row
 padded_by count have rest row {part} h m e =
     let k : length (take (count - have) (drop have row)) ≡ count - have =
     omega (arith, length-take (count - have) (drop have row), length-drop have row) in

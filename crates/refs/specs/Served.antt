@@ -1,5 +1,6 @@
 -- A call's number from the number that the reach gives, and what a call that is not refused rests on. Assumes nothing.
-use Rattle.std.specs.Prelude.{◌≡◌, refl, Bool, true, false, cond, ◌&&◌, ◌||◌, List, [], ◌∷◌, ℕ, zero, suc, ◌*◌, ◌≤◌, leb, eqb, ℤ, length, Ok}
+use Rattle.std.specs.Prelude.{◌≡◌, refl, Bool, true, false, cond, ◌&&◌, ◌||◌, List, [], ◌∷◌, ℕ, zero, suc, ◌*◌, ◌≤◌}
+use Rattle.std.specs.Prelude.{leb, eqb, ℤ, length, Ok}
 use Rattle.std.proofs.Common.{sym, ap, ap₂, ◌∙◌, subst, ⊎_elim, arith, ne_eqb, eqb-true, le-leb}
 use Rattle.std.proofs.lemmas.Bool.{false≢true, lt-leb}
 use Rattle.laws.specs.Choose.{served, worked, passed, both_true}
@@ -126,7 +127,8 @@ pub record GatherReady (has : ℤ → ℤ → Bool) (r : Reach) (len width row c
   pub known : Counted has row col n r
   pub reads : Reads r (spot_of width row col) len n
 
-ready : {has : ℤ → ℤ → Bool} {height width : ℕ} → HasRule has height width → (r : Reach) (len row col n : ℕ) → there r ≡ reach_by 0 has row col n
+ready : {has : ℤ → ℤ → Bool} {height width : ℕ} → HasRule has height width → (r : Reach) (len row col n : ℕ)
+    → there r ≡ reach_by 0 has row col n
     → len ≡ height * width
     → n ≤ 32 → GatherReady has r len width row col n
 ready {has} {height} {width} rule r len row col n er el small =

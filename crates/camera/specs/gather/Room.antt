@@ -40,7 +40,8 @@ room_fine roomy k e =
     stuck t z = true≢false (ap (λ (v : ℕ). eqb v 0 || eqb v 6) (sym z) ∙ t)
 
 -- a reach that is given with the buffer's room is the one that was found
-pub own_reach : (found : Result Reach Refusal) {early : Result Reach Refusal} {r : Reach} → early ≡ Ok r → IfOk early (λ q. found ≡ Ok q) → found ≡ Ok r
+pub own_reach : (found : Result Reach Refusal) {early : Result Reach Refusal} {r : Reach} → early ≡ Ok r
+    → IfOk early (λ q. found ≡ Ok q) → found ≡ Ok r
 own_reach found e h = subst (λ (s : Result Reach Refusal). IfOk s (λ q. found ≡ Ok q)) e h
 
 -- the luma gather's, from its number over the plane alone

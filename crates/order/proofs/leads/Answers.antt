@@ -15,7 +15,8 @@ loop-i-preserved c = walked_more _ _ _ _ _ _ _ _ c.requires _ c.loop-i.invariant
 
 pub returns-else-number-limit : goal.returns-else-number-limit
 returns-else-number-limit c =
-    let next = walked_more _ _ _ _ _ _ _ _ c.requires _ c.loop-i.invariant c.loop-i-test.true (ap (λ (v : ℕ). ltb v c.args.limit) (sym c.number.ensures) ∙ lt-ltb _ _ c.if-number-limit.false) in
+    let here = ap (λ (v : ℕ). ltb v c.args.limit) (sym c.number.ensures) ∙ lt-ltb _ _ c.if-number-limit.false in
+    let next = walked_more _ _ _ _ _ _ _ _ c.requires _ c.loop-i.invariant c.loop-i-test.true here in
     walk_ends _ _ _ _ _ _ _ _ c.requires _ next (omega arith)
 
 pub returns : goal.returns

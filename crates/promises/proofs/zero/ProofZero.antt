@@ -239,7 +239,8 @@ zero_settled = record {
       rows_are plane.now geo (gathered (Ok rows)) p refl ∙ luma_available geo plane.now other.now same
       ∙ sym (rows_are other.now geo (gathered (Ok rows₂)) q refl);
   all_but_entry_2n = λ κ κ₂ plane other geo rows rows₂ p q same.
-      all_but plane other geo rows rows₂ (gathered_agree κ κ₂ plane other geo rows rows₂ p q same) (rows_are plane.now geo (gathered (Ok rows)) p refl)
+      all_but plane other geo rows rows₂ (gathered_agree κ κ₂ plane other geo rows rows₂ p q same)
+      (rows_are plane.now geo (gathered (Ok rows)) p refl)
       (rows_are other.now geo (gathered (Ok rows₂)) q refl);
   standard_never_tells = standard_same;
   blocks_never_tell = λ κ κ₂ plane other geo rows rows₂ p q same.

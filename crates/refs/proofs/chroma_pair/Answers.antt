@@ -9,4 +9,5 @@ pub plane_rows-cr-requires : goal.plane_rows-cr-requires
 plane_rows-cr-requires c = (chroma_inside c.args.plane_cb.now c.args.plane_cr.now c.args.geo c.requires.0 c.requires.1 c.requires.2).1
 
 pub returns : goal.returns
-returns c = chroma_made c.args.plane_cb.now c.args.plane_cr.now c.args.geo c.requires.0 c.requires.1 c.requires.2 c.neutral_of-neutral.ensures c.plane_rows-cb.ensures c.plane_rows-cr.ensures
+returns c = chroma_made c.args.plane_cb.now c.args.plane_cr.now c.args.geo c.requires.0 c.requires.1 c.requires.2
+    c.neutral_of-neutral.ensures c.plane_rows-cb.ensures c.plane_rows-cr.ensures

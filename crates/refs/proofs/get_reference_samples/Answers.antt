@@ -18,7 +18,8 @@ pub luma_rows-requires : goal.luma_rows-requires
 luma_rows-requires c =
     let l = c.luma_layout-l in
     let e = c.in_ok-reach.ensures in
-    (ap (λ (q : Laid). q.spot) l.ensures, laid_there l.result l.ensures e.1, sym (luma-door (length c.args.plane.now) c.args.geo l.result l.ensures e.0))
+    let t = luma-door (length c.args.plane.now) c.args.geo l.result l.ensures e.0 in
+    (ap (λ (q : Laid). q.spot) l.ensures, laid_there l.result l.ensures e.1, sym t)
 
 pub returns : goal.returns
 unfolding get_reference_samples

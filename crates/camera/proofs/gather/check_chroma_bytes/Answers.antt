@@ -13,6 +13,7 @@ unfolding chroma_bytes_no
 returns c = let a = c.args in
     (
       chroma-number (eqb a.cb (2 * chroma_length a.geo) && eqb a.cr (2 * chroma_length a.geo)) a.geo a.l c.requires
-          (both_same c.whole_in.ensures c.whole_in-2.ensures ∙ ap (λ (q : Laid). eqb a.cb (2 * q.length) && eqb a.cr (2 * q.length)) c.requires) c.check_gather.ensures.0,
+          (both_same c.whole_in.ensures c.whole_in-2.ensures ∙ ap (λ (q : Laid). eqb a.cb (2 * q.length) && eqb a.cr (2 * q.length)) c.requires)
+          c.check_gather.ensures.0,
       c.check_gather.ensures.1,
     )

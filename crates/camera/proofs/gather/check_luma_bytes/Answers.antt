@@ -10,6 +10,7 @@ pub returns : goal.returns
 unfolding luma_bytes_no
 returns c = let a = c.args in
     (
-      luma-number (eqb a.len (2 * luma_length a.geo)) a.geo a.l c.requires (c.whole_in-whole.ensures ∙ ap (λ (q : Laid). eqb a.len (2 * q.length)) c.requires) c.check_gather.ensures.0,
+      luma-number (eqb a.len (2 * luma_length a.geo)) a.geo a.l c.requires
+          (c.whole_in-whole.ensures ∙ ap (λ (q : Laid). eqb a.len (2 * q.length)) c.requires) c.check_gather.ensures.0,
       c.check_gather.ensures.1,
     )

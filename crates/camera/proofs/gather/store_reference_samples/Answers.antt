@@ -15,15 +15,18 @@ store_luma_rows-requires c = let a = c.args in
     let early = c.check_luma_bytes-early.ensures in
     let e = c.in-Ok.ensures in
     let f = luma_entry_fine (length a.plane.now) (length a.out.now) a.geo early.0 e.0 refl in
-    (ap (λ (q : Laid). q.spot) l.ensures, laid_there l.result l.ensures (own_reach l.result.reach e.1 early.1), (luma_spelt_fine a.plane.now a.geo f.1).1, f.0)
+    let there = laid_there l.result l.ensures (own_reach l.result.reach e.1 early.1) in
+    (ap (λ (q : Laid). q.spot) l.ensures, there, (luma_spelt_fine a.plane.now a.geo f.1).1, f.0)
 
 pub returns-in-Ok : goal.returns-in-Ok
 unfolding luma_entry
 returns-in-Ok c = let a = c.args in
-    done _ _ _ (luma-entry-no (length a.plane.now) (length a.out.now) a.geo c.check_luma_bytes-early.ensures.0 c.in-Ok.ensures.0) refl c.store_luma_rows.ensures
+    done _ _ _ (luma-entry-no (length a.plane.now) (length a.out.now) a.geo c.check_luma_bytes-early.ensures.0 c.in-Ok.ensures.0)
+    refl c.store_luma_rows.ensures
 
 pub returns-in-Err : goal.returns-in-Err
 unfolding luma_entry
 returns-in-Err c = let a = c.args in
-    refused _ _ _ (luma-entry-no (length a.plane.now) (length a.out.now) a.geo c.check_luma_bytes-early.ensures.0 (c.number.ensures ∙ c.in-Err.ensures.0))
+    let k = c.number.ensures ∙ c.in-Err.ensures.0 in
+    refused _ _ _ (luma-entry-no (length a.plane.now) (length a.out.now) a.geo c.check_luma_bytes-early.ensures.0 k)
     (λ z. never_0 c.in-Err.why (sym c.number.ensures ∙ z))

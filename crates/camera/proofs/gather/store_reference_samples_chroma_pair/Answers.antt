@@ -15,15 +15,20 @@ store_chroma_rows-requires c = let a = c.args in
     let early = c.check_chroma_bytes-early.ensures in
     let e = c.in-Ok.ensures in
     let f = chroma_entry_fine (length a.plane_cb.now) (length a.plane_cr.now) (length a.out.now) a.geo early.0 e.0 refl in
-    (ap (λ (q : Laid). q.spot) l.ensures, laid_there l.result l.ensures (own_reach l.result.reach e.1 early.1), (chroma_spelt_fine a.plane_cb.now a.plane_cr.now a.geo f.1).2, f.0)
+    let there = laid_there l.result l.ensures (own_reach l.result.reach e.1 early.1) in
+    (ap (λ (q : Laid). q.spot) l.ensures, there, (chroma_spelt_fine a.plane_cb.now a.plane_cr.now a.geo f.1).2, f.0)
 
 pub returns-in-Ok : goal.returns-in-Ok
 unfolding chroma_entry
 returns-in-Ok c = let a = c.args in
-    done _ _ _ (chroma-entry-no (length a.plane_cb.now) (length a.plane_cr.now) (length a.out.now) a.geo c.check_chroma_bytes-early.ensures.0 c.in-Ok.ensures.0) refl c.store_chroma_rows.ensures
+    let early = c.check_chroma_bytes-early.ensures.0 in
+    done _ _ _ (chroma-entry-no (length a.plane_cb.now) (length a.plane_cr.now) (length a.out.now) a.geo early c.in-Ok.ensures.0) refl
+    c.store_chroma_rows.ensures
 
 pub returns-in-Err : goal.returns-in-Err
 unfolding chroma_entry
 returns-in-Err c = let a = c.args in
-    refused _ _ _ (chroma-entry-no (length a.plane_cb.now) (length a.plane_cr.now) (length a.out.now) a.geo c.check_chroma_bytes-early.ensures.0 (c.number.ensures ∙ c.in-Err.ensures.0))
+    let early = c.check_chroma_bytes-early.ensures.0 in
+    let k = c.number.ensures ∙ c.in-Err.ensures.0 in
+    refused _ _ _ (chroma-entry-no (length a.plane_cb.now) (length a.plane_cr.now) (length a.out.now) a.geo early k)
     (λ z. never_0 c.in-Err.why (sym c.number.ensures ∙ z))

@@ -16,4 +16,5 @@ loop-i-preserved c = let k = c.loop-i in
 pub returns-2 : goal.returns-2
 returns-2 c = let k = c.loop-i in
     let a = c.args in
-    fill_done _ _ (omega arith) (omega arith) (above_turn a.has.now a.start a.row.now k.i k.invariant.0 k.invariant.1 c.settle_at-carried.ensures.0 c.settle_at-carried.ensures.1).1
+    let e = c.settle_at-carried.ensures in
+    fill_done _ _ (omega arith) (omega arith) (above_turn a.has.now a.start a.row.now k.i k.invariant.0 k.invariant.1 e.0 e.1).1

@@ -20,5 +20,6 @@ loop-i-preserved c = let a = c.args in
 pub returns-2 : goal.returns-2
 returns-2 c = let a = c.args in
     let k = c.loop-i in
-    let all = left_turn a.has.now a.start a.row.now a.e k.i k.auto.i k.invariant c.settle_at-carried.ensures.0 c.settle_at-carried.ensures.1 in
+    let e = c.settle_at-carried.ensures in
+    let all = left_turn a.has.now a.start a.row.now a.e k.i k.auto.i k.invariant e.0 e.1 in
     (carried_done _ _ _ (omega arith) (omega arith) all.0, down_all _ _ _ (omega arith) (omega arith) all.1)
