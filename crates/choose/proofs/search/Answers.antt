@@ -40,7 +40,8 @@ least-requires-2 c = let p = c.requires in
           above_long = search rules;
           left_long = search rules;
           smooth = λ m e.
-              subst (λ (r : Rows). Agree a.n (neighbours_of r) (filtered true a.bits a.n (from_rows a.corner a.above.now a.left.now))) (sym rows)
+              subst (λ (r : Rows). Agree a.n (neighbours_of r) (filtered true a.bits a.n (from_rows a.corner a.above.now a.left.now)))
+              (sym rows)
               (door_is_standard true a.corner a.above.now a.left.now a.n a.bits (smoothing_serves p.0));
         },
       ),
