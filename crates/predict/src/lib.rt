@@ -53,7 +53,6 @@ pub fn predict_chroma_tb_slices(
 }
 
 // A luma block: references smoothed by the rule, edges filtered. The last three slices are scratch.
-#[tactic(auto, using(crate::specs::by_mode::Door::given_lent))]
 pub fn predict_luma_tb_slices(
     mode: u8,
     rows: rows::Rows,
@@ -68,21 +67,23 @@ pub fn predict_luma_tb_slices(
         × (Predicts (no_of result) n (pred_samples (luma_at bits) first_edition_strong n mode (neighbours_of rows)) pred
         × ((no_of result ≡ 0 → ⊥) → Untouched refs indices fractions)) }
 {
-    let lent = Lent::of(
-        &rows.above,
-        &rows.left,
-        &*pred,
-        &*refs,
-        &*indices,
-        &*fractions,
-    );
+    let lent = Lent {
+        above: 65,
+        left: 65,
+        pred: pred.len(),
+        refs: refs.len(),
+        indices: indices.len(),
+        fractions: fractions.len(),
+    };
     refusals::check_predict(bits, n, mode, lent)?;
     let used = luma_rows::prepared_rows(mode, rows, n, bits);
+    let above = used.above;
+    let left = used.left;
     by_mode::by_mode(
         mode,
         used.corner,
-        &used.above,
-        &used.left,
+        &above,
+        &left,
         n,
         bits,
         true,

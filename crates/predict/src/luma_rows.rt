@@ -11,9 +11,11 @@ pub(crate) fn prepared_rows(mode: u8, rows: rows::Rows, n: usize, bits: u32) -> 
     ensures { result ≡ prepared_rows bits n mode rows }
 {
     if smooth::should_filter_refs(mode, n).unwrap_or(false) {
-        return smooth::filter_luma_refs(rows.corner, &rows.above, &rows.left, n, bits).unwrap_or(
-            rows,
-        );
+        let above = rows.above;
+        let left = rows.left;
+        if let Ok(smoothed) = smooth::filter_luma_refs(rows.corner, &above, &left, n, bits) {
+            return smoothed;
+        }
     }
     rows
 }

@@ -4,7 +4,8 @@ ghost use Rattle.std.specs.Prelude.{◌≡◌, length};
 ghost use Rattle.domain.specs.Domain.{predictor_row};
 ghost use Rattle.domain.specs.Facts.{Size};
 ghost use Rattle.domain.specs.Refusal.{no_of};
-ghost use Rattle.predict.specs.refusals.Refusals.{lent_by, lengths_of, is_enough, flat_no, block_no, angular_no, predict_no, vertical_ok, refs_no, rows_no};
+ghost use Rattle.predict.specs.refusals.Refusals.{lent_by, lengths_of, is_enough, flat_no, block_no, angular_no, predict_no};
+ghost use Rattle.predict.specs.refusals.Refusals.{vertical_ok, refs_no, rows_no};
 
 use domain::refusal::Refusal;
 

@@ -11,4 +11,7 @@ pub returns : goal.returns
 returns c = let a = c.args in
     let no = c.in_ok-check_predict.ensures in
     let g = given a.bits a.n a.mode _ (sym no) in
-    (no ∙ ap (λ (l : Lent). predict_no a.bits a.n a.mode (lengths_of l)) c.of-lent.ensures, (c.by_mode.ensures ∙ chroma-block a.bits a.n a.mode (side g.block) a.pred.now (from_rows a.corner a.above.now a.left.now), λ q. absurd (q refl)))
+    let nb = from_rows a.corner a.above.now a.left.now in (
+      no ∙ ap (λ (l : Lent). predict_no a.bits a.n a.mode (lengths_of l)) c.of-lent.ensures,
+      (c.by_mode.ensures ∙ chroma-block a.bits a.n a.mode (side g.block) a.pred.now nb, λ q. absurd (q refl)),
+    )

@@ -39,7 +39,8 @@ given bits n mode l e =
       refs_long = t.refs;
     }
 
-pub given_lent : (bits n mode : ℕ) (l : Lent) → predict_no bits n mode (lengths_of l) ≡ 0 → ModeReady bits n mode l.above l.left l.pred l.refs
+pub given_lent : (bits n mode : ℕ) (l : Lent) → predict_no bits n mode (lengths_of l) ≡ 0
+    → ModeReady bits n mode l.above l.left l.pred l.refs
 given_lent bits n mode l e = given bits n mode (lengths_of l) e
 
 module _ {bits n mode above left pred refs : ℕ} (g : ModeReady bits n mode above left pred refs) where

@@ -147,7 +147,8 @@ module _ {M : Type 1} {𝓤 : Ura M} (𝓛 : Logic 𝓤) (mem : Memory → SProp
         fact_mono 𝓤 _ _ (λ p. moded _ n 0 pred pred' refl p.1.0 bits mode (with_scratch 65 65 (mut_entries_in pred)) refl p.0);
     gathered_luma_into = λ κ plane geo rows m κs mode pred pred' last last'.
         fact_mono 𝓤 _ _
-        (λ p. whole plane.now geo (gathered (Ok rows)) m refl mode 0 pred pred' refl p.1.0 (with_scratch 65 65 (mut_entries_in pred)) refl p.0);
+        (λ p. whole plane.now geo (gathered (Ok rows)) m refl mode 0 pred pred' refl p.1.0
+        (with_scratch 65 65 (mut_entries_in pred)) refl p.0);
   }
 
 pub demand_2 : Demand2
@@ -175,9 +176,11 @@ demand_2 = record {
   predict_luma_tb_fresh = λ κs mode rows n bits pred pred' last last' p.
       moded _ n 0 pred pred' refl p.1 bits mode (with_scratch 65 65 (mut_entries_in pred)) refl p.0;
   gathered_luma_slices = λ κ plane geo rows m κs mode pred pred' last last' p.
-      whole plane.now geo (gathered (Ok rows)) m refl mode 0 pred pred' refl p.1.0 (with_lent_tables 65 65 (mut_entries_in pred) last) refl p.0;
+      whole plane.now geo (gathered (Ok rows)) m refl mode 0 pred pred' refl p.1.0
+      (with_lent_tables 65 65 (mut_entries_in pred) last) refl p.0;
   gathered_luma_fresh = λ κ plane geo rows m κs mode pred pred' last last' p.
-      whole plane.now geo (gathered (Ok rows)) m refl mode 0 pred pred' refl p.1 (with_scratch 65 65 (mut_entries_in pred)) refl p.0;
+      whole plane.now geo (gathered (Ok rows)) m refl mode 0 pred pred' refl p.1
+      (with_scratch 65 65 (mut_entries_in pred)) refl p.0;
   with-scratch = with-scratch;
   salvrunde_luma_refs = λ κs bits width height ctu unit row col n plane bytes out out' number.
       luma_refs_spelt plane.now (luma_geometry bits width height ctu unit row col n) out.now bytes;
