@@ -219,7 +219,15 @@ impl Trial<'_> {
                 break;
             }
             let first = 8 * eight;
-            let _ = angular::vertical_rows(above, &*refs, n, self.mode, first, first + 8, &mut *pred);
+            let _ = angular::vertical_rows(
+                above,
+                &*refs,
+                n,
+                self.mode,
+                first,
+                first + 8,
+                &mut *pred,
+            );
             sum += eight_sum(self.block.samples, first, &*pred, n);
         }
         sum
