@@ -1,15 +1,15 @@
 -- A mode that is dropped once it has lost: sums of its last rows, some at a time upward. A part of a sum is never more than the whole.
 -- Assumes nothing.
-use Rattle.std.specs.Prelude.{◌≡◌, Bool, false, cond, List, Option, Some, IfSome, ltb, length, get_or}
+use Rattle.std.specs.Prelude.{◌≡◌, Bool, false, cond, ◌&&◌, List, Option, Some, IfSome, ltb, length, get_or}
 use Rattle.std.specs.Bool.{then_some}
 use Rattle.std.proofs.Math.Path.{refl, sym, ap}
-use Rattle.std.proofs.Common.{subst, ◌∙◌, zero-add, add_assoc, add-mul, suc-mul, mul-le-mul_right}
+use Rattle.std.proofs.Common.{subst, ◌∙◌, true≢false, zero-add, add_assoc, add-mul, suc-mul, mul-le-mul_right}
 use Rattle.std.proofs.Math.Bool.{true}
 use Rattle.std.proofs.lemmas.Bool.{false≢true}
 use Prim.Native.Nat.{ℕ, zero, suc, ◌+◌, ◌-◌, ◌*◌, ◌≤◌, ◌<◌}
 use Rattle.std.proofs.Math.Nat.{zero-mul}
 use native.Mathlib.Omega.{arith}
-use borrow.Author.Tests.{ne_eqb}
+use borrow.Author.Tests.{ne_eqb, lt-ltb}
 use Rattle.laws.specs.Fill.{rows}
 use Rattle.laws.specs.FillLaws.{rows_at, length_run}
 use Rattle.laws.specs.Sum.{total, total_none, total_join, total_same}
@@ -133,6 +133,11 @@ group_sum n first k source g d h =
 
 of_size : {n : ℕ} → Size n → size_ok n ≡ true
 of_size {n} s = at_size (λ (m : ℕ). size_ok m ≡ true) refl refl refl refl n s
+
+-- no row is left where the sum is below the limit still
+pub none_left : (first : ℕ) (below : Bool) → below ≡ true → (ltb 0 first && below) ≡ false → first ≡ 0
+none_left zero below e f = refl
+none_left (suc first) below e f = absurd (true≢false (sym e ∙ rw (lt-ltb 0 (suc first) (omega arith)) at f))
 
 -- a turn of the loop: k rows more
 pub group_step : (n first k : ℕ) (source : List ℕ) (g : ℕ → ℕ → ℕ) (d : List ℕ) {p : List ℕ} {s v : ℕ} → first + k ≤ n → n * n ≤ length d

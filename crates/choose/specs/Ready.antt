@@ -5,7 +5,7 @@ use Rattle.std.specs.Borrow.{Bor, MutBor}
 use borrow.Author.Tests.{leb-true, le-leb}
 use Rattle.laws.specs.Choose.{passed, both_true}
 use Rattle.domain.specs.Domain.{depth_ok, size_ok, smoothing_row}
-use Rattle.domain.specs.Facts.{size_of, size_small}
+use Rattle.domain.specs.Facts.{Size, size_of, size_small}
 use Rattle.smooth.specs.Smoothing.{filter_luma_no}
 use Rattle.predict.specs.refusals.Refusals.{Lengths, lengths, is_enough, flat_no, angular_no}
 use Rattle.choose.specs.Choose.{lends_enough, choose_no}
@@ -70,6 +70,29 @@ with_rows r above left h k =
       room = r.room;
       long = record { above = h; left = k; room = w.room; refs = w.refs; indices = w.indices; fractions = w.fractions };
     }
+
+-- with scratch that is as long
+module _ {bits n source : ℕ} {l : Lengths} (r : Ready bits n source l) where
+  pub side-of : Size n
+  side-of = size_of n r.size
+
+  pub as_long : {pred refs indices fractions : ℕ} → pred ≡ l.pred → refs ≡ l.refs → indices ≡ l.indices → fractions ≡ l.fractions
+      → Ready bits n source (lengths l.above l.left pred refs indices fractions)
+  as_long a b c d =
+      let w = r.long in
+      record {
+        depth = r.depth;
+        size = r.size;
+        room = r.room;
+        long = record {
+          above = w.above;
+          left = w.left;
+          room = rw a w.room;
+          refs = rw b w.refs;
+          indices = rw c w.indices;
+          fractions = rw d w.fractions;
+        };
+      }
 
 -- nothing that it calls refuses it
 module _ {n : ℕ} {l : Lengths} (size : size_ok n ≡ true) (w : Long n l) where

@@ -122,6 +122,8 @@ use Rattle.refs.proofs.luma_layout.Reads as refs-luma-layout
 use Rattle.refs.proofs.chroma_layout.Reads as refs-chroma-layout
 use Rattle.plan.proofs.records.record_at.Reads as records-record-at
 use Rattle.plan.proofs.check.Reads as plan-check
+use Rattle.plan.proofs.blocks.NumbersBlocks.block.Reads as plan-block-at
+use Rattle.plan.proofs.blocks.NumbersBlocks.whole.Reads as plan-is-whole
 use Rattle.plan.proofs.check_plan_bytes.Reads as plan-check-plan-bytes
 use Rattle.plan.proofs.check_plan_numbers.Reads as plan-check-plan-numbers
 use Rattle.plan.specs.contracts.check_plan as plan-check-plan
@@ -575,6 +577,13 @@ records_record_at_once : (κs : Lfts 1) → Once (records-record-at.Post κs)
 records_record_at_once κs a x y s t p q = p ∙ sym q
 
 -- plan
+-- of a plan of numbers
+plan_block_at_once : (κs : Lfts 1) → Once (plan-block-at.Post κs)
+plan_block_at_once κs a x y s t p q = p ∙ sym q
+
+plan_is_whole_once : (κs : Lfts 1) → Once (plan-is-whole.Post κs)
+plan_is_whole_once κs a x y s t p q = p ∙ sym q
+
 -- of a plan in any form
 plan_check_once : (P : _) (laws : _) (copy : _) (blocks : _) (methods : _) (clone : _) (cloned : _) (κs : Lfts 1)
     → Once (plan-check.Post P laws copy blocks methods clone cloned κs)

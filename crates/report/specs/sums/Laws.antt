@@ -55,3 +55,13 @@ pub agree_all : (a b : List ℕ) → length a ≡ length b → pointwise eqb a b
 agree_all a b h =
     sym (ap₂ (λ (x y : List ℕ). pointwise eqb x y) (ap (λ (n : ℕ). take n a) (sym h) ∙ take-length a) (take-length b))
     ∙ agree_is a b (length b) (omega arith) (omega arith)
+
+-- a sum of absolute residuals, one by one
+pub sum_none : (v : List ℤ) (at : ℕ) → 0 ≡ absolutes v at 0
+unfolding absolutes
+sum_none v at = refl
+
+pub sum_more : (v : List ℤ) (at i : ℕ) {s a : ℕ} → s ≡ absolutes v at i → a ≡ nat_abs (get_or v (at + i) (pos 0)) → s + a
+    ≡ absolutes v at (i + 1)
+unfolding absolutes
+sum_more v at i p q = rw (add-one, p, q)
