@@ -375,15 +375,7 @@ pub(crate) fn replay(
     ensures { record { number = result; plane = plane.new; result = res.new } ≡ replayed still
         done plan.now residuals.now grant plane.old res.old }
 {
-    match granted(
-        done,
-        still,
-        plan,
-        residuals,
-        plane.len(),
-        res.len(),
-        grant,
-    ) {
+    match granted(done, still, plan, residuals, plane.len(), res.len(), grant) {
         Err(fault) => {
             answer(res, fault.block, done);
             fault.why.number()

@@ -77,7 +77,7 @@ checksum_settled = record {
       from_row_0 (fits_bytes roomy plane width height) (samples_of plane.now) bits width height (answered v) p;
   split_bytes = λ κ λ' μ plane bits width height a b c sum roomy upper lower whole p q s.
       joined (fits_bytes roomy plane width height) (samples_of plane.now) bits width height a b c sum (answered upper) (answered lower)
-          (answered whole) p q s;
+      (answered whole) p q s;
   in_c = λ κs bits width height first end sum number plane out out' p z.
       entry_bytes (row_range bits width height first end) sum plane.now out.now out'.now number p z;
 }

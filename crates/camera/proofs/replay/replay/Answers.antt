@@ -1,6 +1,6 @@
 -- `replay::replay` meets its contract. Every check precedes the first write; then the blocks, then the answer. Rests on what a call is
 -- granted and on `serve`.
-use Rattle.std.proofs.Common.{◌≡◌, refl, sym, ap, ◌∙◌, subst, arith, rules, ℕ, ◌%◌, ◌-◌, ◌+◌, length, List}
+use Rattle.std.proofs.Common.{◌≡◌, refl, sym, ap, ◌∙◌, arith, rules, ℕ, ◌%◌, ◌-◌, length}
 use Rattle.laws.specs.Chain.{units}
 use Rattle.octets.specs.Bytes.{samples_of, residuals_of}
 use Rattle.domain.specs.Refused.{never_0}
@@ -8,7 +8,7 @@ use Rattle.plan.specs.Answers.{Verdict}
 use Rattle.plan.specs.RecordPlan.{records_of}
 use Rattle.walk.specs.block.Rebuilt.{replay_unit}
 use Rattle.walk.specs.calls.Steps.{doing_of, step_refused, step_granted}
-use Rattle.camera.specs.replay.Verdict.{Lent, byte_verdict}
+use Rattle.camera.specs.replay.Verdict.{Lent}
 use Rattle.camera.specs.replay.Laws.{serves, plane_kept, result_refused, plane_done, result_served, all_three}
 use Rattle.camera.proofs.replay.replay.Goals as goal
 
