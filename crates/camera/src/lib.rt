@@ -23,6 +23,7 @@ ghost use Rattle.camera.specs.choice.Entry.{choice_no, choice_sums, ChoosesInto}
 ghost use Rattle.errors.specs.RecordBytes.{entered, count_entry, join_entry};
 
 use checksum::RowRange;
+use domain::refusal::no_of;
 use errors::record;
 use fmt::{ChromaCol, ChromaRow, LumaCol, LumaRow};
 use order::Picture;
@@ -187,7 +188,7 @@ pub extern "C" fn salvrunde_choose(
         (choice_sums bits n corner above.now left.now source.now) out.old
         (wrote result out.new) }
 {
-    choice::choose(false, bits, n, corner, above, left, source, out)
+    no_of(choice::choose(false, bits, n, corner, above, left, source, out))
 }
 
 // The same by a search that drops a mode as soon as it cannot win: the mode and the sum are those of the full search.
@@ -206,7 +207,7 @@ pub extern "C" fn salvrunde_choose_early(
         (choice_sums bits n corner above.now left.now source.now) out.old
         (wrote result out.new) }
 {
-    choice::choose(true, bits, n, corner, above, left, source, out)
+    no_of(choice::choose(true, bits, n, corner, above, left, source, out))
 }
 
 // Decodes the next blocks of a still, as many as are granted, in the plane's own bytes: exactly 2 · width · height of the plane, 4

@@ -11,23 +11,25 @@ ghost use Rattle.laws.specs.Least.{FirstLeast};
 ghost use Rattle.h265.specs.Notation.{from_rows};
 ghost use Rattle.domain.specs.Domain.{depth_ok, size_ok};
 ghost use Rattle.domain.specs.Facts.{Size};
+ghost use Rattle.domain.specs.Refusal.{no_of};
 ghost use Rattle.predict.specs.Lent.{entry_at, lent_neighbours};
 ghost use Rattle.predict.specs.modes.Modes.{predicted_by_mode};
 ghost use Rattle.predict.specs.refusals.Refusals.{lengths};
+ghost use Rattle.choose.specs.Answers.{chosen_of};
 ghost use Rattle.choose.specs.Choose.{apart, differences, source_at, mode_sum, lends_enough, choose_no, Chooses, lends, ScratchKept};
 ghost use Rattle.choose.specs.Early.{source_from, UpTo};
 ghost use Rattle.choose.specs.Sums.{turned_at, TurnedSource, Smooths};
 
+use domain::refusal::Refusal;
 use domain::rows;
 use fmt::depth;
 use octets::lent;
 use predict::{angular, planar_dc};
 use samples::filters;
 
-// A call's number, and the mode with its sum of absolute differences, both 0 where it is refused.
+// The mode that does best, and its sum of absolute differences.
 #[derive(Clone, Copy, Debug, PartialEq, Eq)]
-pub struct Chosen {
-    pub no: u32,
+pub struct Best {
     pub mode: u8,
     pub sum: u32,
 }
@@ -318,9 +320,9 @@ impl<'a> Search<'a> {
     // The first of the modes whose sum is the least: a later one takes over where it does better, so that one which may be dropped early
     // has lost once it is not below the best.
     #[inline(always)]
-    fn least(&self, pred: &mut [u16], tables: &mut Tables) -> Chosen
+    fn least(&self, pred: &mut [u16], tables: &mut Tables) -> Best
         requires { self.now.block.n * self.now.block.n ≤ length pred.old }
-        ensures { (result.no ≡ 0) × FirstLeast (sum_of self.now) 35 result.mode result.sum }
+        ensures { FirstLeast (sum_of self.now) 35 result.mode result.sum }
     {
         let mut best = self.trial(0).tried(&mut *pred, tables);
         let mut chosen: u8 = 0;
@@ -332,8 +334,7 @@ impl<'a> Search<'a> {
                 chosen = mode;
             }
         }
-        Chosen {
-            no: 0,
+        Best {
             mode: chosen,
             sum: best,
         }
@@ -350,11 +351,11 @@ fn search_from<'a>(
     early: bool,
     pred: &mut [u16],
     tables: &mut Tables,
-) -> Chosen
+) -> Best
     requires { TurnedSource block.n block.samples.now turned.now
         × (Smooths block.bits block.n (from_rows border.corner border.above.now border.left.now)
         (from_rows smooth.corner smooth.above.now smooth.left.now) × (block.n * block.n ≤ length pred.old)) }
-    ensures { (result.no ≡ 0) × FirstLeast (mode_sum block.entry.bits block.entry.n
+    ensures { FirstLeast (mode_sum block.entry.bits block.entry.n
         (from_rows border.entry.corner border.entry.above.now border.entry.left.now) block.entry.samples.now)
         35 result.mode result.sum }
 {
@@ -377,9 +378,9 @@ fn search_all(
     early: bool,
     pred: &mut [u16],
     tables: &mut Tables,
-) -> Chosen
+) -> Best
     requires { TurnedSource block.n block.samples.now turned.now × (block.n * block.n ≤ length pred.old) }
-    ensures { (result.no ≡ 0) × FirstLeast (mode_sum block.entry.bits block.entry.n
+    ensures { FirstLeast (mode_sum block.entry.bits block.entry.n
         (from_rows border.entry.corner border.entry.above.now border.entry.left.now) block.entry.samples.now)
         35 result.mode result.sum }
 {
@@ -418,28 +419,28 @@ fn lends_enough(n: usize, source: usize, lent: Lent) -> bool
         & (lent.fractions >= 32)
 }
 
-// The number that refuses a choice, or 0.
+// Whether a choice is served, or why it is refused.
 #[tactic(auto, using(fmt::specs::depth::Laws::largest_of_is, domain::specs::Facts::depth_of), unfolding(crate::specs::Choose::choose_no))]
-fn choose_no(bits: u32, n: usize, source: &[u16], lent: Lent) -> u32
-    ensures { result
+fn check_choice(bits: u32, n: usize, source: &[u16], lent: Lent) -> Result<(), Refusal>
+    ensures { no_of result
         ≡ choose_no bits n source.now (lengths lent.above lent.left lent.pred lent.refs lent.indices lent.fractions) }
 {
     if !domain::depth_ok(bits) {
-        return 1;
+        return Err(Refusal::Depth);
     }
     if !domain::size_ok(n) {
-        return 2;
+        return Err(Refusal::Size);
     }
     if !lends_enough(n, source.len(), lent) {
-        return 5;
+        return Err(Refusal::Buffer);
     }
     if !lent::samples_ok(&source[..n * n], depth::largest_of(bits)) {
-        return 7;
+        return Err(Refusal::Sample);
     }
-    0
+    Ok(())
 }
 
-// The number, then the search, in full or early.
+// The check, then the search, in full or early.
 fn answer(
     corner: u16,
     above: &[u16],
@@ -452,10 +453,10 @@ fn answer(
     refs: &mut [u16],
     indices: &mut [u32],
     fractions: &mut [u32],
-) -> Chosen
+) -> Result<Best, Refusal>
     ensures { Chooses (choose_no bits n source.now (lends above left pred refs indices fractions))
-        (mode_sum bits n (lent_neighbours corner above left) source.now) result
-        × ((result.no ≡ 0 → ⊥) → ScratchKept pred refs indices fractions) }
+        (mode_sum bits n (lent_neighbours corner above left) source.now) (chosen_of result)
+        × ((no_of result ≡ 0 → ⊥) → ScratchKept pred refs indices fractions) }
 {
     let lent = Lent {
         above: above.len(),
@@ -465,14 +466,7 @@ fn answer(
         indices: indices.len(),
         fractions: fractions.len(),
     };
-    let no = choose_no(bits, n, source, lent);
-    if no != 0 {
-        return Chosen {
-            no,
-            mode: 0,
-            sum: 0,
-        };
-    }
+    check_choice(bits, n, source, lent)?;
     let mut turned = [0u16; 1024];
     turn(source, n, &mut turned);
     let border = Border {
@@ -490,7 +484,7 @@ fn answer(
         indices: &mut *indices,
         fractions: &mut *fractions,
     };
-    search_all(border, block, &turned, early, &mut *pred, &mut tables)
+    Ok(search_all(border, block, &turned, early, &mut *pred, &mut tables))
 }
 
 // The luma mode whose prediction from a corner and two rows is nearest to a block of side n, the lowest on a tie. The last four slices
@@ -506,10 +500,10 @@ pub fn choose_mode(
     refs: &mut [u16],
     indices: &mut [u32],
     fractions: &mut [u32],
-) -> Chosen
+) -> Result<Best, Refusal>
     ensures { Chooses (choose_no bits n source.now (lends above left pred refs indices fractions))
-        (mode_sum bits n (lent_neighbours corner above left) source.now) result
-        × ((result.no ≡ 0 → ⊥) → ScratchKept pred refs indices fractions) }
+        (mode_sum bits n (lent_neighbours corner above left) source.now) (chosen_of result)
+        × ((no_of result ≡ 0 → ⊥) → ScratchKept pred refs indices fractions) }
 {
     answer(
         corner,
@@ -538,10 +532,10 @@ pub fn choose_early(
     refs: &mut [u16],
     indices: &mut [u32],
     fractions: &mut [u32],
-) -> Chosen
+) -> Result<Best, Refusal>
     ensures { Chooses (choose_no bits n source.now (lends above left pred refs indices fractions))
-        (mode_sum bits n (lent_neighbours corner above left) source.now) result
-        × ((result.no ≡ 0 → ⊥) → ScratchKept pred refs indices fractions) }
+        (mode_sum bits n (lent_neighbours corner above left) source.now) (chosen_of result)
+        × ((no_of result ≡ 0 → ⊥) → ScratchKept pred refs indices fractions) }
 {
     answer(
         corner,

@@ -22,7 +22,9 @@ use Rattle.refs.specs.Door as gather
 use Rattle.checksum.specs.declared.RowRange.{RowRange}
 use Rattle.checksum.specs.Answers.{Summed}
 use Rattle.checksum.specs.Checksum.{checksum_of}
-use Rattle.choose.specs.declared.Chosen.{Chosen}
+use Rattle.choose.specs.declared.Best.{Best}
+use Rattle.choose.specs.Answers.{Chosen}
+use Rattle.choose.specs.Answers as choose
 use Rattle.probes.specs.declared.predict_probes.Choice.{Choice}
 use Rattle.probes.specs.declared.Answer.{Answer}
 use Rattle.probes.specs.declared.PairReferences.{PairReferences}
@@ -150,3 +152,6 @@ checksum_answer r plane sum = sum_of (checksum_of r plane sum)
 -- a choice, as it is handed over
 abbrev pub chosen_of : Choice → Chosen
 chosen_of a = record { no = a.no; mode = a.mode; sum = a.sum }
+
+abbrev pub choice_of : Result Best Refusal → Choice
+choice_of r = let c = choose.chosen_of r in record { no = c.no; mode = c.mode; sum = c.sum }

@@ -11,9 +11,10 @@ ghost use Rattle.h265.specs.Prediction.{pred_samples};
 ghost use Rattle.predict.specs.Contents.{chroma_at};
 ghost use Rattle.predict.specs.Lent.{len, mut_len, with_tables, with_scratch, lent_neighbours, Predicts, Untouched};
 ghost use Rattle.choose.specs.Choose.{mode_sum, choose_no, Chooses, lends, ScratchKept};
-ghost use Rattle.probes.specs.Probes.{chosen_of};
+ghost use Rattle.probes.specs.Probes.{chosen_of, choice_of};
 
-use domain::refusal::no_of;
+use choose::Best;
+use domain::refusal::{Refusal, no_of};
 use domain::rows::Rows;
 use predict::{angular, planar_dc, scratch_angular, scratch_predict};
 
@@ -242,6 +243,24 @@ pub struct Choice {
     pub sum: u32,
 }
 
+// A choice, as it is handed over.
+fn handed_over(answer: Result<Best, Refusal>) -> Choice
+    ensures { result ≡ choice_of answer }
+{
+    match answer {
+        Ok(best) => Choice {
+            no: 0,
+            mode: best.mode as u32,
+            sum: best.sum,
+        },
+        Err(why) => Choice {
+            no: why.number(),
+            mode: 0,
+            sum: 0,
+        },
+    }
+}
+
 #[unsafe(no_mangle)]
 pub extern "C" fn salvrunde_probe_choose_mode(
     corner: u16,
@@ -259,7 +278,7 @@ pub extern "C" fn salvrunde_probe_choose_mode(
         (mode_sum bits n (lent_neighbours corner above left) source.now) (chosen_of result)
         × ((result.no ≡ 0 → ⊥) → ScratchKept pred refs indices fractions) }
 {
-    let a = choose::choose_mode(
+    handed_over(choose::choose_mode(
         corner,
         above,
         left,
@@ -270,12 +289,7 @@ pub extern "C" fn salvrunde_probe_choose_mode(
         &mut *refs,
         &mut *indices,
         &mut *fractions,
-    );
-    Choice {
-        no: a.no,
-        mode: a.mode as u32,
-        sum: a.sum,
-    }
+    ))
 }
 
 #[unsafe(no_mangle)]
@@ -295,7 +309,7 @@ pub extern "C" fn salvrunde_probe_choose_early(
         (mode_sum bits n (lent_neighbours corner above left) source.now) (chosen_of result)
         × ((result.no ≡ 0 → ⊥) → ScratchKept pred refs indices fractions) }
 {
-    let a = choose::choose_early(
+    handed_over(choose::choose_early(
         corner,
         above,
         left,
@@ -306,10 +320,5 @@ pub extern "C" fn salvrunde_probe_choose_early(
         &mut *refs,
         &mut *indices,
         &mut *fractions,
-    );
-    Choice {
-        no: a.no,
-        mode: a.mode as u32,
-        sum: a.sum,
-    }
+    ))
 }

@@ -333,13 +333,13 @@ predict_predict_luma_tb_slices_row κs = tabled (λ a x s p. p.0)
 
 -- choose
 choose_choose_mode_row : (κs : Lfts 7)
-    → Tabled (choose-choose-mode.Post κs) (λ r. r.no)
+    → Tabled (choose-choose-mode.Post κs) (λ r. no_of r)
     (λ a. let b = a.1.1.1.1 in let c = b.1.1.1.1 in
     choose_mode b.1.0 b.0 a.1.1.1.0.now (lengths (length a.1.0.now) (length a.1.1.0.now) (length b.1.1.0.now) (length b.1.1.1.0.now) (length c.0.now) (length c.1.0.now)))
 choose_choose_mode_row κs = tabled (λ a x s p. p.0.number)
 
 choose_choose_early_row : (κs : Lfts 7)
-    → Tabled (choose-choose-early.Post κs) (λ r. r.no)
+    → Tabled (choose-choose-early.Post κs) (λ r. no_of r)
     (λ a. let b = a.1.1.1.1 in let c = b.1.1.1.1 in
     choose_mode b.1.0 b.0 a.1.1.1.0.now (lengths (length a.1.0.now) (length a.1.1.0.now) (length b.1.1.0.now) (length b.1.1.1.0.now) (length c.0.now) (length c.1.0.now)))
 choose_choose_early_row κs = tabled (λ a x s p. p.0.number)

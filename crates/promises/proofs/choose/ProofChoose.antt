@@ -12,7 +12,7 @@ use Rattle.refs.specs.Answers.{gathered}
 use Rattle.predict.specs.modes.Modes.{pred_alone}
 use Rattle.choose.specs.Choose.{differences, source_at, mode_sum, Chooses}
 use Rattle.choose.specs.Sums.{same_sum}
-use Rattle.choose.specs.declared.Chosen.{Chosen}
+use Rattle.choose.specs.Answers.{Chosen, chosen_of}
 use Rattle.octets.specs.Bytes.{samples_of, pair_into}
 use Rattle.camera.specs.Written.{wrote}
 use Rattle.camera.specs.choice.Entry.{choice_sums, ChoosesInto}
@@ -66,7 +66,7 @@ choice_settled =
     record {
       a_mode = λ κs a pred pred' tables tables' r p z.
           let f = served_choice p.0 z in
-          (omega (arith, f.inside), f.is ∙ same a r.mode);
+          (omega (arith, f.inside), f.is ∙ same a (chosen_of r).mode);
       none_better = λ κs a pred pred' tables tables' r p z mode h.
           rw (sym (same a mode)) ((served_choice p.0 z).least mode (omega arith));
       lower_worse = λ κs a pred pred' tables tables' r p z mode h.

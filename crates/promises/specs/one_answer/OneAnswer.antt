@@ -35,7 +35,8 @@ use Rattle.errors.specs.Answers.{Counted, counted_of}
 use Rattle.walk.specs.declared.Advance.{Advance}
 use Rattle.walk.specs.declared.Rejected.{Rejected}
 use Rattle.walk.specs.Answers.{Step, Stepped, step_in, stepped_of}
-use Rattle.choose.specs.declared.Chosen.{Chosen}
+use Rattle.choose.specs.declared.Best.{Best}
+use Rattle.choose.specs.Answers.{Chosen, no_best, chosen_of}
 use Rattle.choose.specs.Choose.{Chooses}
 use Rattle.octets.specs.Bytes.{pair_into}
 use Rattle.camera.specs.choice.Entry.{ChoosesInto}
@@ -260,6 +261,9 @@ row_pair_same x y e = same_answer zero_pair x y (ap (λ (r : FilteredRows). r.no
 
 smoothed_same : (x y : Result Rows Refusal) → smoothed_given x ≡ smoothed_given y → x ≡ y
 smoothed_same x y e = same_answer zero_rows x y (ap (λ (r : Smoothed). r.no) e) (ap (λ (r : Smoothed). r.rows) e)
+
+pub chosen_same : (x y : Result Best Refusal) → chosen_of x ≡ chosen_of y → x ≡ y
+chosen_same x y e = same_answer no_best x y (ap (λ (c : Chosen). c.no) e) (λ i. record { mode = (e i).mode; sum = (e i).sum })
 
 laid_same : (x y : Layout) → laid x ≡ laid y → x ≡ y
 laid_same x y e =
@@ -708,18 +712,18 @@ handed_over c = record { no = c.no; mode = c.mode; sum = c.sum }
 
 -- choose: all that is lent to be written is scratch
 choose_choose_mode_once : (κs : Lfts 7)
-    → OnceRefused {L = Unit {0}} {K = List ℕ × Three} (λ r. r.no) (λ s. tt)
+    → OnceRefused {L = Unit {0}} {K = List ℕ × Three} (λ r. no_of r) (λ s. tt)
     (λ s. let l = s.1.1.1.1.1.1 in (l.0.now, (l.1.0.now, (l.1.1.0.now, l.1.1.1.0.now))))
     (choose-choose-mode.Post κs)
 choose_choose_mode_once κs a x y s t p q =
-    and_scratch (λ r. r.no) (chosen_once _ _ p.0 q.0, refl) (λ h. all_four (p.1 h)) (λ h. all_four (q.1 h))
+    and_scratch (λ r. no_of r) (chosen_same x y (chosen_once _ _ p.0 q.0), refl) (λ h. all_four (p.1 h)) (λ h. all_four (q.1 h))
 
 choose_choose_early_once : (κs : Lfts 7)
-    → OnceRefused {L = Unit {0}} {K = List ℕ × Three} (λ r. r.no) (λ s. tt)
+    → OnceRefused {L = Unit {0}} {K = List ℕ × Three} (λ r. no_of r) (λ s. tt)
     (λ s. let l = s.1.1.1.1.1.1 in (l.0.now, (l.1.0.now, (l.1.1.0.now, l.1.1.1.0.now))))
     (choose-choose-early.Post κs)
 choose_choose_early_once κs a x y s t p q =
-    and_scratch (λ r. r.no) (chosen_once _ _ p.0 q.0, refl) (λ h. all_four (p.1 h)) (λ h. all_four (q.1 h))
+    and_scratch (λ r. no_of r) (chosen_same x y (chosen_once _ _ p.0 q.0), refl) (λ h. all_four (p.1 h)) (λ h. all_four (q.1 h))
 
 -- scratch
 scratch_new_once : Once (scratch-new.Post tt)
