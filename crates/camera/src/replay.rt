@@ -361,8 +361,8 @@ fn serve(done: u32, s: Still, plan: &[u8], residuals: &[u8], plane: &mut [u8], n
     );
 }
 
-// Decodes the next blocks of a plan in the plane's own bytes, as many as are granted; so many are done before it. It gives its number,
-// and writes the block that it is about and the next progress record into the result buffer.
+// Decodes the next blocks of a plan in the plane's own bytes, as many as are granted; so many are done before it. It writes
+// the block that it is about and the next progress record into the result buffer.
 pub(crate) fn replay(
     done: u32,
     still: Still,
@@ -371,28 +371,20 @@ pub(crate) fn replay(
     plane: &mut [u8],
     res: &mut [u8],
     grant: u32,
-) -> u32
-    ensures { record { number = result; plane = plane.new; result = res.new } ≡ replayed still
+) -> Result<(), Refusal>
+    ensures { record { number = no_of result; plane = plane.new; result = res.new } ≡ replayed still
         done plan.now residuals.now grant plane.old res.old }
 {
-    match granted(
-        done,
-        still,
-        plan,
-        residuals,
-        plane.len(),
-        res.len(),
-        grant,
-    ) {
+    match granted(done, still, plan, residuals, plane.len(), res.len(), grant) {
         Err(fault) => {
             answer(res, fault.block, done);
-            fault.why.number()
+            Err(fault.why)
         }
         Ok(advance) => {
             let next = advance.next.done;
             serve(done, still, plan, residuals, &mut *plane, next);
             answer(res, 0, next);
-            0
+            Ok(())
         }
     }
 }

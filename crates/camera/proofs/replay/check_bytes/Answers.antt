@@ -1,5 +1,5 @@
 -- `replay::check_bytes` meets its contract: 1, 4, 5 of bytes, then 8 and 14.
-use Rattle.std.proofs.Common.{◌≡◌, sym, ap, ◌∙◌, ℕ, Bool, ◌&&◌, length}
+use Rattle.std.proofs.Common.{sym, ap, ◌∙◌, ℕ, Bool, ◌&&◌}
 use Rattle.std.specs.Prelude.{leb}
 use Rattle.std.proofs.lemmas.Result.{err_from_is_err_and}
 use Rattle.domain.specs.Refused.{never_0}

@@ -1,6 +1,6 @@
 -- `replay::replay` meets its contract. Every check precedes the first write; then the blocks, then the answer. Rests on what a call is
 -- granted and on `serve`.
-use Rattle.std.proofs.Common.{◌≡◌, refl, sym, ap, ◌∙◌, subst, arith, rules, ℕ, ◌%◌, ◌-◌, ◌+◌, length, List}
+use Rattle.std.proofs.Common.{◌≡◌, refl, sym, ap, ◌∙◌, arith, rules, ℕ, ◌%◌, ◌-◌, length}
 use Rattle.laws.specs.Chain.{units}
 use Rattle.octets.specs.Bytes.{samples_of, residuals_of}
 use Rattle.domain.specs.Refused.{never_0}
@@ -8,7 +8,7 @@ use Rattle.plan.specs.Answers.{Verdict}
 use Rattle.plan.specs.RecordPlan.{records_of}
 use Rattle.walk.specs.block.Rebuilt.{replay_unit}
 use Rattle.walk.specs.calls.Steps.{doing_of, step_refused, step_granted}
-use Rattle.camera.specs.replay.Verdict.{Lent, byte_verdict}
+use Rattle.camera.specs.replay.Verdict.{Lent}
 use Rattle.camera.specs.replay.Laws.{serves, plane_kept, result_refused, plane_done, result_served, all_three}
 use Rattle.camera.proofs.replay.replay.Goals as goal
 
@@ -18,7 +18,7 @@ returns-in-Err c =
     let l : Lent = record { plan = a.plan.now; residuals = a.residuals.now; plane = length a.plane.now; result = length a.res.now } in
     let d = never_0 c.in-Err.fault.why in
     let is = step_refused _ _ _ _ c.in-Err.ensures d in
-    all_three a.still a.done a.plan.now a.residuals.now a.grant a.plane.now a.res.now (c.number.ensures ∙ ap (λ (u : Verdict). u.no) is)
+    all_three a.still a.done a.plan.now a.residuals.now a.grant a.plane.now a.res.now (ap (λ (u : Verdict). u.no) is)
     (plane_kept a.still a.done l a.grant _ is d a.plane.now)
     (c.answer.ensures ∙ result_refused a.still a.done l a.grant _ is d a.res.now)
 
