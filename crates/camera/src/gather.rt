@@ -22,6 +22,7 @@ ghost use Rattle.camera.specs.gather.Entry.{luma_entry, chroma_entry};
 ghost use Rattle.camera.specs.gather.Spelt.{pair_at};
 ghost use Rattle.camera.specs.gather.Around.{edge_in, around_of, Kept};
 
+use crate::bytes;
 use domain::refusal::Refusal;
 use domain::rows;
 use domain::rows::Rows;
@@ -162,13 +163,11 @@ fn plane_rows(plane: &[u8], s: Spot, r: Reach, n: usize, neutral: u16) -> Rows
 // buffer are counted in samples.
 
 // Stores a sample.
-fn put(out: &mut [u8], at: usize, v: u16)
+pub(crate) fn put(out: &mut [u8], at: usize, v: u16)
     requires { 2 * at + 1 < length out.old }
     ensures { out.new ≡ set (set out.old (2 * at) (v % 256)) (2 * at + 1) (byte1 v) }
 {
-    let [low, high] = v.to_le_bytes();
-    out[2 * at] = low;
-    out[2 * at + 1] = high;
+    bytes::put(out, 2 * at, v.to_le_bytes());
 }
 
 // Stores one value `count` times.

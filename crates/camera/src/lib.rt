@@ -3,6 +3,7 @@
 // are stored.
 #![tactic(auto)]
 
+mod bytes;
 mod choice;
 mod gather;
 mod luma;

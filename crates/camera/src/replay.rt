@@ -25,7 +25,7 @@ ghost use Rattle.camera.specs.replay.Verdict.{whole_by, lent_bytes, byte_no, byt
 ghost use Rattle.camera.specs.replay.VerdictLaws.{put_word};
 ghost use Rattle.camera.specs.replay.Door.{replayed};
 
-use crate::gather;
+use crate::{bytes, gather};
 use domain::refusal::Refusal;
 use fmt::depth;
 use plan::records;
@@ -48,10 +48,7 @@ fn put_sample(b: &mut [u8], i: usize, v: u16)
     requires { (i < length (samples_of b.old)) × (length b.old % 2 ≡ 0) }
     ensures { samples_of b.new ≡ set (samples_of b.old) i v }
 {
-    let at = 2 * i;
-    let [low, high] = v.to_le_bytes();
-    b[at] = low;
-    b[at + 1] = high;
+    gather::put(b, i, v);
 }
 
 // A row of n samples from base on, its predictions from `from` on, its residuals from `at` on.
@@ -250,11 +247,7 @@ pub(crate) fn put_word(b: &mut [u8], at: usize, v: u32)
     requires { at + 3 < length b.old }
     ensures { b.new ≡ put_word b.old at v }
 {
-    let [first, second, third, fourth] = v.to_le_bytes();
-    b[at] = first;
-    b[at + 1] = second;
-    b[at + 2] = third;
-    b[at + 3] = fourth;
+    bytes::put(b, at, v.to_le_bytes());
 }
 
 // Writes the block number and the progress record into a result buffer that has room for them.
