@@ -22,6 +22,7 @@ ghost use Rattle.camera.specs.gather.Entry.{luma_entry, chroma_entry};
 ghost use Rattle.camera.specs.gather.Spelt.{pair_at};
 ghost use Rattle.camera.specs.gather.Around.{edge_in, around_of, Kept};
 
+use crate::bytes;
 use domain::refusal::Refusal;
 use domain::rows;
 use domain::rows::Rows;
@@ -162,13 +163,11 @@ fn plane_rows(plane: &[u8], s: Spot, r: Reach, n: usize, neutral: u16) -> Rows
 // buffer are counted in samples.
 
 // Stores a sample.
-fn put(out: &mut [u8], at: usize, v: u16)
+pub(crate) fn put(out: &mut [u8], at: usize, v: u16)
     requires { 2 * at + 1 < length out.old }
     ensures { out.new ≡ set (set out.old (2 * at) (v % 256)) (2 * at + 1) (byte1 v) }
 {
-    let [low, high] = v.to_le_bytes();
-    out[2 * at] = low;
-    out[2 * at + 1] = high;
+    bytes::put(out, 2 * at, v.to_le_bytes());
 }
 
 // Stores one value `count` times.
@@ -286,18 +285,18 @@ fn store_luma_rows(plane: &[u8], geo: LumaRefGeometry, s: Spot, reach: Reach, ou
 }
 
 // The same, stored as bytes: the corner, the row above and the left column.
-pub(crate) fn store_reference_samples(plane: &[u8], geo: LumaRefGeometry, out: &mut [u8]) -> u32
-    ensures { wrote result out.new ≡ luma_entry plane.now geo out.old }
+pub(crate) fn store_reference_samples(
+    plane: &[u8],
+    geo: LumaRefGeometry,
+    out: &mut [u8],
+) -> Result<(), Refusal>
+    ensures { wrote (no_of result) out.new ≡ luma_entry plane.now geo out.old }
 {
     let l = refs::luma_layout(geo);
     let early = check_luma_bytes(plane.len(), geo, l);
-    match with_room(early, 1, out.len()) {
-        Ok(reach) => {
-            store_luma_rows(plane, geo, l.spot, reach, &mut *out);
-            0
-        }
-        Err(why) => why.number(),
-    }
+    let reach = with_room(early, 1, out.len())?;
+    store_luma_rows(plane, geo, l.spot, reach, &mut *out);
+    Ok(())
 }
 
 // Whether a gather out of planes of so many bytes is served, and then its block's reach.
@@ -340,17 +339,12 @@ pub(crate) fn store_reference_samples_chroma_pair(
     plane_cr: &[u8],
     geo: ChromaRefGeometry,
     out: &mut [u8],
-) -> u32
-    ensures { wrote result out.new ≡ chroma_entry plane_cb.now plane_cr.now geo
-        out.old }
+) -> Result<(), Refusal>
+    ensures { wrote (no_of result) out.new ≡ chroma_entry plane_cb.now plane_cr.now geo out.old }
 {
     let l = refs::chroma_layout(geo);
     let early = check_chroma_bytes(plane_cb.len(), plane_cr.len(), geo, l);
-    match with_room(early, 2, out.len()) {
-        Ok(reach) => {
-            store_chroma_rows(plane_cb, plane_cr, geo, l.spot, reach, &mut *out);
-            0
-        }
-        Err(why) => why.number(),
-    }
+    let reach = with_room(early, 2, out.len())?;
+    store_chroma_rows(plane_cb, plane_cr, geo, l.spot, reach, &mut *out);
+    Ok(())
 }

@@ -25,7 +25,7 @@ ghost use Rattle.camera.specs.replay.Verdict.{whole_by, lent_bytes, byte_no, byt
 ghost use Rattle.camera.specs.replay.VerdictLaws.{put_word};
 ghost use Rattle.camera.specs.replay.Door.{replayed};
 
-use crate::gather;
+use crate::{bytes, gather};
 use domain::refusal::Refusal;
 use fmt::depth;
 use plan::records;
@@ -48,10 +48,7 @@ fn put_sample(b: &mut [u8], i: usize, v: u16)
     requires { (i < length (samples_of b.old)) × (length b.old % 2 ≡ 0) }
     ensures { samples_of b.new ≡ set (samples_of b.old) i v }
 {
-    let at = 2 * i;
-    let [low, high] = v.to_le_bytes();
-    b[at] = low;
-    b[at + 1] = high;
+    gather::put(b, i, v);
 }
 
 // A row of n samples from base on, its predictions from `from` on, its residuals from `at` on.
@@ -250,11 +247,7 @@ pub(crate) fn put_word(b: &mut [u8], at: usize, v: u32)
     requires { at + 3 < length b.old }
     ensures { b.new ≡ put_word b.old at v }
 {
-    let [first, second, third, fourth] = v.to_le_bytes();
-    b[at] = first;
-    b[at + 1] = second;
-    b[at + 2] = third;
-    b[at + 3] = fourth;
+    bytes::put(b, at, v.to_le_bytes());
 }
 
 // Writes the block number and the progress record into a result buffer that has room for them.
@@ -361,8 +354,8 @@ fn serve(done: u32, s: Still, plan: &[u8], residuals: &[u8], plane: &mut [u8], n
     );
 }
 
-// Decodes the next blocks of a plan in the plane's own bytes, as many as are granted; so many are done before it. It gives its number,
-// and writes the block that it is about and the next progress record into the result buffer.
+// Decodes the next blocks of a plan in the plane's own bytes, as many as are granted; so many are done before it. It writes
+// the block that it is about and the next progress record into the result buffer.
 pub(crate) fn replay(
     done: u32,
     still: Still,
@@ -371,20 +364,20 @@ pub(crate) fn replay(
     plane: &mut [u8],
     res: &mut [u8],
     grant: u32,
-) -> u32
-    ensures { record { number = result; plane = plane.new; result = res.new } ≡ replayed still
+) -> Result<(), Refusal>
+    ensures { record { number = no_of result; plane = plane.new; result = res.new } ≡ replayed still
         done plan.now residuals.now grant plane.old res.old }
 {
     match granted(done, still, plan, residuals, plane.len(), res.len(), grant) {
         Err(fault) => {
             answer(res, fault.block, done);
-            fault.why.number()
+            Err(fault.why)
         }
         Ok(advance) => {
             let next = advance.next.done;
             serve(done, still, plan, residuals, &mut *plane, next);
             answer(res, 0, next);
-            0
+            Ok(())
         }
     }
 }

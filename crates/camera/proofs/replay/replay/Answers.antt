@@ -18,7 +18,7 @@ returns-in-Err c =
     let l : Lent = record { plan = a.plan.now; residuals = a.residuals.now; plane = length a.plane.now; result = length a.res.now } in
     let d = never_0 c.in-Err.fault.why in
     let is = step_refused _ _ _ _ c.in-Err.ensures d in
-    all_three a.still a.done a.plan.now a.residuals.now a.grant a.plane.now a.res.now (c.number.ensures ∙ ap (λ (u : Verdict). u.no) is)
+    all_three a.still a.done a.plan.now a.residuals.now a.grant a.plane.now a.res.now (ap (λ (u : Verdict). u.no) is)
     (plane_kept a.still a.done l a.grant _ is d a.plane.now)
     (c.answer.ensures ∙ result_refused a.still a.done l a.grant _ is d a.res.now)
 
