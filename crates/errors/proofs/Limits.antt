@@ -13,7 +13,7 @@ use Rattle.errors.specs.declared.Report.{Report}
 use Rattle.errors.specs.Errors.{square_apart, error_at, of_mode, one, samples_in, squares_in, raised, tallied, pair_tally}
 use Rattle.errors.specs.Errors.{plane_area, top_of, samples_so_far, keeps_limits}
 use Rattle.errors.specs.Served.{RoomFor, under_mode, Limitable, Countable, Figured, block_figures}
-use Rattle.errors.specs.Limits.{limits_small, limits_each, raised_at, same_figures, upto, upto_long, Passing}
+use Rattle.errors.specs.Limits.{limits_small, limits_each, raised_at, same_figures, upto, upto_long, raise_none, Passing}
 use Rattle.errors.specs.Added.{Modest, limits_kept}
 
 -- blocks by mode, one weight at a time
@@ -172,6 +172,18 @@ module _ {r : Report} {fit : Bool} {a b : List ℕ} {plan : Plan} (c : Countable
   room_in_64 = let s = limits_small one_more in (s.0, s.1.1)
 
   module _ (long : Figured r) where
+    pub passing_none : Passing c 0 r.blocks r.samples r.squares
+    passing_none = (
+      omega arith,
+      (
+        raise_none one block_at r.blocks long.0,
+        (
+          raise_none samples_in block_at r.samples long.1.0,
+          raise_none (squares_in a b r.frame.width) block_at r.squares long.1.1,
+        ),
+      ),
+    )
+
     -- a turn: t is block k and v its squares
     module _ {k : ℕ} {blocks samples squares : List ℕ} (p : Passing c k blocks samples squares) (l : k < plan.count)
         (t : Block) (e : t ≡ plan.block k) (v : ℕ) (q : v ≡ squares_in a b r.frame.width t) where
@@ -224,6 +236,24 @@ module _ {r : Report} {fit : Bool} {a b : List ℕ} {plan : Plan} (c : Countable
           ),
         ),
       )
+
+      -- as the code leaves them
+      pub turn_added : {blocks' samples' squares' : List ℕ}
+          → (blocks' ≡ under_mode t blocks 1) × ((samples' ≡ under_mode t samples (samples_in t)) × (squares' ≡ under_mode t squares v))
+          → Passing c (k + 1) blocks' samples' squares'
+      turn_added x = (turn_more.0, (x.0 ∙ turn_more.1.0, (x.1.0 ∙ turn_more.1.1.0, x.1.1 ∙ turn_more.1.1.1)))
+
+  pub passing_done : {k : ℕ} {blocks samples squares : List ℕ} → Passing c k blocks samples squares → plan.count ≤ k
+      → record { bits = r.bits; frame = r.frame; pairs = r.pairs + 1; blocks = blocks; samples = samples; squares = squares }
+      ≡ tallied r (pair_tally r.frame a b plan)
+  passing_done {k} {blocks} {samples} {squares} p l = let e : k ≡ plan.count = omega (arith, p.0) in λ i. record {
+    bits = r.bits;
+    frame = r.frame;
+    pairs = r.pairs + 1;
+    blocks = (p.1.0 ∙ ap (λ (n : ℕ). raised (of_mode one block_at n) r.blocks) e) i;
+    samples = (p.1.1.0 ∙ ap (λ (n : ℕ). raised (of_mode samples_in block_at n) r.samples) e) i;
+    squares = (p.1.1.1 ∙ ap (λ (n : ℕ). raised (of_mode (squares_in a b r.frame.width) block_at n) r.squares) e) i;
+  }
 
 -- a counted pair keeps the limits
 pub pair_keeps : {r : Report} {fit : Bool} {a b : List ℕ} {plan : Plan} → Countable r fit a b plan → Figured r

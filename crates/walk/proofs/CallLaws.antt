@@ -1,6 +1,6 @@
 -- How far a call goes: one that has a block to do is served. So what its loop asks holds, and it leaves what the door says. Rests on the laws
 -- of calls.
-use Rattle.std.specs.Prelude.{◌≡◌, refl, List, ℕ, ◌+◌, ◌-◌, ◌<◌, length, ℤ}
+use Rattle.std.specs.Prelude.{◌≡◌, refl, List, ℕ, ◌+◌, ◌-◌, ◌≤◌, ◌<◌, length, ℤ}
 use Rattle.std.proofs.Math.Path.{sym, ap}
 use Rattle.std.proofs.Common.{◌∙◌, arith}
 use Rattle.std.proofs.Math.Decide.{ℕ_discrete}
@@ -17,6 +17,12 @@ use Rattle.walk.specs.block.Walked.{World, walk_unit}
 use Rattle.walk.specs.calls.Door.{replay_verdict, replay_after, walk_verdict, walk_after}
 use Rattle.walk.specs.calls.Ready.{ReplayReady, WalkReady}
 use Rattle.walk.specs.calls.Laws.{replay_sound, walk_sound, refused_upto}
+
+module _ (v : Verdict) (count done grant : ℕ) where
+  -- a call goes up to no more blocks than there are
+  pub upto_few : v.no ≡ 0 → done ≤ count → {t : Step} → t ≡ step_of v count done grant → t.upto ≤ count
+  upto_few z few {t} e = let q : t.upto ≡ done + doing_of count done grant = ap (λ (x : Step). x.upto)
+      (e ∙ sym (granted_step v count done grant z {did = doing_of count done grant} refl)) in omega (arith, q)
 
 -- how far a call goes: one that has a block to do is served
 module _ (v : Verdict) (count done grant upto : ℕ) (is : upto ≡ (step_of v count done grant).upto) where
