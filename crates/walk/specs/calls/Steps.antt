@@ -1,5 +1,5 @@
 -- Document 01, 'Plan, walk, replay': which blocks a call does, by its verdict, the blocks done before it and its grant. Assumes nothing.
-use Rattle.std.specs.Prelude.{◌≡◌, refl, ℕ, min, ◌+◌, ◌-◌}
+use Rattle.std.specs.Prelude.{◌≡◌, ℕ, min, ◌+◌, ◌-◌}
 use Rattle.std.proofs.Common.{sym, ◌∙◌}
 use Rattle.std.proofs.Math.Decide.{ℕ_discrete}
 use Rattle.std.proofs.Math.Path.{ap}
@@ -44,6 +44,7 @@ module _ (v : Verdict) (count done grant : ℕ) where
       let q = e ∙ sym (refused_step n) in λ i. record { no = (q i).no; block = (q i).block }
 
   pub step_granted : {x : Step} → x ≡ step_of v count done grant → x.no ≡ 0 → (v.no ≡ 0) × (x.upto ≡ done + doing_of count done grant)
+  unfolding step_of
   step_granted {x} e z =
       let n : v.no ≡ 0 = sym (ap (λ (y : Step). y.no) e ∙ step_no) ∙ z in
-      (n, ap (λ (y : Step). y.upto) (e ∙ sym (granted_step n {did = doing_of count done grant} refl)))
+      (n, ap (λ (y : Step). y.upto) (e ∙ sym (worked v.no _ _ n)))
