@@ -181,7 +181,10 @@ impl Report {
         }
     }
 
+    // What follows is built into the doors: each call that is left takes a copy of the report, 864 bytes of the stack.
+
     // What a refused call hands back: the report as it was given.
+    #[inline(always)]
     fn rejected(self, fault: Fault) -> Rejected
         ensures { result ≡ record { fault = fault; report = self } }
     {
@@ -192,6 +195,7 @@ impl Report {
     }
 
     // How many samples a plane has.
+    #[inline(always)]
     fn area(self) -> usize
         ensures { result ≡ plane_area self }
     {
@@ -200,6 +204,7 @@ impl Report {
 
     // Number 15: whether no mode has more than the pairs so far can give.
     #[tactic(auto, using(fmt::specs::depth::Laws::largest_of_is), unfolding(crate::specs::Errors::keeps_limits))]
+    #[inline(always)]
     fn keeps_limits(self) -> bool
         requires { Limitable self }
         ensures { result ≡ keeps_limits self }
@@ -213,6 +218,7 @@ impl Report {
 
     // Numbers 1, 4, 5, 7: `fit` says whether what is lent is as long as it must be, `ok` whether all samples are of the depth.
     #[tactic(auto, unfolding(crate::specs::Errors::pair_no))]
+    #[inline(always)]
     fn check_settings(self, fit: bool, ok: bool) -> Result<(), Refusal>
         ensures { no_of result ≡ pair_no self fit ok }
     {
@@ -229,6 +235,7 @@ impl Report {
     }
 
     // The checks before the plan's. `whole` says whether the plan is of whole records.
+    #[inline(always)]
     fn check_lent<S: Samples>(self, whole: bool, a: S, b: S) -> Result<(), Refusal>
         ensures { no_of result ≡ pair_no self (whole && (S.exactly a (plane_area self) && S.exactly b (plane_area self)))
             (at_most (top_of self) (S.list a) && at_most (top_of self) (S.list b)) }
@@ -241,6 +248,7 @@ impl Report {
 
     // Number 15: whether there is room for a pair more. The count comes first, so that no limit is too large.
     #[tactic(auto, unfolding(crate::specs::Errors::room_for_pair))]
+    #[inline(always)]
     fn check_room(self) -> Result<(), Refusal>
         requires { Depth self.bits × Good (picture_of self.frame) }
         ensures { no_of result ≡ cond (room_for_pair self) 0 15 }
@@ -256,6 +264,7 @@ impl Report {
     }
 
     // The checks on a pair: those before the plan's, then the plan's, then 15.
+    #[inline(always)]
     fn check_pair<S: Samples, P: Blocks>(self, a: S, b: S, plan: P) -> Result<(), Fault>
         ensures { verdict_of result ≡ pair_verdict self (S.exactly a (plane_area self) && S.exactly b (plane_area self))
             (S.list a) (S.list b) (P.plan plan) }
@@ -266,6 +275,7 @@ impl Report {
     }
 
     // Counts a pair of planes under a plan, in whatever form they are lent: unless it is refused, its blocks, each under its mode.
+    #[inline(always)]
     pub(crate) fn count_pair<S: Samples, P: Blocks>(
         self,
         a: S,
@@ -293,6 +303,7 @@ impl Report {
     }
 
     // A block more, under its mode: itself, its samples, its squares.
+    #[inline(always)]
     fn add_block(&mut self, t: Block, squares: u64)
         requires { RoomFor self.old.blocks self.old.samples self.old.squares t squares }
         ensures { self.new ≡ with_block self.old t squares }
