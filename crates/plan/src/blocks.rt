@@ -1,5 +1,5 @@
 // A plan as it is lent: four slices of numbers, block records, or bytes. What is done with a plan is written once, over the plan that
-// either form stands for. Rests on plan's definitions and on crate bytes.
+// either form stands for. Rests on plan's definitions and on its records of bytes.
 ghost use Rattle.std.specs.Prelude.{◌≡◌, ◌/◌, ◌%◌, Bool, eqb, ℕ, get_or, length};
 ghost use Rattle.plan.specs.tiling.Plan.{Plan, plan_of, listed, no_block};
 ghost use Rattle.plan.specs.RecordPlan.{records_of};
