@@ -3,41 +3,51 @@
 ghost use Rattle.std.specs.Prelude.{◌≡◌, ℕ, ◌≤◌, length, get_or};
 ghost use Rattle.laws.specs.Fill.{fill};
 ghost use Rattle.octets.specs.Bytes.{samples_of};
+ghost use Rattle.domain.specs.Refusal.{no_of};
 ghost use Rattle.predict.specs.Lent.{lent_neighbours};
+ghost use Rattle.choose.specs.Answers.{chosen_of};
 ghost use Rattle.choose.specs.Choose.{mode_sum, choose_no, Chooses, lends};
 ghost use Rattle.camera.specs.Written.{wrote};
 ghost use Rattle.camera.specs.choice.Entry.{samples_no, choice_lent_no, choice_no, choice_sums, ChoosesInto};
 ghost use Rattle.camera.specs.choice.Laws.{Choosable};
 
 use crate::{gather, prediction, replay};
-use choose::Chosen;
+use choose::Best;
+use domain::refusal::Refusal;
 
-// Numbers 1, 2 and 5, by the lengths in bytes.
-fn lent_no(bits: u32, n: usize, above: usize, left: usize, source: usize, out: usize) -> u32
-    ensures { result ≡ choice_lent_no bits n above left source out }
+// The depth, the size and the lengths in bytes: 1, 2 and 5.
+#[tactic(auto, unfolding(crate::specs::choice::Entry::choice_lent_no))]
+fn check_lent(
+    bits: u32,
+    n: usize,
+    above: usize,
+    left: usize,
+    source: usize,
+    out: usize,
+) -> Result<(), Refusal>
+    ensures { no_of result ≡ choice_lent_no bits n above left source out }
 {
     if !domain::depth_ok(bits) {
-        return 1;
+        return Err(Refusal::Depth);
     }
     if !domain::size_ok(n) {
-        return 2;
+        return Err(Refusal::Size);
     }
     if !((above >= 130) & (left >= 130) & (source >= 2 * (n * n)) & (out >= 8)) {
-        return 5;
+        return Err(Refusal::Buffer);
     }
-    0
+    Ok(())
 }
 
 // The first `count` samples of a source.
+#[tactic(auto, using(laws::specs::FillLaws::fill_none, laws::specs::FillLaws::fill_more))]
 fn read_samples(source: &[u8], count: usize, out: &mut [u16])
     requires { (count ≤ length (samples_of source.now)) × (count ≤ length out.old) }
     ensures { out.new
         ≡ fill (λ (i : ℕ). get_or (samples_of source.now) i 0) count out.old }
 {
-    let mut i = 0;
-    while i < count {
+    for i in 0..count {
         out[i] = gather::sample_in(source, i);
-        i += 1;
     }
 }
 
@@ -54,9 +64,9 @@ fn search(
     refs: &mut [u16],
     indices: &mut [u32],
     fractions: &mut [u32],
-) -> Chosen
+) -> Result<Best, Refusal>
     ensures { Chooses (choose_no bits n source.now (lends above left pred refs indices fractions))
-        (mode_sum bits n (lent_neighbours corner above left) source.now) result }
+        (mode_sum bits n (lent_neighbours corner above left) source.now) (chosen_of result) }
 {
     if early {
         return choose::choose_early(
@@ -95,10 +105,10 @@ fn choose_block(
     above: &[u8],
     left: &[u8],
     source: &[u8],
-) -> Chosen
+) -> Result<Best, Refusal>
     requires { Choosable bits n (length above.now) (length left.now) (length source.now) }
     ensures { Chooses (samples_no bits n (samples_of source.now))
-        (choice_sums bits n corner above.now left.now source.now) result }
+        (choice_sums bits n corner above.now left.now source.now) (chosen_of result) }
 {
     let mut samples = [0u16; 1024];
     read_samples(source, n * n, &mut samples);
@@ -135,28 +145,22 @@ pub(crate) fn choose(
     left: &[u8],
     source: &[u8],
     out: &mut [u8],
-) -> u32
+) -> Result<(), Refusal>
     ensures { ChoosesInto
         (choice_no bits n above.now left.now source.now out.old)
         (choice_sums bits n corner above.now left.now source.now) out.old
-        (wrote result out.new) }
+        (wrote (no_of result) out.new) }
 {
-    let no = lent_no(
+    check_lent(
         bits,
         n as usize,
         above.len(),
         left.len(),
         source.len(),
         out.len(),
-    );
-    if no != 0 {
-        return no;
-    }
-    let best = choose_block(early, bits, n as usize, corner, above, left, source);
-    if best.no != 0 {
-        return best.no;
-    }
+    )?;
+    let best = choose_block(early, bits, n as usize, corner, above, left, source)?;
     replay::put_word(out, 0, best.mode as u32);
     replay::put_word(out, 4, best.sum);
-    0
+    Ok(())
 }

@@ -1,14 +1,19 @@
 // Reference samples out of planes of bytes, two a sample, the lower first: the luma gather by value, for the replay, and both
 // gathers stored in a lent buffer, for C (document 01, 'use from C'). Rests on refs for what a gather refuses, which neighbours are
 // there and where they stand, and on what bytes spell; a sample's value never says whether it is there.
-ghost use Rattle.std.specs.Prelude.{◌≡◌, true, ℕ, ◌+◌, ◌*◌, ◌%◌, ◌≤◌, ◌<◌, leb, length, get_or, set};
+ghost use Rattle.std.specs.Prelude.{◌≡◌, true, ℕ, ◌+◌, ◌*◌, ◌%◌, ◌≤◌, ◌<◌, leb, length, get_or, set, Ok, IfOk};
+ghost use Rattle.domain.specs.Refusal.{no_of};
 ghost use Rattle.laws.specs.Bytes.{byte_of};
 ghost use Rattle.laws.specs.Fill.{fill, run};
 ghost use Rattle.octets.specs.Bytes.{byte1, samples_of};
 ghost use Rattle.refs.specs.substitution.Line.{any_by};
-ghost use Rattle.refs.specs.Door.{luma_no, luma_rows, chroma_no, chroma_pair};
+ghost use Rattle.order.specs.Answers.{there};
+ghost use Rattle.order.specs.Reach.{luma_reach, chroma_reach};
+ghost use Rattle.refs.specs.Answers.{gathered, laid};
+ghost use Rattle.refs.specs.Door.{luma_block, luma_no, luma_rows, chroma_block, chroma_no, chroma_pair};
 ghost use Rattle.refs.specs.Counts.{start_of, corner_of, rest_of};
-ghost use Rattle.refs.specs.Spots.{luma_layout, chroma_layout, on_edge, corner_on, above_on_plane, left_on, plane_rows, Reads};
+ghost use Rattle.refs.specs.Spots.{luma_spot, chroma_spot, luma_layout, chroma_layout};
+ghost use Rattle.refs.specs.Spots.{on_edge, corner_on, above_on_plane, left_on, plane_rows, Reads};
 ghost use Rattle.refs.specs.Seen.{padded};
 ghost use Rattle.camera.specs.gather.Line.{sample_byte, rows_at, room_no};
 ghost use Rattle.camera.specs.Written.{wrote};
@@ -17,14 +22,16 @@ ghost use Rattle.camera.specs.gather.Entry.{luma_entry, chroma_entry};
 ghost use Rattle.camera.specs.gather.Spelt.{pair_at};
 ghost use Rattle.camera.specs.gather.Around.{edge_in, around_of, Kept};
 
+use crate::bytes;
+use domain::refusal::Refusal;
 use domain::rows;
-use domain::rows::{Gathered, Rows};
+use domain::rows::Rows;
 use fmt::depth;
 use order::Reach;
 use refs::{ChromaRefGeometry, Layout, LumaRefGeometry, Spot};
 
 // An edge of a block: where its entry 0 stands in the plane, how far apart its entries do, how many are there, and what the others have.
-#[derive(Clone, Copy)]
+#[derive(Clone, Copy, Debug, PartialEq, Eq)]
 struct Border {
     at: usize,
     step: usize,
@@ -117,6 +124,7 @@ fn look_around(plane: &[u8], s: Spot, r: Reach, n: usize) -> Around
 }
 
 // Reads an edge into a row: the entries that are there, then what the others have up to entry 2n.
+#[tactic(auto, using(laws::specs::FillLaws::fill_none, laws::specs::FillLaws::fill_more, octets::specs::Laws::length_samples))]
 fn read_edge(plane: &[u8], e: Border, n: usize, row: &mut [u16])
     requires { Kept e (length (samples_of plane.now)) n × (65 ≤ length row.old) }
     ensures { row.new ≡ padded (2 * n + 1) e.have e.rest (fill (on_edge (samples_of plane.now) e.at e.step) e.have row.old) }
@@ -126,15 +134,10 @@ fn read_edge(plane: &[u8], e: Border, n: usize, row: &mut [u16])
     let have = e.have;
     let rest = e.rest;
     let end = 2 * n + 1;
-    let mut i = 0;
-    while i < have {
+    for i in 0..have {
         row[i] = sample_in(plane, from + i * step);
-        i += 1;
     }
-    while i < end {
-        row[i] = rest;
-        i += 1;
-    }
+    row[have..end].fill(rest);
 }
 
 // The rows of a plane, from how far the neighbours reach.
@@ -160,28 +163,26 @@ fn plane_rows(plane: &[u8], s: Spot, r: Reach, n: usize, neutral: u16) -> Rows
 // buffer are counted in samples.
 
 // Stores a sample.
-fn put(out: &mut [u8], at: usize, v: u16)
+pub(crate) fn put(out: &mut [u8], at: usize, v: u16)
     requires { 2 * at + 1 < length out.old }
     ensures { out.new ≡ set (set out.old (2 * at) (v % 256)) (2 * at + 1) (byte1 v) }
 {
-    let low = 2 * at;
-    out[low] = octets::byte_0(v as u32);
-    out[low + 1] = octets::byte_1(v as u32);
+    bytes::put(out, 2 * at, v.to_le_bytes());
 }
 
 // Stores one value `count` times.
+#[tactic(auto, using(crate::specs::gather::Bytes::storing))]
 fn store_level(v: u16, count: usize, out: &mut [u8], at: usize)
     requires { 2 * (at + count) ≤ length out.old }
     ensures { out.new ≡ run (byte_of 2 (λ (i : ℕ). v)) (2 * at) (2 * count) out.old }
 {
-    let mut i = 0;
-    while i < count {
+    for i in 0..count {
         put(&mut *out, at + i, v);
-        i += 1;
     }
 }
 
 // Stores the entries of an edge that are there.
+#[tactic(auto, using(crate::specs::gather::Bytes::storing))]
 fn store_seen(plane: &[u8], e: Border, out: &mut [u8], at: usize)
     requires { (2 * (at + e.have) ≤ length out.old) × ((i : ℕ) → i < e.have → e.at + i * e.step < length
         (samples_of plane.now)) }
@@ -191,10 +192,8 @@ fn store_seen(plane: &[u8], e: Border, out: &mut [u8], at: usize)
     let from = e.at;
     let step = e.step;
     let have = e.have;
-    let mut i = 0;
-    while i < have {
+    for i in 0..have {
         put(&mut *out, at + i, sample_in(plane, from + i * step));
-        i += 1;
     }
 }
 
@@ -235,86 +234,83 @@ fn store_plane_rows(
     store_edge(plane, a.left, n, &mut *out, left_at);
 }
 
-// A gather's number where its buffer may be short of the rows of so many planes: 5 comes before 6 and 0, and after the others.
-fn room_no(no: u32, planes: u32, room: usize) -> u32
-    ensures { result ≡ room_no (leb (262 * planes) room) no }
+// A gather's answer where its buffer may be short of the rows of so many planes: that comes before the block's place, and after the
+// other refusals.
+fn with_room(early: Result<Reach, Refusal>, planes: u32, room: usize) -> Result<Reach, Refusal>
+    ensures { (no_of result ≡ room_no (leb (262 * planes) room) (no_of early)) × IfOk result (λ r. early ≡ Ok r) }
 {
-    if (no == 0) | (no == 6) {
-        return if 262 * (planes as usize) <= room {
-            no
-        } else {
-            5
-        };
+    if 262 * (planes as usize) <= room {
+        return early;
     }
-    no
+    match early {
+        Ok(_) => Err(Refusal::Buffer),
+        Err(Refusal::Place) => Err(Refusal::Buffer),
+        _ => early,
+    }
 }
 
-// The number of a gather out of a plane of so many bytes.
-fn luma_bytes_no(len: usize, geo: LumaRefGeometry, l: Layout) -> u32
-    requires { l ≡ luma_layout geo }
-    ensures { result ≡ luma_bytes_no len geo }
+// Whether a gather out of a plane of so many bytes is served, and then its block's reach.
+fn check_luma_bytes(len: usize, geo: LumaRefGeometry, l: Layout) -> Result<Reach, Refusal>
+    requires { laid l ≡ luma_layout geo }
+    ensures { (no_of result ≡ luma_bytes_no len geo) × IfOk result (λ r. l.reach ≡ Ok r) }
 {
     let whole = octets::whole_in(len, l.length);
-    refs::gather_no(geo.bits, l.reach.no, whole)
+    refs::check_gather(geo.bits, l.reach, whole)
 }
 
-fn luma_rows(plane: &[u8], geo: LumaRefGeometry, l: Layout) -> Rows
-    requires { (l ≡ luma_layout geo) × (luma_no (length (samples_of plane.now)) geo ≡ 0) }
+fn luma_rows(plane: &[u8], geo: LumaRefGeometry, s: Spot, reach: Reach) -> Rows
+    requires { (s ≡ luma_spot geo) × (there reach ≡ luma_reach (luma_block geo)) × (luma_no (length (samples_of plane.now)) geo ≡ 0) }
     ensures { result ≡ luma_rows (samples_of plane.now) geo }
 {
-    let s = l.spot;
-    let reach = l.reach;
     plane_rows(plane, s, reach, geo.n, depth::neutral_of(geo.bits))
 }
 
 // The reference rows of a luma block.
-pub(crate) fn get_reference_samples(plane: &[u8], geo: LumaRefGeometry) -> Gathered
-    ensures { result ≡ luma_bytes_door plane.now geo }
+#[tactic(auto, unfolding(crate::specs::gather::Door::luma_bytes_door), using(domain::specs::Refused::never_0))]
+pub(crate) fn get_reference_samples(plane: &[u8], geo: LumaRefGeometry) -> Result<Rows, Refusal>
+    ensures { gathered result ≡ luma_bytes_door plane.now geo }
 {
     let l = refs::luma_layout(geo);
-    let no = luma_bytes_no(plane.len(), geo, l);
-    if no != 0 {
-        return Gathered {
-            no,
-            rows: rows::level_rows(0),
-        };
-    }
-    Gathered {
-        no: 0,
-        rows: luma_rows(plane, geo, l),
-    }
+    let reach = check_luma_bytes(plane.len(), geo, l)?;
+    Ok(luma_rows(plane, geo, l.spot, reach))
 }
 
-fn store_luma_rows(plane: &[u8], geo: LumaRefGeometry, l: Layout, out: &mut [u8])
-    requires { (l ≡ luma_layout geo) × (luma_no (length (samples_of plane.now)) geo ≡ 0) × (262 ≤ length out.old) }
+fn store_luma_rows(plane: &[u8], geo: LumaRefGeometry, s: Spot, reach: Reach, out: &mut [u8])
+    requires { (s ≡ luma_spot geo) × (there reach ≡ luma_reach (luma_block geo))
+        × (luma_no (length (samples_of plane.now)) geo ≡ 0) × (262 ≤ length out.old) }
     ensures { out.new ≡ rows_at 0 (luma_rows (samples_of plane.now) geo) out.old }
 {
-    let s = l.spot;
-    let reach = l.reach;
     let neutral = depth::neutral_of(geo.bits);
     store_plane_rows(plane, s, reach, geo.n, neutral, &mut *out, 0);
 }
 
 // The same, stored as bytes: the corner, the row above and the left column.
-pub(crate) fn store_reference_samples(plane: &[u8], geo: LumaRefGeometry, out: &mut [u8]) -> u32
-    ensures { wrote result out.new ≡ luma_entry plane.now geo out.old }
+pub(crate) fn store_reference_samples(
+    plane: &[u8],
+    geo: LumaRefGeometry,
+    out: &mut [u8],
+) -> Result<(), Refusal>
+    ensures { wrote (no_of result) out.new ≡ luma_entry plane.now geo out.old }
 {
     let l = refs::luma_layout(geo);
-    let early = luma_bytes_no(plane.len(), geo, l);
-    let no = room_no(early, 1, out.len());
-    if no == 0 {
-        store_luma_rows(plane, geo, l, &mut *out);
-    }
-    no
+    let early = check_luma_bytes(plane.len(), geo, l);
+    let reach = with_room(early, 1, out.len())?;
+    store_luma_rows(plane, geo, l.spot, reach, &mut *out);
+    Ok(())
 }
 
-// The number of a gather out of planes of so many bytes.
-fn chroma_bytes_no(cb: usize, cr: usize, geo: ChromaRefGeometry, l: Layout) -> u32
-    requires { l ≡ chroma_layout geo }
-    ensures { result ≡ chroma_bytes_no cb cr geo }
+// Whether a gather out of planes of so many bytes is served, and then its block's reach.
+fn check_chroma_bytes(
+    cb: usize,
+    cr: usize,
+    geo: ChromaRefGeometry,
+    l: Layout,
+) -> Result<Reach, Refusal>
+    requires { laid l ≡ chroma_layout geo }
+    ensures { (no_of result ≡ chroma_bytes_no cb cr geo) × IfOk result (λ r. l.reach ≡ Ok r) }
 {
     let whole = octets::whole_in(cb, l.length) & octets::whole_in(cr, l.length);
-    refs::gather_no(geo.bits, l.reach.no, whole)
+    refs::check_gather(geo.bits, l.reach, whole)
 }
 
 // Cb's rows, then Cr's: one layout for both.
@@ -322,14 +318,15 @@ fn store_chroma_rows(
     plane_cb: &[u8],
     plane_cr: &[u8],
     geo: ChromaRefGeometry,
-    l: Layout,
+    s: Spot,
+    reach: Reach,
     out: &mut [u8],
 )
-    requires { (l ≡ chroma_layout geo) × (chroma_no (length (samples_of plane_cb.now)) (length (samples_of plane_cr.now)) geo ≡ 0) × (524 ≤ length out.old) }
+    requires { (s ≡ chroma_spot geo) × (there reach ≡ chroma_reach (chroma_block geo))
+        × (chroma_no (length (samples_of plane_cb.now)) (length (samples_of plane_cr.now)) geo ≡ 0)
+        × (524 ≤ length out.old) }
     ensures { out.new ≡ pair_at (chroma_pair (samples_of plane_cb.now) (samples_of plane_cr.now) geo) out.old }
 {
-    let s = l.spot;
-    let reach = l.reach;
     let neutral = depth::neutral_of(geo.bits);
     let n = geo.n;
     store_plane_rows(plane_cb, s, reach, n, neutral, &mut *out, 0);
@@ -342,15 +339,12 @@ pub(crate) fn store_reference_samples_chroma_pair(
     plane_cr: &[u8],
     geo: ChromaRefGeometry,
     out: &mut [u8],
-) -> u32
-    ensures { wrote result out.new ≡ chroma_entry plane_cb.now plane_cr.now geo
-        out.old }
+) -> Result<(), Refusal>
+    ensures { wrote (no_of result) out.new ≡ chroma_entry plane_cb.now plane_cr.now geo out.old }
 {
     let l = refs::chroma_layout(geo);
-    let early = chroma_bytes_no(plane_cb.len(), plane_cr.len(), geo, l);
-    let no = room_no(early, 2, out.len());
-    if no == 0 {
-        store_chroma_rows(plane_cb, plane_cr, geo, l, &mut *out);
-    }
-    no
+    let early = check_chroma_bytes(plane_cb.len(), plane_cr.len(), geo, l);
+    let reach = with_room(early, 2, out.len())?;
+    store_chroma_rows(plane_cb, plane_cr, geo, l.spot, reach, &mut *out);
+    Ok(())
 }

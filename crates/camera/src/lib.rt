@@ -3,6 +3,7 @@
 // are stored.
 #![tactic(auto)]
 
+mod bytes;
 mod choice;
 mod gather;
 mod luma;
@@ -23,6 +24,7 @@ ghost use Rattle.camera.specs.choice.Entry.{choice_no, choice_sums, ChoosesInto}
 ghost use Rattle.errors.specs.RecordBytes.{entered, count_entry, join_entry};
 
 use checksum::RowRange;
+use domain::refusal::no_of;
 use errors::record;
 use fmt::{ChromaCol, ChromaRow, LumaCol, LumaRow};
 use order::Picture;
@@ -61,7 +63,7 @@ pub extern "C" fn salvrunde_luma_refs(
         block_col: LumaCol(col),
         n: n as usize,
     };
-    gather::store_reference_samples(plane, geo, out)
+    no_of(gather::store_reference_samples(plane, geo, out))
 }
 
 // The reference rows of a chroma block, out of the planes of Cb and of Cr: Cb's corner, above and left in the first 262 bytes of `out`,
@@ -100,7 +102,7 @@ pub extern "C" fn salvrunde_chroma_refs_ctu(
         cur_luma_row: LumaRow(cur_luma_row),
         cur_luma_col: LumaCol(cur_luma_col),
     };
-    gather::store_reference_samples_chroma_pair(cb, cr, geo, out)
+    no_of(gather::store_reference_samples_chroma_pair(cb, cr, geo, out))
 }
 
 // The planar block of side n, in rows, in the first 2 · n · n bytes of `out`; each row has at least 4 · n bytes. Numbers 2, 5.
@@ -108,7 +110,7 @@ pub extern "C" fn salvrunde_chroma_refs_ctu(
 pub extern "C" fn salvrunde_planar(n: u32, above: &[u8], left: &[u8], out: &mut [u8]) -> u32
     ensures { wrote result out.new ≡ planar_entry n above.now left.now out.old }
 {
-    prediction::planar(n, above, left, out)
+    no_of(prediction::planar(n, above, left, out))
 }
 
 // The DC block; an edge flag that is not 0 asks for filtered edges. Numbers 2, 5.
@@ -116,7 +118,7 @@ pub extern "C" fn salvrunde_planar(n: u32, above: &[u8], left: &[u8], out: &mut 
 pub extern "C" fn salvrunde_dc(n: u32, edge: u32, above: &[u8], left: &[u8], out: &mut [u8]) -> u32
     ensures { wrote result out.new ≡ dc_entry n edge above.now left.now out.old }
 {
-    prediction::dc(n, edge, above, left, out)
+    no_of(prediction::dc(n, edge, above, left, out))
 }
 
 // The block of an angular mode, 2 to 34. Numbers 1, 2, 3, 5.
@@ -133,7 +135,7 @@ pub extern "C" fn salvrunde_angular(
 ) -> u32
     ensures { wrote result out.new ≡ angular_entry bits n mode edge corner above.now left.now out.old }
 {
-    prediction::angular(bits, n, mode, edge, corner, above, left, out)
+    no_of(prediction::angular(bits, n, mode, edge, corner, above, left, out))
 }
 
 // A chroma block in any mode, 0 to 34: nothing is smoothed, and no edge is filtered. Numbers 1, 2, 3, 5.
@@ -149,7 +151,7 @@ pub extern "C" fn salvrunde_chroma_block(
 ) -> u32
     ensures { wrote result out.new ≡ chroma_block_entry bits n mode corner above.now left.now out.old }
 {
-    prediction::chroma(bits, n, mode, corner, above, left, out)
+    no_of(prediction::chroma(bits, n, mode, corner, above, left, out))
 }
 
 // A luma block in any mode, 0 to 34: references smoothed by the rule, edges filtered. Each row has at least 130 bytes, 65 samples, as
@@ -166,7 +168,7 @@ pub extern "C" fn salvrunde_luma_block(
 ) -> u32
     ensures { wrote result out.new ≡ luma_block_entry bits n mode corner above.now left.now out.old }
 {
-    luma::luma(bits, n, mode, corner, above, left, out)
+    no_of(luma::luma(bits, n, mode, corner, above, left, out))
 }
 
 // The luma mode, of all 35, whose block has the least sum of absolute differences to a source block, the lowest on a tie: the first 8
@@ -187,7 +189,7 @@ pub extern "C" fn salvrunde_choose(
         (choice_sums bits n corner above.now left.now source.now) out.old
         (wrote result out.new) }
 {
-    choice::choose(false, bits, n, corner, above, left, source, out)
+    no_of(choice::choose(false, bits, n, corner, above, left, source, out))
 }
 
 // The same by a search that drops a mode as soon as it cannot win: the mode and the sum are those of the full search.
@@ -206,7 +208,7 @@ pub extern "C" fn salvrunde_choose_early(
         (choice_sums bits n corner above.now left.now source.now) out.old
         (wrote result out.new) }
 {
-    choice::choose(true, bits, n, corner, above, left, source, out)
+    no_of(choice::choose(true, bits, n, corner, above, left, source, out))
 }
 
 // Decodes the next blocks of a still, as many as are granted, in the plane's own bytes: exactly 2 · width · height of the plane, 4
@@ -231,7 +233,7 @@ pub extern "C" fn salvrunde_replay(
 {
     let frame = Frame { width, height, ctu };
     let still = Still { bits, frame };
-    replay::replay(done, still, plan, residuals, plane, res, grant)
+    no_of(replay::replay(done, still, plan, residuals, plane, res, grant))
 }
 
 // The picture checksum of H.265 Annex D over the rows from `first` up to `end` of a plane of exactly 2 · width · height bytes, from the sum
@@ -256,7 +258,7 @@ pub extern "C" fn salvrunde_checksum(
         first,
         end,
     };
-    sums::store_checksum(plane, range, sum, out)
+    no_of(sums::store_checksum(plane, range, sum, out))
 }
 
 // Counts a pair of planes of bytes under a plan of bytes into a record of 864 bytes (document 02, Wish 14): how far b is from a. The block

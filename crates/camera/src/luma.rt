@@ -3,6 +3,7 @@
 ghost use Rattle.std.specs.Prelude.{◌≡◌, ◌*◌, ◌/◌, ◌≤◌, length};
 ghost use Rattle.laws.specs.Fill.{block};
 ghost use Rattle.octets.specs.pairs.Into.{store_into};
+ghost use Rattle.domain.specs.Refusal.{no_of};
 ghost use Rattle.domain.specs.Facts.{Size};
 ghost use Rattle.predict.specs.by_mode.Door.{Predictable};
 ghost use Rattle.camera.specs.Written.{wrote};
@@ -10,6 +11,7 @@ ghost use Rattle.camera.specs.prediction.Entries.{luma_in, luma_block_entry};
 ghost use Rattle.camera.specs.prediction.Luma.{rows_read};
 
 use crate::prediction;
+use domain::refusal::Refusal;
 use domain::rows::Rows;
 use octets::pairs;
 
@@ -48,7 +50,7 @@ fn rows_block(
     let mut refs = [0u16; 193];
     let mut indices = [0u32; 32];
     let mut fractions = [0u32; 32];
-    predict::predict_luma_tb_slices(
+    let _ = predict::predict_luma_tb_slices(
         mode,
         rows,
         n,
@@ -74,6 +76,7 @@ fn store_block(pred: &[u16], n: usize, out: &mut [u8])
 }
 
 // A luma block in any mode, 0 to 34. Numbers 1, 2, 3, 5.
+#[tactic(auto, unfolding(crate::specs::prediction::Entries::luma_block_entry, crate::specs::Written::entry), using(domain::specs::Refused::never_0))]
 pub(crate) fn luma(
     bits: u32,
     n: u32,
@@ -82,23 +85,22 @@ pub(crate) fn luma(
     above: &[u8],
     left: &[u8],
     out: &mut [u8],
-) -> u32
-    ensures { wrote result out.new
+) -> Result<(), Refusal>
+    ensures { wrote (no_of result) out.new
         ≡ luma_block_entry bits n mode corner above.now left.now out.old }
 {
-    let no = prediction::mode_entry_no(
+    let side = n as usize;
+    prediction::check_mode_entry(
         130,
         bits,
-        n as usize,
+        side,
         mode <= 34,
         above.len(),
         left.len(),
         out.len(),
-    );
-    if no == 0 {
-        let mut pred = [0u16; 1024];
-        rows_block(bits, n as usize, mode as u8, corner, above, left, &mut pred);
-        store_block(&pred, n as usize, &mut *out);
-    }
-    no
+    )?;
+    let mut pred = [0u16; 1024];
+    rows_block(bits, side, mode as u8, corner, above, left, &mut pred);
+    store_block(&pred, side, &mut *out);
+    Ok(())
 }

@@ -1,20 +1,23 @@
 // Prediction for C: from rows of bytes to a block of bytes, samples of two bytes, the lower first. Both rows are read into local
 // arrays, the doors of room predict make the block in another one, and it is stored. Rests on the domain's tests, on those doors
 // and on pairs of samples (bytes).
-ghost use Rattle.std.specs.Prelude.{◌≡◌, ℕ, ◌*◌, ◌≤◌, length};
+ghost use Rattle.std.specs.Prelude.{◌≡◌, true, ℕ, ◌*◌, ◌≤◌, length};
 ghost use Rattle.laws.specs.Fill.{block};
 ghost use Rattle.octets.specs.pairs.Into.{read_into};
+ghost use Rattle.domain.specs.Refusal.{no_of};
+ghost use Rattle.domain.specs.Domain.{mode_ok, predictor_row};
 ghost use Rattle.domain.specs.Facts.{Size};
 ghost use Rattle.h265.specs.Angular.{angular};
 ghost use Rattle.predict.specs.Lent.{lent_neighbours};
 ghost use Rattle.predict.specs.modes.Modes.{predicted_by_mode};
 ghost use Rattle.predict.specs.by_mode.Door.{Predictable};
-ghost use Rattle.camera.specs.Written.{wrote};
+ghost use Rattle.camera.specs.Written.{wrote, entry};
 ghost use Rattle.camera.specs.prediction.Entries.{has_block_room, flat_entry_no, mode_entry_no, neighbours_in, block_in_bytes};
 ghost use Rattle.camera.specs.prediction.Entries.{planar_entry, dc_entry, angular_entry, chroma_block_entry};
 ghost use Rattle.camera.specs.prediction.Checks.{HasRoom};
 ghost use Rattle.camera.specs.prediction.Blocks.{SampleRoom};
 
+use domain::refusal::Refusal;
 use octets::pairs;
 use predict::{angular, planar_dc};
 
@@ -26,21 +29,23 @@ fn has_room(row: usize, n: usize, above: usize, left: usize, out: usize) -> bool
     (above >= row) & (left >= row) & (out >= 2 * (n * n))
 }
 
-// The number of planar or DC.
-fn flat_entry_no(n: usize, above: usize, left: usize, out: usize) -> u32
-    ensures { result ≡ flat_entry_no n above left out }
+// What planar and DC refuse, 2 and 5.
+#[tactic(auto, unfolding(crate::specs::prediction::Entries::flat_entry_no))]
+fn check_flat_entry(n: usize, above: usize, left: usize, out: usize) -> Result<(), Refusal>
+    ensures { no_of result ≡ flat_entry_no n above left out }
 {
     if !domain::size_ok(n) {
-        return 2;
+        return Err(Refusal::Size);
     }
     if !has_room(2 * (2 * n), n, above, left, out) {
-        return 5;
+        return Err(Refusal::Buffer);
     }
-    0
+    Ok(())
 }
 
-// The number of an entry that takes a mode; `taken` tells whether it takes this one, `row` the least bytes of a row.
-pub(crate) fn mode_entry_no(
+// What an entry refuses that takes a mode, 1, 2, 3 and 5; `taken` tells whether it takes this one, `row` the least bytes of a row.
+#[tactic(auto, unfolding(crate::specs::prediction::Entries::mode_entry_no))]
+pub(crate) fn check_mode_entry(
     row: usize,
     bits: u32,
     n: usize,
@@ -48,22 +53,22 @@ pub(crate) fn mode_entry_no(
     above: usize,
     left: usize,
     out: usize,
-) -> u32
-    ensures { result ≡ mode_entry_no row bits n taken above left out }
+) -> Result<(), Refusal>
+    ensures { no_of result ≡ mode_entry_no row bits n taken above left out }
 {
     if !domain::depth_ok(bits) {
-        return 1;
+        return Err(Refusal::Depth);
     }
     if !domain::size_ok(n) {
-        return 2;
+        return Err(Refusal::Size);
     }
     if !taken {
-        return 3;
+        return Err(Refusal::Mode);
     }
     if !has_room(row, n, above, left, out) {
-        return 5;
+        return Err(Refusal::Buffer);
     }
-    0
+    Ok(())
 }
 
 // An angular block, with tables of its own.
@@ -85,7 +90,7 @@ fn angular_block(
     let mut refs = [0u16; 193];
     let mut indices = [0u32; 32];
     let mut fractions = [0u32; 32];
-    angular::predict_angular_slices(
+    let _ = angular::predict_angular_slices(
         corner,
         above,
         left,
@@ -118,10 +123,10 @@ fn mode_block(
 {
     match mode {
         0 => {
-            planar_dc::predict_planar_into(above, left, n, &mut *pred);
+            let _ = planar_dc::predict_planar_into(above, left, n, &mut *pred);
         }
         1 => {
-            planar_dc::predict_dc_into(above, left, n, edge, &mut *pred);
+            let _ = planar_dc::predict_dc_into(above, left, n, edge, &mut *pred);
         }
         _ => angular_block(bits, n, mode, edge, corner, above, left, &mut *pred),
     }
@@ -204,29 +209,76 @@ fn predict_bytes(
     }
 }
 
-// The planar block of side n, in rows, in the first 2 · n · n bytes of `out`; each row has at least 4 · n bytes. Numbers 2, 5.
-// No depth plays a part.
-pub(crate) fn planar(n: u32, above: &[u8], left: &[u8], out: &mut [u8]) -> u32
-    ensures { wrote result out.new
-        ≡ planar_entry n above.now left.now out.old }
+// Planar or DC, by its mode. No depth and no corner plays a part.
+#[tactic(auto, unfolding(crate::specs::Written::entry), using(domain::specs::Refused::never_0))]
+fn flat(
+    n: u32,
+    mode: u8,
+    edge: bool,
+    above: &[u8],
+    left: &[u8],
+    out: &mut [u8],
+) -> Result<(), Refusal>
+    requires { mode ≤ 1 }
+    ensures { wrote (no_of result) out.new ≡ entry (flat_entry_no n (length above.now) (length left.now) (length out.old))
+        (block_in_bytes (λ (y x : ℕ). predicted_by_mode 8 edge edge n mode (neighbours_in 0 above.now left.now) x y) n out.old) out.old }
 {
-    let no = flat_entry_no(n as usize, above.len(), left.len(), out.len());
-    if no == 0 {
-        predict_bytes(8, n as usize, 0, false, 0, above, left, &mut *out);
-    }
-    no
+    check_flat_entry(n as usize, above.len(), left.len(), out.len())?;
+    predict_bytes(8, n as usize, mode, edge, 0, above, left, &mut *out);
+    Ok(())
+}
+
+// The planar block of side n, in rows, in the first 2 · n · n bytes of `out`; each row has at least 4 · n bytes. Numbers 2, 5.
+pub(crate) fn planar(n: u32, above: &[u8], left: &[u8], out: &mut [u8]) -> Result<(), Refusal>
+    ensures { wrote (no_of result) out.new ≡ planar_entry n above.now left.now out.old }
+{
+    flat(n, 0, false, above, left, out)
 }
 
 // The DC block; an edge flag that is not 0 asks for filtered edges. Numbers 2, 5.
-pub(crate) fn dc(n: u32, edge: u32, above: &[u8], left: &[u8], out: &mut [u8]) -> u32
-    ensures { wrote result out.new
-        ≡ dc_entry n edge above.now left.now out.old }
+pub(crate) fn dc(
+    n: u32,
+    edge: u32,
+    above: &[u8],
+    left: &[u8],
+    out: &mut [u8],
+) -> Result<(), Refusal>
+    ensures { wrote (no_of result) out.new ≡ dc_entry n edge above.now left.now out.old }
 {
-    let no = flat_entry_no(n as usize, above.len(), left.len(), out.len());
-    if no == 0 {
-        predict_bytes(8, n as usize, 1, edge != 0, 0, above, left, &mut *out);
-    }
-    no
+    flat(n, 1, edge != 0, above, left, out)
+}
+
+// A block in a mode that the entry takes or not, as `taken` tells.
+#[tactic(auto, unfolding(crate::specs::Written::entry), using(domain::specs::Refused::never_0))]
+fn by_mode(
+    bits: u32,
+    n: u32,
+    mode: u32,
+    taken: bool,
+    edge: bool,
+    corner: u16,
+    above: &[u8],
+    left: &[u8],
+    out: &mut [u8],
+) -> Result<(), Refusal>
+    requires { taken ≡ true → mode_ok mode ≡ true }
+    ensures { wrote (no_of result) out.new
+        ≡ entry (mode_entry_no (2 * predictor_row n) bits n taken (length above.now) (length left.now) (length out.old))
+        (block_in_bytes (λ (y x : ℕ). predicted_by_mode bits edge edge n mode (neighbours_in corner above.now left.now) x y) n out.old)
+        out.old }
+{
+    let side = n as usize;
+    check_mode_entry(
+        2 * (2 * side),
+        bits,
+        side,
+        taken,
+        above.len(),
+        left.len(),
+        out.len(),
+    )?;
+    predict_bytes(bits, side, mode as u8, edge, corner, above, left, &mut *out);
+    Ok(())
 }
 
 // The block of an angular mode, 2 to 34. Numbers 1, 2, 3, 5.
@@ -239,33 +291,11 @@ pub(crate) fn angular(
     above: &[u8],
     left: &[u8],
     out: &mut [u8],
-) -> u32
-    ensures { wrote result out.new
-        ≡ angular_entry bits n mode edge corner above.now left.now out.old }
+) -> Result<(), Refusal>
+    ensures { wrote (no_of result) out.new ≡ angular_entry bits n mode edge corner above.now left.now out.old }
 {
     let taken = (mode >= 2) & (mode <= 34);
-    let no = mode_entry_no(
-        2 * (2 * (n as usize)),
-        bits,
-        n as usize,
-        taken,
-        above.len(),
-        left.len(),
-        out.len(),
-    );
-    if no == 0 {
-        predict_bytes(
-            bits,
-            n as usize,
-            mode as u8,
-            edge != 0,
-            corner,
-            above,
-            left,
-            &mut *out,
-        );
-    }
-    no
+    by_mode(bits, n, mode, taken, edge != 0, corner, above, left, out)
 }
 
 // A chroma block in any mode, 0 to 34: nothing is smoothed, and no edge is filtered. Numbers 1, 2, 3, 5.
@@ -277,23 +307,8 @@ pub(crate) fn chroma(
     above: &[u8],
     left: &[u8],
     out: &mut [u8],
-) -> u32
-    ensures { wrote result out.new
-        ≡ chroma_block_entry bits n mode corner above.now left.now out.old }
+) -> Result<(), Refusal>
+    ensures { wrote (no_of result) out.new ≡ chroma_block_entry bits n mode corner above.now left.now out.old }
 {
-    let no = mode_entry_no(
-        2 * (2 * (n as usize)),
-        bits,
-        n as usize,
-        mode <= 34,
-        above.len(),
-        left.len(),
-        out.len(),
-    );
-    if no == 0 {
-        predict_bytes(
-            bits, n as usize, mode as u8, false, corner, above, left, &mut *out,
-        );
-    }
-    no
+    by_mode(bits, n, mode, mode <= 34, false, corner, above, left, out)
 }

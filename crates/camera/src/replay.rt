@@ -17,19 +17,22 @@ ghost use Rattle.walk.specs.block.Predicted.{predicted_at};
 ghost use Rattle.walk.specs.block.Ready.{Ready, Lies};
 ghost use Rattle.walk.specs.block_rows.Ready.{RowIn, RowsIn};
 ghost use Rattle.walk.specs.block.Rebuilt.{rebuilt, replay_unit};
-ghost use Rattle.walk.specs.calls.Steps.{doing_of};
+ghost use Rattle.domain.specs.Refusal.{no_of};
+ghost use Rattle.walk.specs.Answers.{step_in};
+ghost use Rattle.walk.specs.calls.Steps.{step_of};
 ghost use Rattle.walk.specs.calls.Ready.{Sound};
 ghost use Rattle.camera.specs.replay.Verdict.{whole_by, lent_bytes, byte_no, byte_verdict, answered};
 ghost use Rattle.camera.specs.replay.VerdictLaws.{put_word};
 ghost use Rattle.camera.specs.replay.Door.{replayed};
 
-use crate::gather;
+use crate::{bytes, gather};
+use domain::refusal::Refusal;
 use fmt::depth;
 use plan::records;
-use plan::tiling::{Block, Verdict};
+use plan::tiling::{Block, Fault};
 use samples::deltas;
 use walk::checks::Still;
-use walk::{block, calls, checks};
+use walk::{Advance, Progress, block, checks};
 
 // Residual i.
 fn residual_at(b: &[u8], i: usize) -> i32
@@ -45,12 +48,11 @@ fn put_sample(b: &mut [u8], i: usize, v: u16)
     requires { (i < length (samples_of b.old)) × (length b.old % 2 ≡ 0) }
     ensures { samples_of b.new ≡ set (samples_of b.old) i v }
 {
-    let at = 2 * i;
-    b[at] = octets::byte_0(v as u32);
-    b[at + 1] = octets::byte_1(v as u32);
+    gather::put(b, i, v);
 }
 
 // A row of n samples from base on, its predictions from `from` on, its residuals from `at` on.
+#[tactic(auto, using(crate::specs::replay::Laws::storing_bytes))]
 fn rebuild_row(
     plane: &mut [u8],
     pred: &[u16],
@@ -66,19 +68,18 @@ fn rebuild_row(
     ensures { samples_of plane.new ≡ run (λ (c : ℕ). clip_to largest (pos (get_or pred.now
         (from + c) 0) +ℤ get_or (residuals_of residuals.now) (at + c) (pos 0))) base n (samples_of plane.old) }
 {
-    let mut c = 0;
-    while c < n {
+    for c in 0..n {
         let r = residual_at(residuals, at + c);
         put_sample(
             plane,
             base + c,
             deltas::restored(pred[from + c], r, largest),
         );
-        c += 1;
     }
 }
 
 // All rows of a block.
+#[tactic(auto, using(crate::specs::replay::Laws::storing_bytes, walk::specs::block_rows::Laws::row_in))]
 fn rebuild_rows(
     plane: &mut [u8],
     pred: &[u16],
@@ -94,8 +95,7 @@ fn rebuild_rows(
     ensures { samples_of plane.new ≡ paint base width n (λ (r c : ℕ). clip_to largest (pos (get_or pred.now (r * n + c) 0) +ℤ get_or (residuals_of residuals.now) (at + r * n + c) (pos 0))) n
         (samples_of plane.old) }
 {
-    let mut r = 0;
-    while r < n {
+    for r in 0..n {
         rebuild_row(
             plane,
             pred,
@@ -106,39 +106,37 @@ fn rebuild_rows(
             at + r * n,
             largest,
         );
-        r += 1;
     }
 }
 
 // Whether no residual is larger than a limit.
+#[tactic(auto, using(walk::specs::checks::Laws::passing, octets::specs::Laws::length_residuals))]
 fn residuals_within(residuals: &[u8], limit: u16) -> bool
     ensures { result ≡ every (residual_within limit) (residuals_of residuals.now) }
 {
     let count = residuals.len() / 4;
     let mut ok = true;
-    let mut i = 0;
-    while i < count {
+    for i in 0..count {
         ok = ok & deltas::residual_within(residual_at(residuals, i), limit);
-        i += 1;
     }
     ok
 }
 
 // Numbers 8 and 14 over all residuals. The tighter limit is asked first: where all keep it, each is looked at once.
-fn residuals_no(residuals: &[u8], largest: u16) -> u32
-    ensures { result ≡ first_fail (residual_checks largest (residuals_of residuals.now)) }
+fn check_residuals(residuals: &[u8], largest: u16) -> Result<(), Refusal>
+    ensures { no_of result ≡ first_fail (residual_checks largest (residuals_of residuals.now)) }
 {
     if residuals_within(residuals, largest) {
-        return 0;
+        return Ok(());
     }
     if residuals_within(residuals, 65535) {
-        14
+        Err(Refusal::Excess)
     } else {
-        8
+        Err(Refusal::Residual)
     }
 }
 
-// A block's prediction from a plane, in rows. The last three slices are scratch.
+// A block's prediction from a plane, in rows. Such a block's gather is never refused. The last three slices are scratch.
 fn predict_block(
     s: Still,
     b: Block,
@@ -151,17 +149,18 @@ fn predict_block(
     requires { Ready s b (length (samples_of plane.now)) (tables refs.old indices.old fractions.old) × ((b.side * b.side ≤ length pred.old) × (length plane.now % 2 ≡ 0)) }
     ensures { pred.new ≡ block (predicted_at s b (samples_of plane.now)) b.side pred.old }
 {
-    let g = gather::get_reference_samples(plane, block::geometry(s, b));
-    predict::predict_luma_tb_slices(
-        b.mode as u8,
-        g.rows,
-        b.side as usize,
-        s.bits,
-        &mut *pred,
-        &mut *refs,
-        &mut *indices,
-        &mut *fractions,
-    );
+    if let Ok(rows) = gather::get_reference_samples(plane, block::geometry(s, b)) {
+        let _ = predict::predict_luma_tb_slices(
+            b.mode as u8,
+            rows,
+            b.side as usize,
+            s.bits,
+            &mut *pred,
+            &mut *refs,
+            &mut *indices,
+            &mut *fractions,
+        );
+    }
 }
 
 // A block: its samples from its prediction and its residuals, which are in rows from `at` on. The last three slices are scratch.
@@ -211,25 +210,36 @@ fn are_whole(s: Still, plane: usize, residuals: usize) -> bool
     samples & ((residuals % 4 == 0) & (residuals / 4 == area))
 }
 
-// The number of the checks before the plan's: 1, 4, 5, 8, 14.
-fn byte_no(s: Still, plan: &[u8], residuals: &[u8], plane: usize, res: usize) -> u32
-    ensures { result ≡ byte_no s (lent_bytes plan.now residuals.now plane res) }
+// The checks before the plan's: 1, 4, 5, 8, 14.
+fn check_bytes(
+    s: Still,
+    plan: &[u8],
+    residuals: &[u8],
+    plane: usize,
+    res: usize,
+) -> Result<(), Refusal>
+    ensures { no_of result ≡ byte_no s (lent_bytes plan.now residuals.now plane res) }
 {
     let planes = are_whole(s, plane, residuals.len());
-    let no = checks::opening_no(s, planes & (plan.len() % 6 == 0) & (res >= 8));
-    if no != 0 {
-        return no;
-    }
-    residuals_no(residuals, depth::largest_of(s.bits))
+    checks::check_opening(s, planes & (plan.len() % 6 == 0) & (res >= 8))?;
+    check_residuals(residuals, depth::largest_of(s.bits))
 }
 
-// The number of the checks before the plan's, then the plan's, then 11.
-fn verdict(done: u32, s: Still, plan: &[u8], residuals: &[u8], plane: usize, res: usize) -> Verdict
-    ensures { result ≡ byte_verdict s done (lent_bytes plan.now residuals.now plane res) }
+// How far a call goes: those checks, then the plan's, then 11.
+fn granted(
+    done: u32,
+    s: Still,
+    plan: &[u8],
+    residuals: &[u8],
+    plane: usize,
+    res: usize,
+    grant: u32,
+) -> Result<Advance, Fault>
+    ensures { step_in result ≡ step_of (byte_verdict s done (lent_bytes plan.now residuals.now plane res))
+        (records_of plan.now).count done grant }
 {
-    let early = byte_no(s, plan, residuals, plane, res);
-    let found = plan::check_plan_bytes(s.frame, plan);
-    checks::settled(done, plan.len() / 6, found, early)
+    let early = check_bytes(s, plan, residuals, plane, res);
+    walk::granted(Progress { done }, s.frame, plan, early, grant)
 }
 
 // Stores a number of four bytes.
@@ -237,10 +247,7 @@ pub(crate) fn put_word(b: &mut [u8], at: usize, v: u32)
     requires { at + 3 < length b.old }
     ensures { b.new ≡ put_word b.old at v }
 {
-    b[at] = octets::byte_0(v);
-    b[at + 1] = octets::byte_1(v);
-    b[at + 2] = octets::byte_2(v);
-    b[at + 3] = octets::byte_3(v);
+    bytes::put(b, at, v.to_le_bytes());
 }
 
 // Writes the block number and the progress record into a result buffer that has room for them.
@@ -290,6 +297,7 @@ fn replay_turn(
 }
 
 // The records of a plan up to block `upto`: those from block `from` on are rebuilt.
+#[tactic(auto, using(walk::specs::calls::Turns::turns))]
 fn replay_blocks(
     s: Still,
     plan: &[u8],
@@ -307,8 +315,7 @@ fn replay_blocks(
         (residuals_of residuals.now)) from (upto - from) (samples_of plane.old) }
 {
     let mut at: usize = 0;
-    let mut k: usize = 0;
-    while k < upto {
+    for k in 0..upto {
         let b = records::record_at(plan, k);
         at = replay_turn(
             s,
@@ -322,20 +329,18 @@ fn replay_blocks(
             &mut *indices,
             &mut *fractions,
         );
-        k += 1;
     }
 }
 
-// A call that is served: the next blocks, with scratch of its own.
-fn serve(done: u32, s: Still, plan: &[u8], residuals: &[u8], plane: &mut [u8], grant: u32) -> u32
-    requires { Sound s (records_of plan.now) (length (samples_of plane.old)) (length (residuals_of residuals.now)) scratch_tables × ((done ≤ length plan.now / 6) × (length plane.old % 2 ≡ 0)) }
-    ensures { (result ≡ done + doing_of (records_of plan.now).count done grant) × (samples_of plane.new ≡ units (replay_unit s (records_of plan.now).block (residuals_of residuals.now))
-        done (doing_of (records_of plan.now).count done grant) (samples_of plane.old)) }
+// A call that is served: the blocks up to `next`, with scratch of its own.
+fn serve(done: u32, s: Still, plan: &[u8], residuals: &[u8], plane: &mut [u8], next: u32)
+    requires { Sound s (records_of plan.now) (length (samples_of plane.old)) (length (residuals_of residuals.now)) scratch_tables × ((next ≤ length plan.now / 6) × (length plane.old % 2 ≡ 0)) }
+    ensures { samples_of plane.new ≡ units (replay_unit s (records_of plan.now).block (residuals_of residuals.now))
+        done (next - done) (samples_of plane.old) }
 {
     let mut refs = [0u16; 193];
     let mut indices = [0u32; 32];
     let mut fractions = [0u32; 32];
-    let did = calls::doing_of(plan.len() / 6, done, grant);
     replay_blocks(
         s,
         plan,
@@ -345,13 +350,12 @@ fn serve(done: u32, s: Still, plan: &[u8], residuals: &[u8], plane: &mut [u8], g
         &mut indices,
         &mut fractions,
         done,
-        (done as usize) + (did as usize),
+        next as usize,
     );
-    done + did
 }
 
-// Decodes the next blocks of a plan in the plane's own bytes, as many as are granted; so many are done before it. It gives its number,
-// and writes the block that it is about and the next progress record into the result buffer.
+// Decodes the next blocks of a plan in the plane's own bytes, as many as are granted; so many are done before it. It writes
+// the block that it is about and the next progress record into the result buffer.
 pub(crate) fn replay(
     done: u32,
     still: Still,
@@ -360,16 +364,20 @@ pub(crate) fn replay(
     plane: &mut [u8],
     res: &mut [u8],
     grant: u32,
-) -> u32
-    ensures { record { number = result; plane = plane.new; result = res.new } ≡ replayed still
+) -> Result<(), Refusal>
+    ensures { record { number = no_of result; plane = plane.new; result = res.new } ≡ replayed still
         done plan.now residuals.now grant plane.old res.old }
 {
-    let v = verdict(done, still, plan, residuals, plane.len(), res.len());
-    if v.no != 0 {
-        answer(res, v.block, done);
-        return v.no;
+    match granted(done, still, plan, residuals, plane.len(), res.len(), grant) {
+        Err(fault) => {
+            answer(res, fault.block, done);
+            Err(fault.why)
+        }
+        Ok(advance) => {
+            let next = advance.next.done;
+            serve(done, still, plan, residuals, &mut *plane, next);
+            answer(res, 0, next);
+            Ok(())
+        }
     }
-    let next = serve(done, still, plan, residuals, &mut *plane, grant);
-    answer(res, 0, next);
-    0
 }

@@ -6,7 +6,7 @@ use Rattle.h265.specs.Checksum.{sum_of_rows}
 use Rattle.domain.specs.Domain.{depth_ok, plane_side_ok}
 use Rattle.octets.specs.Bytes.{samples_of}
 use Rattle.checksum.specs.declared.RowRange.{RowRange}
-use Rattle.checksum.specs.declared.Summed.{Summed}
+use Rattle.checksum.specs.Answers.{Summed}
 
 -- a range from its numbers
 abbrev pub row_range : ℕ → ℕ → ℕ → ℕ → ℕ → RowRange

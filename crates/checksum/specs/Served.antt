@@ -47,11 +47,18 @@ row_inside {r} f y h = row (omega (arith, f.inside))
     row : y < r.height → y * r.width + r.width ≤ r.height * r.width
     row l = rw suc-mul at (mul-le-mul_right r.width l)
 
-pub row_in : (r : RowRange) (entries : ℕ) (ok : Bool) → checksum_no_by r (entries == r.height * r.width) ok ≡ 0 → (y : ℕ) → y < r.end
-    → y * r.width + r.width ≤ entries
-row_in r entries ok e y h =
-    let f = fine r (entries == r.height * r.width) ok e in
-    omega (arith, eqb-true entries (r.height * r.width) f.whole, row_inside f y h)
+-- and begins low in it
+pub row_low : {r : RowRange} {fit : Bool} → Summable r fit → (y : ℕ) → y < r.end → y * r.width ≤ 4096 * 4096
+row_low {r} f y h =
+    let l : y ≤ 4096 = omega (arith, h, f.inside, f.low) in
+    omega (arith, mul-le-mul_right r.width l, f.narrow)
+
+-- the same of what is lent, where it is as many samples as the sides tell
+pub row_in : (r : RowRange) (fit ok : Bool) (entries : ℕ) → checksum_no_by r fit ok ≡ 0 → (fit ≡ true → entries ≡ r.height * r.width)
+    → (y : ℕ) → y < r.end → y * r.width + r.width ≤ entries
+row_in r fit ok entries e long y h =
+    let f = fine r fit ok e in
+    omega (arith, long f.whole, row_inside f y h)
 
 -- the same of bytes, two a sample
 pub bytes_in : (r : RowRange) (bytes : List ℕ) (roomy : Bool)

@@ -1,22 +1,25 @@
-// The checksum of a decoded picture, H.265 Annex D, plane by plane and row by row (document 02, Wish 7). Rests on the domain's tests,
-// the figures of a depth and the test of a plane's samples.
+// The checksum of a decoded picture, H.265 Annex D, plane by plane and row by row (document 02, Wish 7), over samples that are lent as
+// samples or as bytes. Rests on the domain's tests, the figures of a depth and lent samples.
 #![tactic(auto)]
 
 pub mod on_bytes;
 
-ghost use Rattle.std.specs.Prelude.{◌≡◌, ℕ, ◌+◌, ◌-◌, ◌*◌, ◌<◌, ◌≤◌, ◌&&◌, length, ◌==◌, nat_le, slice_index};
+ghost use Rattle.std.specs.Prelude.{◌≡◌, ℕ, ◌+◌, ◌-◌, ◌*◌, ◌<◌, ◌≤◌, ◌&&◌, length, get_or, nat_le};
 ghost use Rattle.laws.specs.Sum.{total};
 ghost use Rattle.h265.specs.Checksum.{xor_mask, sum_of_rows};
 ghost use Rattle.domain.specs.Domain.{plane_side_ok};
-ghost use Rattle.checksum.specs.Checksum.{sample_in_plane, checksum_no_by, checksum_no, checksum_of};
+ghost use Rattle.domain.specs.Refusal.{no_of};
+ghost use Rattle.checksum.specs.Answers.{answered};
+ghost use Rattle.checksum.specs.Checksum.{sample_in_plane, checksum_no_by, checksum_no, summed_by, checksum_of};
 ghost use Rattle.checksum.specs.Laws.{sample_adds, column_adds};
 
-use domain::helpers;
+use domain::refusal::Refusal;
 use fmt::depth;
-use samples::ranges;
+use octets::lent;
+use octets::lent::Samples;
 
 // A plane of a depth, its sides, and the rows from first up to end.
-#[derive(Clone, Copy)]
+#[derive(Clone, Copy, Debug, PartialEq, Eq)]
 pub struct RowRange {
     pub bits: u32,
     pub width: u32,
@@ -25,22 +28,16 @@ pub struct RowRange {
     pub end: u32,
 }
 
-// A call's number, and the sum, 0 where it is refused.
-#[derive(Clone, Copy)]
-pub struct Summed {
-    pub no: u32,
-    pub sum: u32,
-}
-
 // The mask of column x and row y.
-pub(crate) fn xor_mask(x: u16, y: u16) -> u16
+#[tactic(auto, using(crate::specs::Laws::mask_small), unfolding(h265::specs::Checksum::xor_mask))]
+fn xor_mask(x: u16, y: u16) -> u16
     ensures { (result ≡ xor_mask x y) × (result < 256) }
 {
     (((x % 256) ^ (y % 256)) ^ (x / 256)) ^ (y / 256)
 }
 
 // What a sample adds to the sum: its low byte under the mask, and its high byte where it has one.
-pub(crate) fn added_by(v: u16, mask: u16, wide: bool) -> u16
+fn added_by(v: u16, mask: u16, wide: bool) -> u16
     requires { mask < 256 }
     ensures { (result ≡ sample_adds wide mask v) × (result ≤ 510) }
 {
@@ -50,108 +47,114 @@ pub(crate) fn added_by(v: u16, mask: u16, wide: bool) -> u16
 }
 
 // What a stretch of a row adds, from column x on: 128 samples at most, so that 16 bits hold it.
-fn stretch_sum(plane: &[u16], at: usize, x: u16, count: u16, y: u16, wide: bool) -> u16
-    requires { (at + (x + count) ≤ length plane.now) × ((x + count ≤ 4096) × (count ≤ 128)) }
-    ensures { (result ≡ total (λ (i : ℕ). column_adds wide (λ (k : ℕ). slice_index plane.now (at + k)) y (x + i)) count)
+#[tactic(auto, using(laws::specs::Sum::total_none, laws::specs::Sum::total_more))]
+fn stretch_sum<S: Samples>(plane: S, at: usize, x: u16, count: u16, y: u16, wide: bool) -> u16
+    requires { (at ≤ 4096 * 4096) × (at + (x + count) ≤ length (S.list plane)) × (x + count ≤ 4096) × (count ≤ 128) }
+    ensures { (result ≡ total (λ (i : ℕ). column_adds wide (λ (k : ℕ). get_or (S.list plane) (at + k) 0) y (x + i)) count)
         × (result ≤ count * 510) }
 {
     let from = at + (x as usize);
     let mut sum = 0;
-    let mut i = 0;
-    while i < count {
+    for i in 0..count {
         let mask = xor_mask(x + i, y);
-        let more = added_by(plane[from + (i as usize)], mask, wide);
+        let more = added_by(plane.sample(from + (i as usize)), mask, wide);
         sum += more;
-        i += 1;
     }
     sum
 }
 
 // What a row adds, stretch by stretch.
-fn row_sum(plane: &[u16], at: usize, width: u32, y: u16, wide: bool) -> u32
-    requires { (at + width ≤ length plane.now) × (width ≤ 4096) }
-    ensures { result ≡ total (column_adds wide (λ (x : ℕ). slice_index plane.now (at + x)) y) width }
+fn row_sum<S: Samples>(plane: S, at: usize, width: u32, y: u16, wide: bool) -> u32
+    requires { (at ≤ 4096 * 4096) × (at + width ≤ length (S.list plane)) × (width ≤ 4096) }
+    ensures { result ≡ total (column_adds wide (λ (x : ℕ). get_or (S.list plane) (at + x) 0) y) width }
 {
     let mut sum = 0;
-    let mut x = 0;
-    while x < width {
-        let count = helpers::min(width - x, 128);
+    for x in (0..width).step_by(128) {
+        let count = (width - x).min(128);
         let more = stretch_sum(plane, at, x as u16, count as u16, y, wide);
         sum += more as u32;
-        x += count;
     }
     sum
 }
 
 // The sum after the rows from first up to end. It wraps, as the standard says, once for each row.
-fn rows_sum(plane: &[u16], r: RowRange, sum: u32) -> u32
-    requires { checksum_no r (length plane.now == r.height * r.width) plane.now ≡ 0 }
-    ensures { result ≡ sum_of_rows r.bits (sample_in_plane plane.now r.width) r.width r.first
+fn rows_sum<S: Samples>(plane: S, r: RowRange, roomy: bool, sum: u32) -> u32
+    requires { checksum_no r (roomy && S.exactly plane (r.height * r.width)) (S.list plane) ≡ 0 }
+    ensures { result ≡ sum_of_rows r.bits (sample_in_plane (S.list plane) r.width) r.width r.first
         (r.end - r.first) sum }
 {
     let wide = r.bits > 8;
     let across = r.width as usize;
     let mut sum = sum;
-    let mut y = r.first;
-    while y < r.end {
+    for y in r.first..r.end {
         let more = row_sum(plane, (y as usize) * across, r.width, y as u16, wide);
-        sum = std::num::wrapping_add_u32(sum, more);
-        y += 1;
+        sum = sum.wrapping_add(more);
     }
     sum
 }
 
 // How many samples the plane has.
-pub(crate) fn area(r: RowRange) -> usize
+fn area(r: RowRange) -> usize
     ensures { result ≡ r.height * r.width }
 {
     (r.height as usize) * (r.width as usize)
 }
 
-// Number 11: whether the rows run forward and stay in the plane.
+// Whether the rows run forward and stay in the plane.
 fn is_inside(r: RowRange) -> bool
     ensures { result ≡ (nat_le r.first r.end && nat_le r.end r.height) }
 {
     (r.first <= r.end) & (r.end <= r.height)
 }
 
-// Number 4: whether both sides are a plane's.
+// Whether both sides are a plane's.
 fn sides_ok(r: RowRange) -> bool
     ensures { result ≡ (plane_side_ok r.width && plane_side_ok r.height) }
 {
     domain::plane_side_ok(r.width) & domain::plane_side_ok(r.height)
 }
 
-// The number that refuses a sum, or 0.
-pub(crate) fn number_by(r: RowRange, fit: bool, ok: bool) -> u32
-    ensures { result ≡ checksum_no_by r fit ok }
+// Whether the rows can be summed: `fit` tells whether all that is lent is as long as it must be, `ok` whether each sample is in range.
+#[tactic(auto, unfolding(crate::specs::Checksum::checksum_no_by))]
+fn check_range(r: RowRange, fit: bool, ok: bool) -> Result<(), Refusal>
+    ensures { no_of result ≡ checksum_no_by r fit ok }
 {
     if !domain::depth_ok(r.bits) {
-        return 1;
+        return Err(Refusal::Depth);
     }
     if !sides_ok(r) {
-        return 4;
+        return Err(Refusal::Picture);
     }
     if !fit {
-        return 5;
+        return Err(Refusal::Buffer);
     }
     if !ok {
-        return 7;
+        return Err(Refusal::Sample);
     }
-    if is_inside(r) { 0 } else { 11 }
+    if !is_inside(r) {
+        return Err(Refusal::Start);
+    }
+    Ok(())
+}
+
+// The checksum of a range of rows of samples in either form. `roomy` tells whether the caller has room for the sum: where it has none
+// the call is refused as its buffer is.
+pub(crate) fn checksum_over<S: Samples>(
+    plane: S,
+    r: RowRange,
+    roomy: bool,
+    sum: u32,
+) -> Result<u32, Refusal>
+    ensures { answered result ≡ summed_by r (roomy && S.exactly plane (r.height * r.width)) (S.list plane) sum }
+{
+    let ok = lent::samples_ok(plane, depth::largest_of(r.bits));
+    check_range(r, roomy & plane.exactly(area(r)), ok)?;
+    Ok(rows_sum(plane, r, roomy, sum))
 }
 
 // The checksum of a range of a plane's rows, from the sum so far (document 02, Wish 7). Two calls split at a row give what one gives.
-pub fn picture_checksum(plane: &[u16], r: RowRange, sum: u32) -> Summed
-    ensures { result ≡ checksum_of r plane.now sum }
+pub fn picture_checksum(plane: &[u16], r: RowRange, sum: u32) -> Result<u32, Refusal>
+    ensures { answered result ≡ checksum_of r plane.now sum }
 {
-    let ok = ranges::samples_ok(plane, depth::largest_of(r.bits));
-    let no = number_by(r, plane.len() == area(r), ok);
-    if no != 0 {
-        return Summed { no, sum: 0 };
-    }
-    Summed {
-        no: 0,
-        sum: rows_sum(plane, r, sum),
-    }
+    checksum_over(plane, r, true, sum)
 }

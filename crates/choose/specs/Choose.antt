@@ -11,7 +11,7 @@ use Rattle.h265.specs.Prediction.{pred_samples}
 use Rattle.domain.specs.Domain.{depth_ok, size_ok, smoothing_row}
 use Rattle.predict.specs.refusals.Refusals.{Lengths, lengths}
 use Rattle.predict.specs.Lent.{Slice, MutSlice, len, mut_len, Untouched}
-use Rattle.choose.specs.declared.Chosen.{Chosen}
+use Rattle.choose.specs.Answers.{Chosen}
 
 -- how far apart two samples are
 abbrev pub apart : ℕ → ℕ → ℕ

@@ -1,42 +1,49 @@
 -- A mode that is dropped once it has lost: sums of its last rows, some at a time upward. A part of a sum is never more than the whole.
 -- Assumes nothing.
-use Rattle.std.specs.Prelude.{◌≡◌, Bool, false, cond, ◌&&◌, List, ltb, length, get_or}
+use Rattle.std.specs.Prelude.{◌≡◌, Bool, false, cond, ◌&&◌, List, Option, Some, IfSome, ltb, length, get_or}
+use Rattle.std.specs.Bool.{then_some}
 use Rattle.std.proofs.Math.Path.{refl, sym, ap}
 use Rattle.std.proofs.Common.{subst, ◌∙◌, true≢false, zero-add, add_assoc, add-mul, suc-mul, mul-le-mul_right}
 use Rattle.std.proofs.Math.Bool.{true}
-use Prim.Native.Nat.{ℕ, zero, suc, ◌+◌, ◌-◌, ◌*◌, ◌%◌, ◌≤◌, ◌<◌}
+use Rattle.std.proofs.lemmas.Bool.{false≢true}
+use Prim.Native.Nat.{ℕ, zero, suc, ◌+◌, ◌-◌, ◌*◌, ◌≤◌, ◌<◌}
 use Rattle.std.proofs.Math.Nat.{zero-mul}
 use native.Mathlib.Omega.{arith}
-use borrow.Author.Tests.{le-leb, ne_eqb, lt-ltb}
+use borrow.Author.Tests.{ne_eqb, lt-ltb}
 use Rattle.laws.specs.Fill.{rows}
 use Rattle.laws.specs.FillLaws.{rows_at, length_run}
 use Rattle.laws.specs.Sum.{total, total_none, total_join, total_same}
 use Rattle.domain.specs.Domain.{size_ok}
 use Rattle.domain.specs.Facts.{Size, at_size, size_small}
 use Rattle.h265.specs.Notation.{from_rows}
-use Rattle.predict.specs.refusals.Refusals.{refs_no, rows_no}
 use Rattle.predict.specs.angular.Parts.{laid_refs, laid_at, laid_angular}
 use Rattle.predict.specs.modes.Modes.{predicted_by_mode}
 use Rattle.choose.specs.Choose.{apart, differences, source_at}
 use Rattle.choose.specs.Sums.{same_sum}
 
--- What is added up of a sum, where it may be dropped early once it is no longer below a limit: never more than the whole, and the whole
--- unless it was dropped.
-pub record UpTo (early : Bool) (limit whole part : ℕ) : Type 0 where
+-- What is added up of a sum, where it is dropped once it is no longer below a limit, if there is one: never more than the whole, and the
+-- whole unless it was dropped.
+pub record UpTo (limit : Option ℕ) (whole part : ℕ) : Type 0 where
   pub within : part ≤ whole
-  pub all : (early ≡ true → part < limit) → part ≡ whole
+  pub all : IfSome limit (λ most. part < most) → part ≡ whole
 
 -- a sum that was dropped before anything was added up
-pub up_to_none : (early : Bool) (limit whole : ℕ) → early ≡ true → limit ≡ 0 → UpTo early limit whole 0
-up_to_none early limit whole t e = record { within = omega arith; all = λ h. absurd (let l : 0 < limit = h t in omega arith) }
+pub up_to_none : (early : Bool) (limit whole : ℕ) → early ≡ true → limit ≡ 0 → UpTo (then_some early limit) whole 0
+up_to_none true limit whole t e = record { within = omega arith; all = λ l. absurd (omega arith) }
+up_to_none false limit whole t e = absurd (false≢true t)
 
 -- one that may be
-pub up_to_early : (early : Bool) (limit whole s : ℕ) → early ≡ true → UpTo true limit whole s → UpTo early limit whole s
-up_to_early early limit whole s t u = subst (λ (b : Bool). UpTo b limit whole s) (sym t) u
+pub up_to_early : (early : Bool) (limit whole s : ℕ) → early ≡ true → UpTo (Some limit) whole s → UpTo (then_some early limit) whole s
+up_to_early early limit whole s t u = subst (λ (b : Bool). UpTo (then_some b limit) whole s) (sym t) u
 
 -- the same of a number that is the same
-pub up_to_same : (early : Bool) (limit : ℕ) {v w s : ℕ} → v ≡ w → UpTo early limit v s → UpTo early limit w s
-up_to_same early limit e u = record { within = omega (arith, u.within, e); all = λ h. u.all h ∙ e }
+pub up_to_same : (limit : Option ℕ) {v w s : ℕ} → v ≡ w → UpTo limit v s → UpTo limit w s
+up_to_same limit e u = record { within = omega (arith, u.within, e); all = λ h. u.all h ∙ e }
+
+-- one that is below the best, where that is the limit, was not dropped
+pub up_to_below : (early : Bool) (best : ℕ) {whole part : ℕ} → UpTo (then_some early best) whole part → part < best → part ≡ whole
+up_to_below true best u l = u.all l
+up_to_below false best u l = u.all tt
 
 module _ (f : ℕ → ℕ) (n : ℕ) where
   -- f a + .. + f (n - 1)
@@ -71,11 +78,11 @@ module _ (f : ℕ → ℕ) (n : ℕ) where
       whole_first e = omega (arith, total_none f, e)
 
   -- the loop ends: at row 0, or once the sum is no longer below the limit
-  pub tail_done : (limit a s : ℕ) → a ≤ n → s ≡ tail a → (s < limit → a ≡ 0) → UpTo true limit (total f n) s
+  pub tail_done : (limit a s : ℕ) → a ≤ n → s ≡ tail a → (s < limit → a ≡ 0) → UpTo (Some limit) (total f n) s
   tail_done limit a s h e z =
       record {
         within = omega (arith, e, tail_part a h);
-        all = λ l. e ∙ ap tail (z (l refl)) ∙ tail_whole;
+        all = λ l. e ∙ ap tail (z l) ∙ tail_whole;
       }
 
 -- a row of a block whose sample in row y and column x is g y x: its sum of absolute differences
@@ -126,73 +133,6 @@ group_sum n first k source g d h =
 
 of_size : {n : ℕ} → Size n → size_ok n ≡ true
 of_size {n} s = at_size (λ (m : ℕ). size_ok m ≡ true) refl refl refl refl n s
-
--- What adding up from the last rows asks for: a block of more than eight rows, a vertical mode that is not 26, whose edge is filtered, and
--- enough of all that is lent.
-pub record Upward (n mode a l s p r : ℕ) : Type 0 where
-  pub size : Size n
-  pub wide : 8 < n
-  pub low : 18 ≤ mode
-  pub high : mode ≤ 34
-  pub bent : mode ≡ 26 → ⊥
-  pub above : 65 ≤ a
-  pub left : 65 ≤ l
-  pub source : n * n ≤ s
-  pub room : n * n ≤ p
-  pub refs : 193 ≤ r
-
-module _ {n mode a l s p r : ℕ} (u : Upward n mode a l s p r) where
-  pub refs_serve : refs_no n mode a l r ≡ 0
-  unfolding refs_no
-  refs_serve =
-      let h = size_small n u.size in
-      let b = u.above in
-      let c = u.left in
-      rw (
-        of_size u.size,
-        le-leb 18 mode u.low,
-        le-leb mode 34 u.high,
-        le-leb (2 * n) a (omega arith),
-        le-leb (2 * n) l (omega arith),
-        le-leb 193 r u.refs,
-      )
-
-  pub rows_serve : (first end : ℕ) → first ≤ end → end ≤ n → rows_no n mode first end a r p ≡ 0
-  unfolding rows_no
-  rows_serve first end h k =
-      let z = size_small n u.size in
-      let b = u.above in
-      rw (
-        of_size u.size,
-        le-leb 18 mode u.low,
-        le-leb mode 34 u.high,
-        le-leb (2 * n) a (omega arith),
-        le-leb 193 r u.refs,
-        le-leb (n * n) p u.room,
-        le-leb first end h,
-        le-leb end n k,
-      )
-
-  -- eight rows at a time come to row 0
-  pub by_eights : n % 8 ≡ 0
-  by_eights =
-      at_size (λ (m : ℕ). 8 < m → m % 8 ≡ 0) (λ h. absurd (omega arith)) (λ h. refl) (λ h. refl) (λ h. refl) n u.size u.wide
-
-  -- where others of the same lengths are lent
-  pub as_lent : {p' r' : ℕ} → p' ≡ p → r' ≡ r → Upward n mode a l s p' r'
-  as_lent e f =
-      record {
-        size = u.size;
-        wide = u.wide;
-        low = u.low;
-        high = u.high;
-        bent = u.bent;
-        above = u.above;
-        left = u.left;
-        source = u.source;
-        room = omega (arith, u.room, e);
-        refs = omega (arith, u.refs, f);
-      }
 
 -- no row is left where the sum is below the limit still
 pub none_left : (first : ℕ) (below : Bool) → below ≡ true → (ltb 0 first && below) ≡ false → first ≡ 0

@@ -43,43 +43,47 @@ long_enough n source l e =
       leb-true _ _ f.1,
     )
 
-pub record Ready (bits n : ℕ) (l : Lengths) : Type 0 where
+-- what a number of 0 says of a call whose source has so many samples
+pub record Ready (bits n source : ℕ) (l : Lengths) : Type 0 where
   pub depth : depth_ok bits ≡ true
   pub size : size_ok n ≡ true
+  pub room : n * n ≤ source
   pub long : Long n l
 
-pub ready : (bits n : ℕ) (source : List ℕ) (l : Lengths) → choose_no bits n source l ≡ 0 → Ready bits n l × (n * n ≤ length source)
+pub ready : (bits n : ℕ) (source : List ℕ) (l : Lengths) → choose_no bits n source l ≡ 0 → Ready bits n (length source) l
 unfolding choose_no
 ready bits n source l e =
     let p = passed (depth_ok bits) _ 1 (omega arith) e in
     let q = passed (size_ok n) _ 2 (omega arith) p.1 in
     let s = passed (lends_enough n (length source) l) _ 5 (omega arith) q.1 in
     let w = long_enough n (length source) l s.0 in
-    (record { depth = p.0; size = q.0; long = w.0 }, w.1)
+    record { depth = p.0; size = q.0; room = w.1; long = w.0 }
 
-module _ {bits n : ℕ} {l : Lengths} (r : Ready bits n l) where
+-- with other rows
+pub with_rows : {bits n source : ℕ} {l : Lengths} → Ready bits n source l → (above left : ℕ) → 65 ≤ above → 65 ≤ left
+    → Ready bits n source (lengths above left l.pred l.refs l.indices l.fractions)
+with_rows r above left h k =
+    let w = r.long in
+    record {
+      depth = r.depth;
+      size = r.size;
+      room = r.room;
+      long = record { above = h; left = k; room = w.room; refs = w.refs; indices = w.indices; fractions = w.fractions };
+    }
+
+-- with scratch that is as long
+module _ {bits n source : ℕ} {l : Lengths} (r : Ready bits n source l) where
   pub side-of : Size n
   side-of = size_of n r.size
 
-  -- with other rows
-  pub with_rows : (above left : ℕ) → 65 ≤ above → 65 ≤ left
-      → Ready bits n (lengths above left l.pred l.refs l.indices l.fractions)
-  with_rows above left h k =
-      let w = r.long in
-      record {
-        depth = r.depth;
-        size = r.size;
-        long = record { above = h; left = k; room = w.room; refs = w.refs; indices = w.indices; fractions = w.fractions };
-      }
-
-  -- with scratch that is as long
   pub as_long : {pred refs indices fractions : ℕ} → pred ≡ l.pred → refs ≡ l.refs → indices ≡ l.indices → fractions ≡ l.fractions
-      → Ready bits n (lengths l.above l.left pred refs indices fractions)
+      → Ready bits n source (lengths l.above l.left pred refs indices fractions)
   as_long a b c d =
       let w = r.long in
       record {
         depth = r.depth;
         size = r.size;
+        room = r.room;
         long = record {
           above = w.above;
           left = w.left;
@@ -90,36 +94,38 @@ module _ {bits n : ℕ} {l : Lengths} (r : Ready bits n l) where
         };
       }
 
-  -- nothing that it calls refuses it
+-- nothing that it calls refuses it
+module _ {n : ℕ} {l : Lengths} (size : size_ok n ≡ true) (w : Long n l) where
   pub flat_serves : flat_no n l.above l.left l.pred ≡ 0
   unfolding flat_no
   flat_serves =
-      let h = size_small n side-of in
-      let a = r.long.above in
-      let b = r.long.left in
+      let h = size_small n (size_of n size) in
+      let a = w.above in
+      let b = w.left in
       rw (
-        r.size,
+        size,
         le-leb (2 * n) l.above (omega arith),
         le-leb (2 * n) l.left (omega arith),
-        le-leb (n * n) l.pred r.long.room,
+        le-leb (n * n) l.pred w.room,
       )
 
   enough : is_enough n l ≡ true
   enough =
-      let h = size_small n side-of in
-      let a = r.long.above in
-      let b = r.long.left in
+      let h = size_small n (size_of n size) in
+      let a = w.above in
+      let b = w.left in
       rw (
         le-leb (2 * n) l.above (omega arith),
         le-leb (2 * n) l.left (omega arith),
-        le-leb (n * n) l.pred r.long.room,
-        le-leb 193 l.refs r.long.refs,
-        le-leb 32 l.indices r.long.indices,
-        le-leb 32 l.fractions r.long.fractions,
+        le-leb (n * n) l.pred w.room,
+        le-leb 193 l.refs w.refs,
+        le-leb 32 l.indices w.indices,
+        le-leb 32 l.fractions w.fractions,
       )
 
-  pub angular_serves : (mode : ℕ) → 2 ≤ mode → mode ≤ 34 → angular_no bits n mode l ≡ 0
-  angular_serves mode h k = rw (r.depth, r.size, le-leb 2 mode h, le-leb mode 34 k, enough)
+  pub angular_serves : (bits mode : ℕ) → depth_ok bits ≡ true → 2 ≤ mode → mode ≤ 34 → angular_no bits n mode l ≡ 0
+  angular_serves bits mode depth h k = rw (depth, size, le-leb 2 mode h, le-leb mode 34 k, enough)
 
-  pub smoothing_serves : filter_luma_no bits n l.above l.left ≡ 0
-  smoothing_serves = rw (r.depth, r.size, le-leb 65 l.above r.long.above, le-leb 65 l.left r.long.left)
+pub smoothing_serves : (bits n above left : ℕ) → depth_ok bits ≡ true → size_ok n ≡ true → 65 ≤ above → 65 ≤ left
+    → filter_luma_no bits n above left ≡ 0
+smoothing_serves bits n above left d s h k = rw (d, s, le-leb 65 above h, le-leb 65 left k)

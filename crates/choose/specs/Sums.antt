@@ -1,15 +1,16 @@
 -- The sum of a mode, from the block that is predicted for it: the same samples, the block mirrored, the rows smoothed. Rests on the modes'
 -- laws and the standard's rule.
 use Rattle.std.specs.Prelude.{◌≡◌, refl, Bool, false, not, ◌&&◌, ◌||◌, List, ℕ, ◌+◌, ◌*◌, ◌-◌, ◌≤◌, ◌<◌, ltb, eqb, length, get_or}
+use Rattle.std.specs.Int.{abs_diff}
 use Rattle.std.proofs.Math.Path.{sym}
-use Rattle.std.proofs.Common.{ap₂, ◌∙◌}
+use Rattle.std.proofs.Common.{ap₂, ◌∙◌, rules}
 use Rattle.std.proofs.Math.Bool.{true}
 use Rattle.std.proofs.lemmas.Bool.{false≢true}
 use Rattle.laws.specs.Fill.{block}
 use Rattle.laws.specs.FillLaws.{length_rows, rows_at}
 use Rattle.laws.specs.Sum.{total_same, total_turned}
 use Rattle.domain.specs.Facts.{Size, size_small}
-use Rattle.h265.specs.Notation.{Neighbours, from_rows}
+use Rattle.h265.specs.Notation.{Neighbours}
 use Rattle.h265.specs.Setting.{luma_at, first_edition_strong}
 use Rattle.h265.specs.Filtering.{min_dist_ver_hor, filter_flag, filtered}
 use Rattle.h265.specs.Prediction.{filters, prepared}
@@ -18,6 +19,10 @@ use Rattle.predict.specs.angular.Unsigned.{mirror}
 use Rattle.predict.specs.modes.Modes.{predicted_by_mode, is_by_mode, by_mode_alone}
 use Rattle.choose.specs.Choose.{apart, differences, source_at, mode_sum}
 use Rattle.choose.specs.Mirror.{mirrored}
+
+-- how far apart the library has two numbers
+pub apart_is : (a b : ℕ) → abs_diff a b ≡ apart a b
+apart_is a b = search rules
 
 -- the sum of the same samples
 pub same_sum : (n k : ℕ) (s t p q : ℕ → ℕ → ℕ) → ((x y : ℕ) → x < n → y < k → s x y ≡ t x y)
@@ -68,11 +73,9 @@ mirrored_sum bits n mode nb source turned s low high t =
     (λ x y hx hy. sym (mirrored mode low high bits n y x true nb (size_small n s).1 hy hx))
     ∙ turned_sum n (source_at n source) (predicted_by_mode bits true true n mode nb)
 
--- smoothed rows beside rows as they are: the standard's, as far as any mode asks for them
-pub record SmoothRows (bits n : ℕ) (nb : Neighbours) (corner : ℕ) (above left : List ℕ) : Type 0 where
-  pub above_long : 65 ≤ length above
-  pub left_long : 65 ≤ length left
-  pub smooth : (mode : ℕ) → filter_flag n mode ≡ true → Agree n (from_rows corner above left) (filtered true bits n nb)
+-- smoothed neighbours beside neighbours as they are: the standard's, as far as any mode asks for them
+pub record Smooths (bits n : ℕ) (nb smoothed : Neighbours) : Type 0 where
+  pub smooth : (mode : ℕ) → filter_flag n mode ≡ true → Agree n smoothed (filtered true bits n nb)
 
 -- no mode of side 4 asks for them
 pub never_smoothed : (n mode : ℕ) → n ≡ 4 → filter_flag n mode ≡ true → ⊥

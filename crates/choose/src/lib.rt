@@ -9,39 +9,75 @@ ghost use Rattle.laws.specs.Fill.{run, block};
 ghost use Rattle.laws.specs.Sum.{total};
 ghost use Rattle.laws.specs.Least.{FirstLeast};
 ghost use Rattle.h265.specs.Notation.{from_rows};
+ghost use Rattle.domain.specs.Domain.{depth_ok, size_ok};
 ghost use Rattle.domain.specs.Facts.{Size};
+ghost use Rattle.domain.specs.Refusal.{no_of};
 ghost use Rattle.predict.specs.Lent.{entry_at, lent_neighbours};
 ghost use Rattle.predict.specs.modes.Modes.{predicted_by_mode};
 ghost use Rattle.predict.specs.refusals.Refusals.{lengths};
+ghost use Rattle.choose.specs.Answers.{chosen_of};
 ghost use Rattle.choose.specs.Choose.{apart, differences, source_at, mode_sum, lends_enough, choose_no, Chooses, lends, ScratchKept};
-ghost use Rattle.choose.specs.Ready.{held_by, Ready};
-ghost use Rattle.choose.specs.Early.{source_from, UpTo, Upward};
-ghost use Rattle.choose.specs.Sums.{turned_at, TurnedSource, SmoothRows};
+ghost use Rattle.choose.specs.Early.{source_from, UpTo};
+ghost use Rattle.choose.specs.Sums.{turned_at, TurnedSource, Smooths};
 
+use domain::refusal::Refusal;
+use domain::rows;
 use fmt::depth;
+use octets::lent;
 use predict::{angular, planar_dc};
-use samples::{filters, ranges};
+use samples::filters;
 
-// A call's number, and the mode with its sum of absolute differences, both 0 where it is refused.
-#[derive(Clone, Copy)]
-pub struct Chosen {
-    pub no: u32,
+// The mode that does best, and its sum of absolute differences.
+#[derive(Clone, Copy, Debug, PartialEq, Eq)]
+pub struct Best {
     pub mode: u8,
     pub sum: u32,
 }
 
-// How far apart two samples are, in 16 bits, in which twice as many are done at once.
-fn gap(a: u16, b: u16) -> u16
-    ensures { (result ≡ apart a b) × (result ≤ 65535) }
-{
-    if a < b {
-        return b - a;
-    }
-    a - b
+// The samples that a block is predicted from: the corner, the row above and the column to the left.
+#[derive(Clone, Copy)]
+struct Border<'a> {
+    corner: u16,
+    above: &'a [u16],
+    left: &'a [u16],
+    ghost long: { (65 ≤ length above.now) × (65 ≤ length left.now) },
+}
+
+// A block that modes are tried against: its samples, row by row, its side and its bit depth.
+#[derive(Clone, Copy)]
+struct Block<'a> {
+    samples: &'a [u16],
+    n: usize,
+    bits: u32,
+    ghost size: { size_ok n ≡ true },
+    ghost depth: { depth_ok bits ≡ true },
+    ghost room: { n * n ≤ length samples.now },
+}
+
+// The tables of the angular predictor, which are lent.
+#[derive(Drop)]
+struct Tables<'a> {
+    refs: &'a mut [u16],
+    indices: &'a mut [u32],
+    fractions: &'a mut [u32],
+    ghost long: { (193 ≤ length refs.now) × ((32 ≤ length indices.now) × (32 ≤ length fractions.now)) },
+}
+
+// How long all is that a call lends, but for the source.
+#[derive(Clone, Copy)]
+struct Lent {
+    above: usize,
+    left: usize,
+    pred: usize,
+    refs: usize,
+    indices: usize,
+    fractions: usize,
 }
 
 // The sum of absolute differences of as many samples as count, from entry from on in the source and from the first on in what was
-// predicted. Rows that follow each other are one run: the compiler adds up many samples at once, and does so to the end.
+// predicted. Rows that follow each other are one run: the compiler adds up many samples at once, and does so to the end. Their
+// differences are of 16 bits, in which twice as many are done at once.
+#[tactic(auto, using(laws::specs::Sum::total_none, laws::specs::Sum::total_more, crate::specs::Sums::apart_is))]
 fn run_sum(source: &[u16], from: usize, pred: &[u16], count: usize) -> u32
     requires { (count ≤ 1024) × ((from + count ≤ length source.now) × (count ≤ length pred.now)) }
     ensures { (result ≡ total (λ (i : ℕ). apart (entry_at source (from + i)) (entry_at pred i)) count)
@@ -49,12 +85,13 @@ fn run_sum(source: &[u16], from: usize, pred: &[u16], count: usize) -> u32
 {
     let mut sum = 0;
     for i in 0..count {
-        sum += gap(source[from + i], pred[i]) as u32;
+        sum += source[from + i].abs_diff(pred[i]) as u32;
     }
     sum
 }
 
 // The sum of a block. A loop for each side, so that the compiler knows how long it is.
+#[inline(always)]
 fn block_sum(source: &[u16], pred: &[u16], n: usize) -> u32
     requires { Size n × ((n * n ≤ length source.now) × (n * n ≤ length pred.now)) }
     ensures { result ≡ differences (source_at n source.now) (source_at n pred.now) n n }
@@ -80,6 +117,7 @@ fn eight_sum(source: &[u16], first: usize, pred: &[u16], n: usize) -> u32
 }
 
 // A row of the turned source: column r of the source.
+#[tactic(auto, using(laws::specs::FillLaws::run_none, laws::specs::FillLaws::run_more))]
 fn turn_row(source: &[u16], n: usize, r: usize, turned: &mut [u16])
     requires { (r < n) × ((n ≤ 32) × ((n * n ≤ length source.now) × (n * n ≤ length turned.old))) }
     ensures { turned.new
@@ -91,6 +129,7 @@ fn turn_row(source: &[u16], n: usize, r: usize, turned: &mut [u16])
 }
 
 // The source block with its rows as columns.
+#[tactic(auto, using(laws::specs::FillLaws::rows_none))]
 fn turn(source: &[u16], n: usize, turned: &mut [u16])
     requires { (n ≤ 32) × ((n * n ≤ length source.now) × (n * n ≤ length turned.old)) }
     ensures { turned.new ≡ block (turned_at n source.now) n turned.old }
@@ -100,466 +139,308 @@ fn turn(source: &[u16], n: usize, turned: &mut [u16])
     }
 }
 
-// The block of a mode from rows as they are, its edge filtered.
-fn mode_block(
+// A mode that is tried: what its block is predicted from, its edge filtered, and which block it is held against.
+#[derive(Clone, Copy)]
+struct Trial<'a> {
     mode: u8,
-    corner: u16,
-    above: &[u16],
-    left: &[u16],
-    n: usize,
-    bits: u32,
-    pred: &mut [u16],
-    refs: &mut [u16],
-    indices: &mut [u32],
-    fractions: &mut [u32],
-)
-    requires { Ready bits n (held_by above left pred refs indices fractions) × (mode ≤ 34) }
-    ensures { pred.new
-        ≡ block (λ (y x : ℕ). predicted_by_mode bits true true n mode (lent_neighbours corner above left) x y) n
-        pred.old }
-{
-    match mode {
-        0 => {
-            planar_dc::predict_planar_into(above, left, n, &mut *pred);
+    border: Border<'a>,
+    block: Block<'a>,
+    ghost known: { mode ≤ 34 },
+}
+
+// What is predicted stands in a buffer that is lent. What is called for each mode is compiled into the search: else its record would be
+// laid in memory for each and read back, and the tables' lengths be tested again.
+impl Trial<'_> {
+    ghost use Rattle.choose.specs.Given.{neighbours, distance, Upward};
+
+    // The block, from the border as it is.
+    #[inline(always)]
+    fn predict(&self, pred: &mut [u16], tables: &mut Tables)
+        requires { self.now.block.n * self.now.block.n ≤ length pred.old }
+        ensures { let t = self.now in let k = self.now.block in pred.new
+            ≡ block (λ (y x : ℕ). predicted_by_mode k.bits true true k.n t.mode (neighbours t.border) x y) k.n pred.old }
+    {
+        let Border {
+            corner,
+            above,
+            left,
+        } = self.border;
+        let n = self.block.n;
+        match self.mode {
+            0 => {
+                let _ = planar_dc::predict_planar_into(above, left, n, &mut *pred);
+            }
+            1 => {
+                let _ = planar_dc::predict_dc_into(above, left, n, true, &mut *pred);
+            }
+            mode => {
+                let _ = angular::predict_angular_slices(
+                    corner,
+                    above,
+                    left,
+                    n,
+                    mode,
+                    true,
+                    self.block.bits,
+                    &mut *pred,
+                    &mut *tables.refs,
+                    &mut *tables.indices,
+                    &mut *tables.fractions,
+                );
+            }
         }
-        1 => {
-            planar_dc::predict_dc_into(above, left, n, true, &mut *pred);
-        }
-        _ => {
-            angular::predict_angular_slices(
-                corner,
+    }
+
+    // How far it is from the block's samples.
+    #[inline(always)]
+    fn tried(&self, pred: &mut [u16], tables: &mut Tables) -> u32
+        requires { self.now.block.n * self.now.block.n ≤ length pred.old }
+        ensures { result ≡ distance self.now }
+    {
+        self.predict(&mut *pred, tables);
+        block_sum(self.block.samples, &*pred, self.block.n)
+    }
+
+    // The same of a vertical mode that is not 26 and a side above 8, eight rows at a time and the last ones first: there, far from what
+    // they are predicted from, samples are the furthest off. It ends once the sum is no longer below a limit.
+    #[inline(always)]
+    fn upward(&self, limit: u32, pred: &mut [u16], refs: &mut [u16]) -> u32
+        requires { Upward self.now (length pred.old) (length refs.old) }
+        ensures { UpTo (Some limit) (distance self.now) result }
+    {
+        let Border {
+            corner,
+            above,
+            left,
+        } = self.border;
+        let n = self.block.n;
+        let _ = angular::vertical_refs(corner, above, left, n, self.mode, &mut *refs);
+        let mut sum: u32 = 0;
+        for eight in (0..n / 8).rev() {
+            if sum >= limit {
+                break;
+            }
+            let first = 8 * eight;
+            let _ = angular::vertical_rows(
                 above,
-                left,
+                &*refs,
                 n,
-                mode,
-                true,
-                bits,
+                self.mode,
+                first,
+                first + 8,
                 &mut *pred,
-                &mut *refs,
-                &mut *indices,
-                &mut *fractions,
             );
+            sum += eight_sum(self.block.samples, first, &*pred, n);
+        }
+        sum
+    }
+
+    // The same of any mode, which is dropped early where there is a limit: once its sum is no longer below that it has lost. Nothing is
+    // below 0.
+    #[inline(always)]
+    fn until(&self, limit: Option<u32>, pred: &mut [u16], tables: &mut Tables) -> u32
+        requires { self.now.block.n * self.now.block.n ≤ length pred.old }
+        ensures { UpTo limit (distance self.now) result }
+    {
+        let mode = self.mode;
+        match limit {
+            Some(0) => 0,
+            Some(most) if (mode >= 18) & (mode != 26) & (self.block.n > 8) => {
+                self.upward(most, &mut *pred, &mut *tables.refs)
+            }
+            _ => self.tried(&mut *pred, tables),
         }
     }
 }
 
-// How far the block of a mode is from a source.
-fn tried(
-    mode: u8,
-    corner: u16,
-    above: &[u16],
-    left: &[u16],
-    source: &[u16],
-    n: usize,
-    bits: u32,
-    pred: &mut [u16],
-    refs: &mut [u16],
-    indices: &mut [u32],
-    fractions: &mut [u32],
-) -> u32
-    requires { Ready bits n (held_by above left pred refs indices fractions)
-        × ((mode ≤ 34) × (n * n ≤ length source.now)) }
-    ensures { result ≡ differences (source_at n source.now)
-        (predicted_by_mode bits true true n mode (lent_neighbours corner above left)) n n }
-{
-    mode_block(
-        mode,
-        corner,
-        above,
-        left,
-        n,
-        bits,
-        &mut *pred,
-        &mut *refs,
-        &mut *indices,
-        &mut *fractions,
-    );
-    block_sum(source, &*pred, n)
-}
-
-// The same of a vertical mode that is not 26 and a side above 8, eight rows at a time and the last ones first: there, far from what they
-// are predicted from, samples are the furthest off. It ends once the sum is no longer below a limit.
-fn upward(
-    mode: u8,
-    corner: u16,
-    above: &[u16],
-    left: &[u16],
-    source: &[u16],
-    n: usize,
-    limit: u32,
-    pred: &mut [u16],
-    refs: &mut [u16],
-) -> u32
-    requires { Upward n mode (length above.now) (length left.now) (length source.now) (length pred.old)
-        (length refs.old) }
-    ensures { (bits : ℕ) → UpTo true limit (differences (source_at n source.now)
-        (predicted_by_mode bits true true n mode (lent_neighbours corner above left)) n n) result }
-{
-    angular::vertical_refs(corner, above, left, n, mode, &mut *refs);
-    let mut sum: u32 = 0;
-    let mut first = n;
-    while (first > 0) & (sum < limit) {
-        first -= 8;
-        angular::vertical_rows(above, &*refs, n, mode, first, first + 8, &mut *pred);
-        sum += eight_sum(source, first, &*pred, n);
-    }
-    sum
-}
-
-// The same of any mode, which may be dropped early: once its sum is no longer below the limit it has lost. Nothing is below 0.
-fn until(
-    mode: u8,
-    corner: u16,
-    above: &[u16],
-    left: &[u16],
-    source: &[u16],
-    n: usize,
-    bits: u32,
+// A search over all modes: the border as it is, the same smoothed, the block, the block's samples with rows as columns, and whether a
+// mode may be dropped early.
+#[derive(Clone, Copy)]
+struct Search<'a> {
+    border: Border<'a>,
+    smooth: Border<'a>,
+    block: Block<'a>,
+    turned: &'a [u16],
     early: bool,
-    limit: u32,
-    pred: &mut [u16],
-    refs: &mut [u16],
-    indices: &mut [u32],
-    fractions: &mut [u32],
-) -> u32
-    requires { Ready bits n (held_by above left pred refs indices fractions)
-        × ((mode ≤ 34) × (n * n ≤ length source.now)) }
-    ensures { UpTo early limit (differences (source_at n source.now)
-        (predicted_by_mode bits true true n mode (lent_neighbours corner above left)) n n) result }
-{
-    if early & (limit == 0) {
-        return 0;
-    }
-    if early & (mode >= 18) & (mode != 26) & (n > 8) {
-        return upward(
-            mode, corner, above, left, source, n, limit, &mut *pred, &mut *refs,
-        );
-    }
-    tried(
-        mode,
-        corner,
-        above,
-        left,
-        source,
-        n,
-        bits,
-        &mut *pred,
-        &mut *refs,
-        &mut *indices,
-        &mut *fractions,
-    )
+    ghost turns: { TurnedSource block.n block.samples.now turned.now },
+    ghost smooths: { Smooths block.bits block.n (from_rows border.corner border.above.now border.left.now)
+        (from_rows smooth.corner smooth.above.now smooth.left.now) },
 }
 
-// The same, a horizontal mode mirrored.
-fn mirrored(
-    mode: u8,
-    corner: u16,
-    above: &[u16],
-    left: &[u16],
-    source: &[u16],
-    turned: &[u16],
-    n: usize,
-    bits: u32,
-    early: bool,
-    limit: u32,
-    pred: &mut [u16],
-    refs: &mut [u16],
-    indices: &mut [u32],
-    fractions: &mut [u32],
-) -> u32
-    requires { Ready bits n (held_by above left pred refs indices fractions) × ((mode ≤ 34)
-        × TurnedSource n source.now turned.now) }
-    ensures { UpTo early limit (differences (source_at n source.now)
-        (predicted_by_mode bits true true n mode (lent_neighbours corner above left)) n n) result }
-{
-    if (mode >= 2) & (mode < 18) {
-        return until(
-            36 - mode,
-            corner,
-            left,
-            above,
-            turned,
-            n,
-            bits,
-            early,
-            limit,
-            &mut *pred,
-            &mut *refs,
-            &mut *indices,
-            &mut *fractions,
-        );
-    }
-    until(
-        mode,
-        corner,
-        above,
-        left,
-        source,
-        n,
-        bits,
-        early,
-        limit,
-        &mut *pred,
-        &mut *refs,
-        &mut *indices,
-        &mut *fractions,
-    )
-}
+impl<'a> Search<'a> {
+    ghost use Rattle.choose.specs.Given.{distance, sum_of};
 
-// The sum of a mode: from the smoothed rows where the rule says so, and from the rows as they are where it does not.
-fn mode_sum(
-    mode: u8,
-    corner: u16,
-    above: &[u16],
-    left: &[u16],
-    smooth_corner: u16,
-    smooth_above: &[u16],
-    smooth_left: &[u16],
-    source: &[u16],
-    turned: &[u16],
-    n: usize,
-    bits: u32,
-    early: bool,
-    limit: u32,
-    pred: &mut [u16],
-    refs: &mut [u16],
-    indices: &mut [u32],
-    fractions: &mut [u32],
-) -> u32
-    requires { Ready bits n (held_by above left pred refs indices fractions) × ((mode ≤ 34)
-        × (TurnedSource n source.now turned.now × SmoothRows bits n (from_rows corner above.now left.now)
-        smooth_corner smooth_above.now smooth_left.now)) }
-    ensures { UpTo early limit
-        (mode_sum bits n (lent_neighbours corner above left) source.now mode) result }
-{
-    if filters::smooths(mode, n) {
-        return mirrored(
-            mode,
-            smooth_corner,
-            smooth_above,
-            smooth_left,
-            source,
-            turned,
-            n,
-            bits,
-            early,
-            limit,
-            &mut *pred,
-            &mut *refs,
-            &mut *indices,
-            &mut *fractions,
-        );
-    }
-    mirrored(
-        mode,
-        corner,
-        above,
-        left,
-        source,
-        turned,
-        n,
-        bits,
-        early,
-        limit,
-        &mut *pred,
-        &mut *refs,
-        &mut *indices,
-        &mut *fractions,
-    )
-}
-
-// The first of the modes whose sum is the least: a later one takes over where it does better, so that one which may be dropped early has
-// lost once it is not below the best.
-fn least<'a>(
-    corner: u16,
-    above: &[u16],
-    left: &[u16],
-    smooth_corner: u16,
-    smooth_above: &'a [u16],
-    smooth_left: &'a [u16],
-    source: &[u16],
-    turned: &[u16],
-    n: usize,
-    bits: u32,
-    early: bool,
-    pred: &mut [u16],
-    refs: &mut [u16],
-    indices: &mut [u32],
-    fractions: &mut [u32],
-) -> Chosen
-    requires { Ready bits n (held_by above left pred refs indices fractions)
-        × (TurnedSource n source.now turned.now × SmoothRows bits n (from_rows corner above.now left.now)
-        smooth_corner smooth_above.now smooth_left.now) }
-    ensures { (result.no ≡ 0) × FirstLeast
-        (mode_sum bits n (lent_neighbours corner above left) source.now) 35 result.mode result.sum }
-{
-    let mut best = mode_sum(
-        0,
-        corner,
-        above,
-        left,
-        smooth_corner,
-        smooth_above,
-        smooth_left,
-        source,
-        turned,
-        n,
-        bits,
-        false,
-        0,
-        &mut *pred,
-        &mut *refs,
-        &mut *indices,
-        &mut *fractions,
-    );
-    let mut chosen: u8 = 0;
-    let mut mode: u8 = 1;
-    while mode < 35 {
-        let sum = mode_sum(
-            mode,
-            corner,
-            above,
-            left,
-            smooth_corner,
-            smooth_above,
-            smooth_left,
-            source,
-            turned,
-            n,
-            bits,
-            early,
-            best,
-            &mut *pred,
-            &mut *refs,
-            &mut *indices,
-            &mut *fractions,
-        );
-        if sum < best {
-            best = sum;
-            chosen = mode;
+    // A mode, from the smoothed border where the rule says so, and from the border as it is where it does not.
+    #[inline(always)]
+    fn upright(&self, mode: u8) -> Trial<'a>
+        requires { mode ≤ 34 }
+        ensures { (result.mode ≡ mode) × ((result.block ≡ self.now.block) × (distance result ≡ sum_of self.now mode)) }
+    {
+        if filters::smooths(mode, self.block.n) {
+            return Trial {
+                mode,
+                border: self.smooth,
+                block: self.block,
+            };
         }
-        mode += 1;
+        Trial {
+            mode,
+            border: self.border,
+            block: self.block,
+        }
     }
-    Chosen {
-        no: 0,
-        mode: chosen,
-        sum: best,
+
+    // The same, a horizontal mode mirrored.
+    #[inline(always)]
+    fn trial(&self, mode: u8) -> Trial<'a>
+        requires { mode ≤ 34 }
+        ensures { (result.block.n ≡ self.now.block.n) × (distance result ≡ sum_of self.now mode) }
+    {
+        let upright = self.upright(mode);
+        if (mode >= 2) & (mode < 18) {
+            let border = Border {
+                corner: upright.border.corner,
+                above: upright.border.left,
+                left: upright.border.above,
+            };
+            let block = Block {
+                samples: self.turned,
+                n: self.block.n,
+                bits: self.block.bits,
+            };
+            return Trial {
+                mode: 36 - mode,
+                border,
+                block,
+            };
+        }
+        upright
+    }
+
+    // The first of the modes whose sum is the least: a later one takes over where it does better, so that one which may be dropped early
+    // has lost once it is not below the best.
+    #[inline(always)]
+    fn least(&self, pred: &mut [u16], tables: &mut Tables) -> Best
+        requires { self.now.block.n * self.now.block.n ≤ length pred.old }
+        ensures { FirstLeast (sum_of self.now) 35 result.mode result.sum }
+    {
+        let mut best = self.trial(0).tried(&mut *pred, tables);
+        let mut chosen: u8 = 0;
+        for mode in 1..35u8 {
+            let limit = self.early.then_some(best);
+            let sum = self.trial(mode).until(limit, &mut *pred, tables);
+            if sum < best {
+                best = sum;
+                chosen = mode;
+            }
+        }
+        Best {
+            mode: chosen,
+            sum: best,
+        }
     }
 }
 
-// The search, with rows that are smoothed once for all modes. No mode of side 4 asks for them.
-fn search(
-    corner: u16,
-    above: &[u16],
-    left: &[u16],
-    source: &[u16],
-    turned: &[u16],
-    n: usize,
-    bits: u32,
+// The search from a border and the same smoothed.
+#[inline(always)]
+fn search_from<'a>(
+    border: Border<'a>,
+    smooth: Border<'a>,
+    block: Block<'a>,
+    turned: &'a [u16],
     early: bool,
     pred: &mut [u16],
-    refs: &mut [u16],
-    indices: &mut [u32],
-    fractions: &mut [u32],
-) -> Chosen
-    requires { Ready bits n (held_by above left pred refs indices fractions)
-        × TurnedSource n source.now turned.now }
-    ensures { (result.no ≡ 0) × FirstLeast
-        (mode_sum bits n (lent_neighbours corner above left) source.now) 35 result.mode result.sum }
+    tables: &mut Tables,
+) -> Best
+    requires { TurnedSource block.n block.samples.now turned.now
+        × (Smooths block.bits block.n (from_rows border.corner border.above.now border.left.now)
+        (from_rows smooth.corner smooth.above.now smooth.left.now) × (block.n * block.n ≤ length pred.old)) }
+    ensures { FirstLeast (mode_sum block.entry.bits block.entry.n
+        (from_rows border.entry.corner border.entry.above.now border.entry.left.now) block.entry.samples.now)
+        35 result.mode result.sum }
 {
-    if n == 4 {
-        return least(
-            corner,
-            above,
-            left,
-            corner,
-            above,
-            above,
-            source,
-            turned,
-            n,
-            bits,
-            early,
-            &mut *pred,
-            &mut *refs,
-            &mut *indices,
-            &mut *fractions,
-        );
-    }
-    let rows = smooth::filter_luma_refs(corner, above, left, n, bits).rows;
-    least(
-        corner,
-        above,
-        left,
-        rows.corner,
-        &rows.above,
-        &rows.left,
-        source,
+    let search = Search {
+        border,
+        smooth,
+        block,
         turned,
-        n,
-        bits,
         early,
-        &mut *pred,
-        &mut *refs,
-        &mut *indices,
-        &mut *fractions,
+    };
+    search.least(&mut *pred, tables)
+}
+
+// The search, with rows that are smoothed once for all modes. No mode of side 4 asks for them. The source comes turned: turned in here,
+// a block of side 4 took a tenth longer.
+fn search_all(
+    border: Border,
+    block: Block,
+    turned: &[u16],
+    early: bool,
+    pred: &mut [u16],
+    tables: &mut Tables,
+) -> Best
+    requires { TurnedSource block.n block.samples.now turned.now × (block.n * block.n ≤ length pred.old) }
+    ensures { FirstLeast (mode_sum block.entry.bits block.entry.n
+        (from_rows border.entry.corner border.entry.above.now border.entry.left.now) block.entry.samples.now)
+        35 result.mode result.sum }
+{
+    if block.n == 4 {
+        return search_from(border, border, block, turned, early, &mut *pred, tables);
+    }
+    let rows = smooth::filter_luma_refs(
+        border.corner,
+        border.above,
+        border.left,
+        block.n,
+        block.bits,
     )
+    .unwrap_or(rows::level_rows(0));
+    let smooth = Border {
+        corner: rows.corner,
+        above: &rows.above,
+        left: &rows.left,
+    };
+    search_from(border, smooth, block, turned, early, &mut *pred, tables)
 }
 
 // Number 5: whether each list that is lent is long enough.
-fn lends_enough(
-    n: usize,
-    source: usize,
-    above: usize,
-    left: usize,
-    pred: usize,
-    refs: usize,
-    indices: usize,
-    fractions: usize,
-) -> bool
+fn lends_enough(n: usize, source: usize, lent: Lent) -> bool
     requires { Size n }
-    ensures { result ≡ lends_enough n source (lengths above left pred refs indices fractions) }
+    ensures { result
+        ≡ lends_enough n source (lengths lent.above lent.left lent.pred lent.refs lent.indices lent.fractions) }
 {
     let samples = n * n;
-    (above >= 65)
-        & (left >= 65)
+    (lent.above >= 65)
+        & (lent.left >= 65)
         & (source >= samples)
-        & (pred >= samples)
-        & (refs >= 193)
-        & (indices >= 32)
-        & (fractions >= 32)
+        & (lent.pred >= samples)
+        & (lent.refs >= 193)
+        & (lent.indices >= 32)
+        & (lent.fractions >= 32)
 }
 
-// The number that refuses a choice, or 0.
-fn choose_no(
-    bits: u32,
-    n: usize,
-    source: &[u16],
-    above: usize,
-    left: usize,
-    pred: usize,
-    refs: usize,
-    indices: usize,
-    fractions: usize,
-) -> u32
-    ensures { result ≡ choose_no bits n source.now (lengths above left pred refs indices fractions) }
+// Whether a choice is served, or why it is refused.
+#[tactic(auto, using(fmt::specs::depth::Laws::largest_of_is, domain::specs::Facts::depth_of), unfolding(crate::specs::Choose::choose_no))]
+fn check_choice(bits: u32, n: usize, source: &[u16], lent: Lent) -> Result<(), Refusal>
+    ensures { no_of result
+        ≡ choose_no bits n source.now (lengths lent.above lent.left lent.pred lent.refs lent.indices lent.fractions) }
 {
     if !domain::depth_ok(bits) {
-        return 1;
+        return Err(Refusal::Depth);
     }
     if !domain::size_ok(n) {
-        return 2;
+        return Err(Refusal::Size);
     }
-    if !lends_enough(n, source.len(), above, left, pred, refs, indices, fractions) {
-        return 5;
+    if !lends_enough(n, source.len(), lent) {
+        return Err(Refusal::Buffer);
     }
-    if !ranges::samples_ok(&source[..n * n], depth::largest_of(bits)) {
-        return 7;
+    if !lent::samples_ok(&source[..n * n], depth::largest_of(bits)) {
+        return Err(Refusal::Sample);
     }
-    0
+    Ok(())
 }
 
-// The number, then the search, in full or early.
+// The check, then the search, in full or early.
 fn answer(
     corner: u16,
     above: &[u16],
@@ -572,45 +453,38 @@ fn answer(
     refs: &mut [u16],
     indices: &mut [u32],
     fractions: &mut [u32],
-) -> Chosen
+) -> Result<Best, Refusal>
     ensures { Chooses (choose_no bits n source.now (lends above left pred refs indices fractions))
-        (mode_sum bits n (lent_neighbours corner above left) source.now) result
-        × ((result.no ≡ 0 → ⊥) → ScratchKept pred refs indices fractions) }
+        (mode_sum bits n (lent_neighbours corner above left) source.now) (chosen_of result)
+        × ((no_of result ≡ 0 → ⊥) → ScratchKept pred refs indices fractions) }
 {
-    let no = choose_no(
-        bits,
-        n,
-        source,
-        above.len(),
-        left.len(),
-        pred.len(),
-        refs.len(),
-        indices.len(),
-        fractions.len(),
-    );
-    if no != 0 {
-        return Chosen {
-            no,
-            mode: 0,
-            sum: 0,
-        };
-    }
+    let lent = Lent {
+        above: above.len(),
+        left: left.len(),
+        pred: pred.len(),
+        refs: refs.len(),
+        indices: indices.len(),
+        fractions: fractions.len(),
+    };
+    check_choice(bits, n, source, lent)?;
     let mut turned = [0u16; 1024];
     turn(source, n, &mut turned);
-    search(
+    let border = Border {
         corner,
         above,
         left,
-        source,
-        &turned,
+    };
+    let block = Block {
+        samples: source,
         n,
         bits,
-        early,
-        &mut *pred,
-        &mut *refs,
-        &mut *indices,
-        &mut *fractions,
-    )
+    };
+    let mut tables = Tables {
+        refs: &mut *refs,
+        indices: &mut *indices,
+        fractions: &mut *fractions,
+    };
+    Ok(search_all(border, block, &turned, early, &mut *pred, &mut tables))
 }
 
 // The luma mode whose prediction from a corner and two rows is nearest to a block of side n, the lowest on a tie. The last four slices
@@ -626,10 +500,10 @@ pub fn choose_mode(
     refs: &mut [u16],
     indices: &mut [u32],
     fractions: &mut [u32],
-) -> Chosen
+) -> Result<Best, Refusal>
     ensures { Chooses (choose_no bits n source.now (lends above left pred refs indices fractions))
-        (mode_sum bits n (lent_neighbours corner above left) source.now) result
-        × ((result.no ≡ 0 → ⊥) → ScratchKept pred refs indices fractions) }
+        (mode_sum bits n (lent_neighbours corner above left) source.now) (chosen_of result)
+        × ((no_of result ≡ 0 → ⊥) → ScratchKept pred refs indices fractions) }
 {
     answer(
         corner,
@@ -658,10 +532,10 @@ pub fn choose_early(
     refs: &mut [u16],
     indices: &mut [u32],
     fractions: &mut [u32],
-) -> Chosen
+) -> Result<Best, Refusal>
     ensures { Chooses (choose_no bits n source.now (lends above left pred refs indices fractions))
-        (mode_sum bits n (lent_neighbours corner above left) source.now) result
-        × ((result.no ≡ 0 → ⊥) → ScratchKept pred refs indices fractions) }
+        (mode_sum bits n (lent_neighbours corner above left) source.now) (chosen_of result)
+        × ((no_of result ≡ 0 → ⊥) → ScratchKept pred refs indices fractions) }
 {
     answer(
         corner,

@@ -3,6 +3,7 @@
 #![tactic(auto)]
 
 pub mod helpers;
+pub mod refusal;
 pub mod rows;
 
 ghost use Rattle.std.specs.Prelude.{◌&&◌, ◌≡◌};

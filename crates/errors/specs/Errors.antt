@@ -9,7 +9,7 @@ use Rattle.domain.specs.Domain.{depth_ok}
 use Rattle.order.specs.Order.{picture_ok}
 use Rattle.plan.specs.declared.tiling.Frame.{Frame}
 use Rattle.plan.specs.declared.tiling.Block.{Block}
-use Rattle.plan.specs.declared.tiling.Verdict.{Verdict}
+use Rattle.plan.specs.Answers.{Verdict}
 use Rattle.plan.specs.tiling.Tiling.{picture_of}
 use Rattle.plan.specs.tiling.Plan.{Plan}
 use Rattle.plan.specs.tiling.Sums.{block_total}
@@ -17,8 +17,8 @@ use Rattle.plan.specs.tiling.PlanCheck.{plan_verdict}
 use Rattle.plan.specs.RecordPlan.{records_of}
 use Rattle.octets.specs.Bytes.{samples_of}
 use Rattle.errors.specs.declared.Report.{Report}
-use Rattle.errors.specs.declared.Counted.{Counted}
-use Rattle.errors.specs.declared.Joined.{Joined}
+use Rattle.errors.specs.Answers.{Counted}
+use Rattle.errors.specs.Answers.{Joined}
 
 -- the square of how far two samples are apart: of the two differences one is 0
 abbrev pub square_apart : ℕ → ℕ → ℕ

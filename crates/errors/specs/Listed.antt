@@ -6,16 +6,20 @@ use Rattle.std.proofs.Common.{◌∙◌, arith}
 use Rattle.std.proofs.Math.Decide.{ℕ_discrete}
 use Rattle.laws.specs.Choose.{served, worked, unserved}
 use Rattle.plan.specs.declared.tiling.Block.{Block}
-use Rattle.plan.specs.declared.tiling.Verdict.{Verdict}
+use Rattle.plan.specs.Answers.{Verdict}
 use Rattle.plan.specs.tiling.Plan.{listed}
 use Rattle.plan.specs.tiling.PlanCheck.{plan_verdict}
 use Rattle.errors.specs.declared.Report.{Report}
-use Rattle.errors.specs.declared.Counted.{Counted}
-use Rattle.errors.specs.declared.Start.{Start}
+use Rattle.errors.specs.Answers.{Counted}
 use Rattle.errors.specs.Errors.{of_mode, one, samples_in, squares_in, raised, tallied, pair_tally, top_of, at_most, room_for_pair, pair_no}
 use Rattle.errors.specs.Errors.{settle_full, pair_verdict, planes_fit, counted_by, count_pair}
 use Rattle.errors.specs.Served.{BlockPair, RoomFor, under_mode, Countable, Figured, countable}
 use Rattle.errors.specs.Limits.{raise_none}
+
+-- what a call comes to before it counts: its verdict, and the blocks that it counts up to
+pub record Start : Type 0 where
+  pub found : Verdict
+  pub upto : ℕ
 
 -- what a call comes to before it counts, and what it gives
 abbrev pub start_on : Report → List ℕ → List ℕ → ℕ → Verdict → Start

@@ -9,8 +9,7 @@ use Rattle.laws.specs.Bytes.{le_at, byte_of, byte_at}
 use Rattle.std.proofs.lemmas.Bool.{lt-leb}
 use Rattle.laws.specs.Choose.{if_yes, if_no, worked, unserved}
 use Rattle.errors.specs.declared.Report.{Report}
-use Rattle.errors.specs.declared.Counted.{Counted}
-use Rattle.errors.specs.declared.Joined.{Joined}
+use Rattle.errors.specs.Answers.{Counted, Joined}
 use Rattle.errors.specs.Errors.{count_bytes, join_reports}
 use Rattle.errors.specs.RecordBytes.{report_at, figures_into, report_into, word_at_into, entered, count_entry, join_entry}
 

@@ -11,7 +11,7 @@ use Rattle.order.specs.Good.{Good}
 use Rattle.fmt.specs.depth.Depth.{largest_of}
 use Rattle.fmt.specs.depth.Laws.{largest_of_is}
 use Rattle.plan.specs.declared.tiling.Block.{Block}
-use Rattle.plan.specs.declared.tiling.Verdict.{Verdict}
+use Rattle.plan.specs.Answers.{Verdict}
 use Rattle.plan.specs.tiling.Tiling.{picture_of, Placed}
 use Rattle.plan.specs.tiling.Plan.{Plan}
 use Rattle.plan.specs.tiling.PlanCheck.{plan_verdict}

@@ -5,25 +5,31 @@
 pub mod on_bytes;
 pub mod record;
 
-ghost use Rattle.std.specs.Prelude.{◌≡◌, ◌&&◌, ℕ, ◌+◌, ◌-◌, ◌*◌, ◌≤◌, ◌<◌, length, get_or};
+ghost use Rattle.std.specs.Prelude.{◌≡◌, ◌&&◌, ℕ, ◌+◌, ◌-◌, ◌*◌, ◌≤◌, ◌<◌, cond, length, get_or};
 ghost use Rattle.domain.specs.Facts.{Depth};
 ghost use Rattle.order.specs.Good.{Good};
 ghost use Rattle.plan.specs.tiling.Tiling.{picture_of};
 ghost use Rattle.laws.specs.Sum.{total};
 ghost use Rattle.plan.specs.tiling.Plan.{plan_of, listed};
-ghost use Rattle.errors.specs.Errors.{square_apart, samples_in, squares_in, tallied, pair_tally, fresh_report, plane_area, top_of};
-ghost use Rattle.errors.specs.Errors.{at_most, keeps_limits, room_for_pair, pair_no, settle_full, planes_fit, count_pair};
+ghost use Rattle.errors.specs.Errors.{square_apart, squares_in, tallied, pair_tally, fresh_report, plane_area, top_of};
+ghost use Rattle.errors.specs.Errors.{at_most, keeps_limits, room_for_pair, pair_no, pair_verdict, counted_by, count_pair};
 ghost use Rattle.errors.specs.Errors.{same_settings, join_no, join_reports, raised, tally_of};
-ghost use Rattle.errors.specs.Served.{SamplesLow, BlockPair, RoomFor, under_mode, Limitable, Countable};
-ghost use Rattle.errors.specs.Listed.{with_block, Addable, start_on, pair_answer};
+ghost use Rattle.errors.specs.Served.{SamplesLow, BlockPair, RoomFor, Limitable};
+ghost use Rattle.errors.specs.Blocks.{with_block};
+ghost use Rattle.errors.specs.Answers.{counted_of, whole_of};
+ghost use Rattle.domain.specs.Refusal.{no_of};
+ghost use Rattle.plan.specs.Answers.{verdict_of};
 
+use domain::refusal::Refusal;
 use fmt::depth;
-use plan::tiling::{Block, Frame, Verdict};
-use samples::ranges;
+use octets::lent;
+use octets::lent::Samples;
+use plan::blocks::{Blocks, Numbers};
+use plan::tiling::{Block, Fault, Frame};
 
 // Depth, picture and CTU of the pairs that are counted, how many they are, and for each mode its blocks, their samples, and the squares of
 // the differences in them.
-#[derive(Clone, Copy)]
+#[derive(Clone, Copy, PartialEq, Eq, Debug)]
 pub struct Report {
     pub bits: u32,
     pub frame: Frame,
@@ -33,86 +39,59 @@ pub struct Report {
     pub squares: [u64; 35],
 }
 
-// A call's number, the block that it is about, and the next record.
-#[derive(Drop)]
-pub struct Counted {
-    pub no: u32,
-    pub block: u32,
-    pub next: Report,
-}
-
-// A call's number and the sum of two records, the first where it is refused.
-#[derive(Drop)]
-pub struct Joined {
-    pub no: u32,
-    pub next: Report,
-}
-
-// What a call over a plan of records comes to before it counts: its number and block, and up to which block it counts, 0 where it is
-// refused.
-#[derive(Clone, Copy)]
-struct Start {
-    found: Verdict,
-    upto: usize,
-}
-
-// How far two samples are apart.
-fn apart(x: u16, y: u16) -> u16
-    ensures { result ≡ x - y + (y - x) }
-{
-    if x < y {
-        return y - x;
-    }
-    x - y
+// Why a call is refused, the block that this is about, and the report as it was given.
+#[derive(Clone, Copy, PartialEq, Eq, Debug)]
+pub struct Rejected {
+    pub fault: Fault,
+    pub report: Report,
 }
 
 // The square of how far two samples are apart. The remainder changes nothing: it shows the compiler a number of 12 bits, whose square is
 // one instruction for eight samples.
-pub(crate) fn square_apart(x: u16, y: u16) -> u32
+fn square_apart(x: u16, y: u16) -> u32
     requires { (x ≤ 4095) × (y ≤ 4095) }
     ensures { (result ≡ square_apart x y) × (result ≤ 16769025) }
 {
-    let d = (apart(x, y) % 4096) as u32;
+    let d = (x.abs_diff(y) % 4096) as u32;
     d * d
 }
 
 // The squares of a row of a block, whose first sample is `at`.
-fn row_squares(a: &[u16], b: &[u16], at: usize, n: usize) -> u32
-    requires { (at + n ≤ length a.now) × ((at + n ≤ length b.now) × ((n ≤ 32) × (SamplesLow a.now × SamplesLow b.now))) }
-    ensures { (result ≡ total (λ (c : ℕ). square_apart (get_or a.now (at + c) 0) (get_or b.now (at + c) 0)) n)
+#[tactic(auto, using(laws::specs::Sum::total_none, laws::specs::Sum::total_more))]
+fn row_squares<S: Samples>(a: S, b: S, at: usize, n: usize) -> u32
+    requires within { (at + n ≤ length (S.list a)) × (at + n ≤ length (S.list b)) }
+    requires small { (at ≤ 16781312) × (n ≤ 32) }
+    requires low { SamplesLow (S.list a) × SamplesLow (S.list b) }
+    ensures { (result ≡ total (λ (c : ℕ). square_apart (get_or (S.list a) (at + c) 0) (get_or (S.list b) (at + c) 0)) n)
         × (result ≤ n * 16769025) }
 {
     let mut sum = 0;
-    let mut i = 0;
-    while i < n {
-        sum += square_apart(a[at + i], b[at + i]);
-        i += 1;
+    for i in 0..n {
+        sum += square_apart(a.sample(at + i), b.sample(at + i));
     }
     sum
 }
 
 // The squares of the n rows of a block of side n.
-fn rows_squares(a: &[u16], b: &[u16], width: u32, t: Block, n: usize) -> u64
-    requires { (n ≡ t.side) × BlockPair a.now b.now width t }
-    ensures { result ≡ squares_in a.now b.now width t }
+fn rows_squares<S: Samples>(a: S, b: S, width: u32, t: Block, n: usize) -> u64
+    requires { (n ≡ t.side) × BlockPair (S.list a) (S.list b) width t }
+    ensures { result ≡ squares_in (S.list a) (S.list b) width t }
 {
     let across = width as usize;
     let row = t.row as usize;
     let col = t.col as usize;
     let mut sum = 0;
-    let mut r = 0;
-    while r < n {
+    for r in 0..n {
         let more = row_squares(a, b, (row + r) * across + col, n);
         sum += more as u64;
-        r += 1;
     }
     sum
 }
 
 // The squares of a block. Loops for each side, so that the compiler knows how long they are.
-fn block_squares(a: &[u16], b: &[u16], width: u32, t: Block) -> u64
-    requires { BlockPair a.now b.now width t }
-    ensures { result ≡ squares_in a.now b.now width t }
+fn block_squares<S: Samples>(a: S, b: S, width: u32, t: Block) -> u64
+    requires { BlockPair (S.list a) (S.list b) width t }
+    ensures { result ≡ squares_in (S.list a) (S.list b) width t }
 {
     let n = t.side;
     match n {
@@ -123,270 +102,29 @@ fn block_squares(a: &[u16], b: &[u16], width: u32, t: Block) -> u64
     }
 }
 
-// A block more, under its mode: itself, its samples, its squares.
-pub(crate) fn add_block(
-    blocks: &mut [u64; 35],
-    samples: &mut [u64; 35],
-    squares: &mut [u64; 35],
-    t: Block,
-    more: u64,
-)
-    requires { RoomFor blocks.old samples.old squares.old t more }
-    ensures { (blocks.new ≡ under_mode t blocks.old 1) × ((samples.new ≡ under_mode t samples.old (samples_in t)) × (squares.new ≡ under_mode t squares.old more)) }
-{
-    let n = t.side as u64;
-    let m = t.mode as usize;
-    blocks[m] += 1;
-    samples[m] += n * n;
-    squares[m] += more;
-}
-
-// The blocks of a plan of numbers, each under its mode.
-fn count_blocks(
-    r: Report,
-    a: &[u16],
-    b: &[u16],
-    rows: &[u32],
-    cols: &[u32],
-    sides: &[u32],
-    modes: &[u32],
-) -> Report
-    requires { Countable r (planes_fit r (length a.now) (length b.now)) a.now b.now (plan_of rows.now cols.now sides.now modes.now) }
-    ensures { result ≡ tallied r (pair_tally r.frame a.now b.now (plan_of rows.now
-        cols.now sides.now modes.now)) }
-{
-    let frame = r.frame;
-    let mut blocks = r.blocks;
-    let mut samples = r.samples;
-    let mut squares = r.squares;
-    let mut k: usize = 0;
-    while k < rows.len() {
-        let t = plan::block_at(rows, cols, sides, modes, k);
-        let more = block_squares(a, b, frame.width, t);
-        add_block(&mut blocks, &mut samples, &mut squares, t, more);
-        k += 1;
-    }
-    Report {
-        bits: r.bits,
-        frame,
-        pairs: r.pairs + 1,
-        blocks,
-        samples,
-        squares,
-    }
-}
-
 // Whether no figure is above a limit.
+#[tactic(auto, using(laws::specs::Every::pass_none, laws::specs::Every::pass_more))]
 fn at_most(most: u64, figures: [u64; 35]) -> bool
     ensures { result ≡ at_most most figures }
 {
     let mut ok = true;
-    let mut i = 0;
-    while i < 35 {
-        ok = ok & (figures[i] <= most);
-        i += 1;
+    for figure in figures {
+        ok &= figure <= most;
     }
     ok
 }
 
-// How many samples a plane has.
-pub(crate) fn area(r: Report) -> usize
-    ensures { result ≡ plane_area r }
-{
-    (r.frame.height as usize) * (r.frame.width as usize)
-}
-
-// Number 15: whether no mode has more than the pairs so far can give.
-fn keeps_limits(r: Report) -> bool
-    requires { Limitable r }
-    ensures { result ≡ keeps_limits r }
-{
-    let most = (r.pairs as u64) * (area(r) as u64);
-    let top = depth::largest_of(r.bits) as u64;
-    let blocks = r.blocks;
-    let samples = r.samples;
-    let squares = r.squares;
-    at_most(most / 16, blocks) & at_most(most, samples) & at_most(most * (top * top), squares)
-}
-
-// Numbers 1, 4, 5, 7: `fit` says whether what is lent is as long as it must be, `ok` whether all samples are of the depth.
-pub(crate) fn pair_no(r: Report, fit: bool, ok: bool) -> u32
-    ensures { result ≡ pair_no r fit ok }
-{
-    if !domain::depth_ok(r.bits) {
-        return 1;
-    }
-    if !domain::picture_ok(r.frame.width, r.frame.height, r.frame.ctu) {
-        return 4;
-    }
-    if !fit {
-        return 5;
-    }
-    if ok { 0 } else { 7 }
-}
-
-// The number of the checks before the plan's. `whole` says whether the plan is of whole records.
-fn early_no(r: Report, whole: bool, a: &[u16], b: &[u16]) -> u32
-    ensures { result ≡ pair_no r (whole && planes_fit r (length a.now) (length b.now)) (at_most
-        (top_of r) a.now && at_most (top_of r) b.now) }
-{
-    let size = area(r);
-    let largest = depth::largest_of(r.bits);
-    let ok = ranges::samples_ok(a, largest) & ranges::samples_ok(b, largest);
-    pair_no(r, whole & ((a.len() == size) & (b.len() == size)), ok)
-}
-
-// The number of the checks before the plan's, then the plan's verdict, then 15: the count first, so that no limit is too large.
-#[tactic(auto, unfolding(crate::specs::Errors::settle_full, crate::specs::Errors::room_for_pair))]
-pub(crate) fn settled(r: Report, early: u32, found: Verdict) -> Verdict
-    requires { early ≡ 0 → Depth r.bits × Good (picture_of r.frame) }
-    ensures { result ≡ settle_full early found (room_for_pair r) }
-{
-    if early != 0 {
-        return Verdict {
-            no: early,
-            block: 0,
-        };
-    }
-    if found.no != 0 {
-        return found;
-    }
-    if r.pairs >= 65536 {
-        return Verdict { no: 15, block: 0 };
-    }
-    let no = if keeps_limits(r) { 0 } else { 15 };
-    Verdict { no, block: 0 }
-}
-
-// What a call over a plan of records comes to, the plan's verdict in hand.
-fn start_count(r: Report, a: &[u16], b: &[u16], count: usize, found: Verdict) -> Start
-    ensures { result ≡ start_on r a.now b.now count found }
-{
-    let early = early_no(r, true, a, b);
-    let v = settled(r, early, found);
-    let upto = if v.no == 0 { count } else { 0 };
-    Start { found: v, upto }
-}
-
-// A block more, under its mode.
-fn with_block(r: Report, a: &[u16], b: &[u16], t: Block) -> Report
-    requires { Addable r a.now b.now t }
-    ensures { result ≡ with_block r a.now b.now t }
-{
-    let frame = r.frame;
-    let mut blocks = r.blocks;
-    let mut samples = r.samples;
-    let mut squares = r.squares;
-    let more = block_squares(a, b, frame.width, t);
-    add_block(&mut blocks, &mut samples, &mut squares, t, more);
-    Report {
-        bits: r.bits,
-        frame,
-        pairs: r.pairs,
-        blocks,
-        samples,
-        squares,
-    }
-}
-
-// What a call over a plan of records gives, its blocks counted.
-fn end_count(v: Verdict, r: Report) -> Counted
-    requires { v.no ≡ 0 → r.pairs < 65536 }
-    ensures { result ≡ pair_answer v r }
-{
-    if v.no != 0 {
-        return Counted {
-            no: v.no,
-            block: v.block,
-            next: r,
-        };
-    }
-    let frame = r.frame;
-    let blocks = r.blocks;
-    let samples = r.samples;
-    let squares = r.squares;
-    let next = Report {
-        bits: r.bits,
-        frame,
-        pairs: r.pairs + 1,
-        blocks,
-        samples,
-        squares,
-    };
-    Counted {
-        no: 0,
-        block: v.block,
-        next,
-    }
-}
-
-// Whether two reports are of one depth, picture and CTU.
-fn same_settings(r: Report, s: Report) -> bool
-    ensures { result ≡ same_settings r s }
-{
-    let f = r.frame;
-    let g = s.frame;
-    (s.bits == r.bits) & (g.width == f.width) & (g.height == f.height) & (g.ctu == f.ctu)
-}
-
-// The number that refuses the sum of two reports, or 0. The count comes first here too.
-fn join_no(r: Report, s: Report) -> u32
-    ensures { result ≡ join_no r s }
-{
-    if !domain::depth_ok(r.bits) {
-        return 1;
-    }
-    let good = domain::picture_ok(r.frame.width, r.frame.height, r.frame.ctu);
-    if !(good & same_settings(r, s)) {
-        return 4;
-    }
-    if (r.pairs as u64) + (s.pairs as u64) > 65536 {
-        return 15;
-    }
-    if keeps_limits(r) & keeps_limits(s) {
-        0
-    } else {
-        15
-    }
-}
-
 // The figures of two reports, mode by mode.
+#[tactic(auto, using(laws::specs::FillLaws::fill_none, laws::specs::FillLaws::fill_more))]
 fn figures_added(a: [u64; 35], b: [u64; 35]) -> [u64; 35]
     requires { (m : ℕ) → get_or a m 0 + get_or b m 0 < 18446744073709551616 }
     ensures { result ≡ raised (λ (m : ℕ). get_or b m 0) a }
 {
     let mut out = a;
-    let mut i = 0;
-    while i < 35 {
-        out[i] = a[i] + b[i];
-        i += 1;
+    for m in 0..35 {
+        out[m] = a[m] + b[m];
     }
     out
-}
-
-// The sum of two reports that is not refused.
-fn reports_added(r: Report, s: Report) -> Report
-    requires { join_no r s ≡ 0 }
-    ensures { result ≡ tallied r (tally_of s) }
-{
-    let frame = r.frame;
-    let blocks = r.blocks;
-    let samples = r.samples;
-    let squares = r.squares;
-    let more_blocks = s.blocks;
-    let more_samples = s.samples;
-    let more_squares = s.squares;
-    let blocks = figures_added(blocks, more_blocks);
-    let samples = figures_added(samples, more_samples);
-    let squares = figures_added(squares, more_squares);
-    Report {
-        bits: r.bits,
-        frame,
-        pairs: r.pairs + s.pairs,
-        blocks,
-        samples,
-        squares,
-    }
 }
 
 impl Report {
@@ -413,52 +151,211 @@ impl Report {
         cols: &[u32],
         sides: &[u32],
         modes: &[u32],
-    ) -> Counted
-        ensures { result ≡ count_pair self a.now b.now (plan_of rows.now cols.entry.now sides.now modes.now) }
+    ) -> Result<Report, Rejected>
+        ensures { counted_of result ≡ count_pair self a.now b.now (plan_of rows.now cols.now sides.now modes.now) }
     {
-        let found = plan::check_plan_numbers(self.frame, rows, cols, sides, modes);
-        let early = early_no(self, plan::is_whole(rows, cols, sides, modes), a, b);
-        let v = settled(self, early, found);
-        if v.no != 0 {
-            return Counted {
-                no: v.no,
-                block: v.block,
-                next: self,
-            };
-        }
-        Counted {
-            no: 0,
-            block: 0,
-            next: count_blocks(self, a, b, rows, cols, sides, modes),
-        }
+        let plan = Numbers {
+            rows,
+            cols,
+            sides,
+            modes,
+        };
+        self.count_pair(a, b, plan)
     }
 
     // The same under a plan of records.
-    pub fn count(self, a: &[u16], b: &[u16], plan: &[Block]) -> Counted
-        ensures { result ≡ count_pair self a.now b.now (listed plan.now) }
+    pub fn count(self, a: &[u16], b: &[u16], plan: &[Block]) -> Result<Report, Rejected>
+        ensures { counted_of result ≡ count_pair self a.now b.now (listed plan.now) }
     {
-        let found = plan::check_plan(self.frame, plan);
-        let start = start_count(self, a, b, plan.len(), found);
-        let mut r = self;
-        let mut i: usize = 0;
-        while i < start.upto {
-            r = with_block(r, a, b, plan[i]);
-            i += 1;
-        }
-        end_count(start.found, r)
+        self.count_pair(a, b, plan)
     }
 
     // Adds another report of the same depth, picture and CTU: what was counted apart is counted together.
-    pub fn join(self, other: Report) -> Joined
-        ensures { result ≡ join_reports self other }
+    #[tactic(auto, unfolding(crate::specs::Errors::join_reports), using(domain::specs::Refused::never_0))]
+    pub fn join(self, other: Report) -> Result<Report, Rejected>
+        ensures { counted_of result ≡ whole_of (join_reports self other) }
     {
-        let no = join_no(self, other);
-        if no != 0 {
-            return Joined { no, next: self };
+        match self.check_join(other) {
+            Err(why) => Err(self.rejected(Fault::from(why))),
+            Ok(()) => Ok(self.added(other)),
         }
-        Joined {
-            no: 0,
-            next: reports_added(self, other),
+    }
+
+    // What follows is built into the doors: each call that is left takes a copy of the report, 864 bytes of the stack.
+
+    // What a refused call hands back: the report as it was given.
+    #[inline(always)]
+    fn rejected(self, fault: Fault) -> Rejected
+        ensures { result ≡ record { fault = fault; report = self } }
+    {
+        Rejected {
+            fault,
+            report: self,
+        }
+    }
+
+    // How many samples a plane has.
+    #[inline(always)]
+    fn area(self) -> usize
+        ensures { result ≡ plane_area self }
+    {
+        (self.frame.height as usize) * (self.frame.width as usize)
+    }
+
+    // Number 15: whether no mode has more than the pairs so far can give.
+    #[tactic(auto, using(fmt::specs::depth::Laws::largest_of_is), unfolding(crate::specs::Errors::keeps_limits))]
+    #[inline(always)]
+    fn keeps_limits(self) -> bool
+        requires { Limitable self }
+        ensures { result ≡ keeps_limits self }
+    {
+        let most = (self.pairs as u64) * (self.area() as u64);
+        let top = depth::largest_of(self.bits) as u64;
+        at_most(most / 16, self.blocks)
+            & at_most(most, self.samples)
+            & at_most(most * (top * top), self.squares)
+    }
+
+    // Numbers 1, 4, 5, 7: `fit` says whether what is lent is as long as it must be, `ok` whether all samples are of the depth.
+    #[tactic(auto, unfolding(crate::specs::Errors::pair_no))]
+    #[inline(always)]
+    fn check_settings(self, fit: bool, ok: bool) -> Result<(), Refusal>
+        ensures { no_of result ≡ pair_no self fit ok }
+    {
+        if !domain::depth_ok(self.bits) {
+            return Err(Refusal::Depth);
+        }
+        if !domain::picture_ok(self.frame.width, self.frame.height, self.frame.ctu) {
+            return Err(Refusal::Picture);
+        }
+        if !fit {
+            return Err(Refusal::Buffer);
+        }
+        if ok { Ok(()) } else { Err(Refusal::Sample) }
+    }
+
+    // The checks before the plan's. `whole` says whether the plan is of whole records.
+    #[inline(always)]
+    fn check_lent<S: Samples>(self, whole: bool, a: S, b: S) -> Result<(), Refusal>
+        ensures { no_of result ≡ pair_no self (whole && (S.exactly a (plane_area self) && S.exactly b (plane_area self)))
+            (at_most (top_of self) (S.list a) && at_most (top_of self) (S.list b)) }
+    {
+        let size = self.area();
+        let largest = depth::largest_of(self.bits);
+        let ok = lent::samples_ok(a, largest) & lent::samples_ok(b, largest);
+        self.check_settings(whole & (a.exactly(size) & b.exactly(size)), ok)
+    }
+
+    // Number 15: whether there is room for a pair more. The count comes first, so that no limit is too large.
+    #[tactic(auto, unfolding(crate::specs::Errors::room_for_pair))]
+    #[inline(always)]
+    fn check_room(self) -> Result<(), Refusal>
+        requires { Depth self.bits × Good (picture_of self.frame) }
+        ensures { no_of result ≡ cond (room_for_pair self) 0 15 }
+    {
+        if self.pairs >= 65536 {
+            return Err(Refusal::Limit);
+        }
+        if self.keeps_limits() {
+            Ok(())
+        } else {
+            Err(Refusal::Limit)
+        }
+    }
+
+    // The checks on a pair: those before the plan's, then the plan's, then 15.
+    #[inline(always)]
+    fn check_pair<S: Samples, P: Blocks>(self, a: S, b: S, plan: P) -> Result<(), Fault>
+        ensures { verdict_of result ≡ pair_verdict self (S.exactly a (plane_area self) && S.exactly b (plane_area self))
+            (S.list a) (S.list b) (P.plan plan) }
+    {
+        self.check_lent(plan.whole(), a, b)?;
+        plan::check(self.frame, plan)?;
+        Ok(self.check_room()?)
+    }
+
+    // Counts a pair of planes under a plan, in whatever form they are lent: unless it is refused, its blocks, each under its mode.
+    #[inline(always)]
+    pub(crate) fn count_pair<S: Samples, P: Blocks>(
+        self,
+        a: S,
+        b: S,
+        plan: P,
+    ) -> Result<Report, Rejected>
+        ensures { counted_of result ≡ counted_by self (pair_verdict self (S.exactly a (plane_area self) && S.exactly b (plane_area self))
+            (S.list a) (S.list b) (P.plan plan)) (pair_tally self.frame (S.list a) (S.list b) (P.plan plan)) }
+    {
+        match self.check_pair(a, b, plan) {
+            Err(fault) => Err(self.rejected(fault)),
+            Ok(()) => {
+                let mut next = Report {
+                    pairs: self.pairs + 1,
+                    ..self
+                };
+                for k in 0..plan.count() {
+                    let t = plan.block(k);
+                    let squares = block_squares(a, b, self.frame.width, t);
+                    next.add_block(t, squares);
+                }
+                Ok(next)
+            }
+        }
+    }
+
+    // A block more, under its mode: itself, its samples, its squares.
+    #[inline(always)]
+    fn add_block(&mut self, t: Block, squares: u64)
+        requires { RoomFor self.old.blocks self.old.samples self.old.squares t squares }
+        ensures { self.new ≡ with_block self.old t squares }
+    {
+        let n = t.side as u64;
+        let m = t.mode as usize;
+        self.blocks[m] += 1;
+        self.samples[m] += n * n;
+        self.squares[m] += squares;
+    }
+
+    // Whether two reports are of one depth, picture and CTU.
+    fn same_settings(self, other: Report) -> bool
+        ensures { result ≡ same_settings self other }
+    {
+        (other.bits == self.bits) & (other.frame == self.frame)
+    }
+
+    // Numbers 1, 4, 15 of the sum of two reports. The count comes first here too.
+    #[tactic(auto, unfolding(crate::specs::Errors::join_no))]
+    fn check_join(self, other: Report) -> Result<(), Refusal>
+        ensures { no_of result ≡ join_no self other }
+    {
+        if !domain::depth_ok(self.bits) {
+            return Err(Refusal::Depth);
+        }
+        let good = domain::picture_ok(self.frame.width, self.frame.height, self.frame.ctu);
+        if !(good & self.same_settings(other)) {
+            return Err(Refusal::Picture);
+        }
+        if (self.pairs as u64) + (other.pairs as u64) > 65536 {
+            return Err(Refusal::Limit);
+        }
+        if self.keeps_limits() & other.keeps_limits() {
+            Ok(())
+        } else {
+            Err(Refusal::Limit)
+        }
+    }
+
+    // The sum of two reports that is not refused.
+    #[tactic(auto, using(crate::specs::Added::join_fits, crate::specs::Added::joinable))]
+    fn added(self, other: Report) -> Report
+        requires { join_no self other ≡ 0 }
+        ensures { result ≡ tallied self (tally_of other) }
+    {
+        Report {
+            pairs: self.pairs + other.pairs,
+            blocks: figures_added(self.blocks, other.blocks),
+            samples: figures_added(self.samples, other.samples),
+            squares: figures_added(self.squares, other.squares),
+            ..self
         }
     }
 }

@@ -9,52 +9,40 @@ ghost use Rattle.errors.specs.RecordBytes.{join_entry};
 use crate::{Report, on_bytes};
 use plan::tiling::Frame;
 
-// A byte as a wider number, and that it is one.
-fn byte_at(b: &[u8], i: usize) -> u64
-    requires { i < length b.now }
-    ensures { (result ≡ get_or b.now i 0) × (result < 256) }
-{
-    b[i] as u64
-}
-
 // The number of w bytes from a place on.
 fn number_at(b: &[u8], at: usize, w: usize) -> u64
     requires { (at + w ≤ length b.now) × (w ≤ 8) }
     ensures { (result ≡ le_at w b.now at) × (result < 256 ^ w) }
 {
     let mut v = 0;
-    let mut i = w;
-    while i > 0 {
-        i -= 1;
-        v = byte_at(b, at + i) + 256 * v;
+    for i in (0..w).rev() {
+        v = b[at + i] as u64 + 256 * v;
     }
     v
 }
 
 // Stores a number as w bytes from a place on.
+#[tactic(auto, using(laws::specs::FillLaws::run_none, laws::specs::FillLaws::run_more, crate::specs::RecordLaws::rest_more))]
 fn put_number(b: &mut [u8], at: usize, w: usize, v: u64)
     requires { (at + w ≤ length b.old) × (w ≤ 8) }
     ensures { b.new ≡ run (λ (j : ℕ). v / 256 ^ j % 256) at w b.old }
 {
     let mut rest = v;
-    let mut j = 0;
-    while j < w {
+    for j in 0..w {
         b[at + j] = (rest % 256) as u8;
         rest /= 256;
-        j += 1;
     }
 }
 
 // The figures of 35 modes that begin at a byte.
+#[tactic(auto, using(laws::specs::FillLaws::fill_none, laws::specs::FillLaws::fill_more))]
 fn figures_at(b: &[u8], at: usize) -> [u64; 35]
     requires { at + 280 ≤ length b.now }
     ensures { result ≡ figures_at b.now at }
 {
     let mut out = [0u64; 35];
-    let mut m = 0;
-    while m < 35 {
+    for m in 0..35 {
         out[m] = number_at(b, at + m * 8, 8);
-        m += 1;
     }
     out
 }
@@ -64,10 +52,8 @@ fn put_figures(b: &mut [u8], at: usize, figures: [u64; 35])
     requires { at + 280 ≤ length b.old }
     ensures { b.new ≡ figures_into at figures b.old }
 {
-    let mut m = 0;
-    while m < 35 {
-        put_number(&mut *b, at + m * 8, 8, figures[m]);
-        m += 1;
+    for (m, figure) in figures.iter().enumerate() {
+        put_number(&mut *b, at + m * 8, 8, *figure);
     }
 }
 
@@ -81,16 +67,13 @@ fn report_at(b: &[u8]) -> Report
         height: number_at(b, 8, 4) as u32,
         ctu: number_at(b, 12, 4) as u32,
     };
-    let blocks = figures_at(b, 24);
-    let samples = figures_at(b, 304);
-    let squares = figures_at(b, 584);
     Report {
         bits: number_at(b, 0, 4) as u32,
         frame,
         pairs: number_at(b, 16, 4) as u32,
-        blocks,
-        samples,
-        squares,
+        blocks: figures_at(b, 24),
+        samples: figures_at(b, 304),
+        squares: figures_at(b, 584),
     }
 }
 
@@ -99,16 +82,14 @@ fn put_report(b: &mut [u8], r: Report)
     requires { 864 ≤ length b.old }
     ensures { b.new ≡ report_into r b.old }
 {
-    let blocks = r.blocks;
-    let samples = r.samples;
-    let squares = r.squares;
     put_number(&mut *b, 16, 4, r.pairs as u64);
-    put_figures(&mut *b, 24, blocks);
-    put_figures(&mut *b, 304, samples);
-    put_figures(&mut *b, 584, squares);
+    put_figures(&mut *b, 24, r.blocks);
+    put_figures(&mut *b, 304, r.samples);
+    put_figures(&mut *b, 584, r.squares);
 }
 
 // Counts a pair of planes of bytes into a record of bytes.
+#[tactic(auto, unfolding(crate::specs::RecordBytes::count_entry))]
 pub fn count_into(a: &[u8], b: &[u8], plan: &[u8], report: &mut [u8]) -> u32
     ensures { entered result report.new ≡ count_entry a.now b.now plan.now
         report.old }
@@ -116,28 +97,32 @@ pub fn count_into(a: &[u8], b: &[u8], plan: &[u8], report: &mut [u8]) -> u32
     if report.len() < 864 {
         return 5;
     }
-    let v = on_bytes::count_bytes(report_at(&*report), a, b, plan);
-    put_number(&mut *report, 20, 4, v.block as u64);
-    if v.no != 0 {
-        return v.no;
+    match on_bytes::count_bytes(report_at(&*report), a, b, plan) {
+        Err(rejected) => {
+            put_number(&mut *report, 20, 4, rejected.fault.block as u64);
+            rejected.fault.why.number()
+        }
+        Ok(next) => {
+            put_number(&mut *report, 20, 4, 0);
+            put_report(&mut *report, next);
+            0
+        }
     }
-    let next = v.next;
-    put_report(&mut *report, next);
-    0
 }
 
 // Adds a record of bytes to another.
+#[tactic(auto, unfolding(crate::specs::RecordBytes::join_entry))]
 pub fn join_into(other: &[u8], report: &mut [u8]) -> u32
     ensures { entered result report.new ≡ join_entry other.now report.old }
 {
     if !((report.len() >= 864) & (other.len() >= 864)) {
         return 5;
     }
-    let v = report_at(&*report).join(report_at(other));
-    if v.no != 0 {
-        return v.no;
+    match report_at(&*report).join(report_at(other)) {
+        Err(rejected) => rejected.fault.why.number(),
+        Ok(next) => {
+            put_report(&mut *report, next);
+            0
+        }
     }
-    let next = v.next;
-    put_report(&mut *report, next);
-    0
 }

@@ -3,6 +3,7 @@
 #![tactic(auto)]
 
 ghost use Rattle.std.specs.Prelude.{◌≡◌};
+ghost use Rattle.smooth.specs.Smoothing.{filter_references};
 ghost use Rattle.figures.specs.figure_table.Figures.{counting, opening, planar_block, dc_block, angular_block, order_at, smooths_at};
 ghost use Rattle.figures.specs.figure_table.Figures.{bent, entry31, ordinary31, strong_of, restored_to, smoothed_two};
 
@@ -16,7 +17,7 @@ fn planar_block(above: [u16; 65], left: [u16; 65]) -> [u16; 16]
     ensures { result ≡ planar_block above left }
 {
     let mut pred = [9u16; 16];
-    planar_dc::predict_planar_into(&above, &left, 4, &mut pred);
+    let _ = planar_dc::predict_planar_into(&above, &left, 4, &mut pred);
     pred
 }
 
@@ -24,7 +25,7 @@ fn dc_block(edge: bool, above: [u16; 65], left: [u16; 65]) -> [u16; 16]
     ensures { result ≡ dc_block edge above left }
 {
     let mut pred = [9u16; 16];
-    planar_dc::predict_dc_into(&above, &left, 4, edge, &mut pred);
+    let _ = planar_dc::predict_dc_into(&above, &left, 4, edge, &mut pred);
     pred
 }
 
@@ -35,7 +36,7 @@ fn angular_block(mode: u8, edge: bool, corner: u16, above: [u16; 65], left: [u16
     let mut refs = [0u16; 193];
     let mut indices = [0u32; 32];
     let mut fractions = [0u32; 32];
-    angular::predict_angular_slices(
+    let _ = angular::predict_angular_slices(
         corner,
         &above,
         &left,
@@ -72,18 +73,17 @@ fn opening_row(first: u16) -> [u16; 65]
 fn order_at(picture: Picture, row: u32, col: u32) -> u32
     ensures { result ≡ order_at picture row col }
 {
-    order::decode_order(LumaRow(row), LumaCol(col), picture).value
+    order::decode_order(LumaRow(row), LumaCol(col), picture).unwrap_or(0)
 }
 
 // Whether a mode is smoothed; 2 would be a refused call.
 fn smooths(n: usize, mode: u8) -> u16
     ensures { result ≡ smooths_at n mode }
 {
-    let answer = smooth::should_filter_refs(mode, n);
-    if answer.no != 0 {
-        return 2;
+    match smooth::should_filter_refs(mode, n) {
+        Ok(yes) => yes as u16,
+        Err(_) => 2,
     }
-    answer.yes as u16
 }
 
 // A row of 100 whose entry 63 is another; entry 31 of it smoothed, by either form and by the ordinary one.
@@ -95,22 +95,31 @@ fn bent_row(end: u16) -> [u16; 65]
     row
 }
 
+// The row above, by the ordinary form where the row on the left is the same.
+fn weak_row(corner: u16, row: &[u16], n: usize) -> [u16; 65]
+    ensures { result ≡ (filter_references corner row.now row.now n).above }
+{
+    match smooth::filter_references(corner, row, row, n) {
+        Ok(rows) => rows.above,
+        Err(_) => [0u16; 65],
+    }
+}
+
 fn entry_31(end: u16) -> u16
     ensures { result ≡ entry31 end }
 {
     let row = bent_row(end);
-    let answer = smooth::filter_luma_refs(100, &row, &row, 32, 8);
-    let above = answer.rows.above;
-    above[31]
+    match smooth::filter_luma_refs(100, &row, &row, 32, 8) {
+        Ok(rows) => rows.above[31],
+        Err(_) => 0,
+    }
 }
 
 fn ordinary_31(end: u16) -> u16
     ensures { result ≡ ordinary31 end }
 {
     let row = bent_row(end);
-    let answer = smooth::filter_references(100, &row, &row, 32);
-    let above = answer.above;
-    above[31]
+    weak_row(100, &row, 32)[31]
 }
 
 fn strong(end: u16) -> u16
@@ -125,8 +134,7 @@ fn smoothed_two(n: usize) -> [u16; 2]
 {
     let mut row = [0u16; 65];
     row[1] = 4;
-    let answer = smooth::filter_references(0, &row, &row, n);
-    let above = answer.above;
+    let above = weak_row(0, &row, n);
     [above[0], above[1]]
 }
 
@@ -136,7 +144,8 @@ fn restored(sample: u16, residual: i32) -> u16
     let pred = [sample; 16];
     let rest = [residual; 16];
     let mut out = [9u16; 16];
-    residual::reconstruct_into(&pred, &rest, 4, 8, &mut out);
+    // A refusal leaves the block as it was.
+    let _ = residual::reconstruct_into(&pred, &rest, 4, 8, &mut out);
     out[0]
 }
 

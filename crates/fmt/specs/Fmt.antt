@@ -1,10 +1,8 @@
 -- Document 01, module 1: format. Assumes nothing.
-use Rattle.std.specs.Prelude.{ℕ, ◌<◌, ◌≤◌, ◌≡◌, refl, cond, ◌⊎◌, eqb}
+use Rattle.std.specs.Prelude.{ℕ, ◌<◌, ◌≤◌, ◌≡◌, refl, cond, ◌⊎◌, eqb, Option, Some, None}
 use Rattle.std.proofs.Common.{inl, inr, arith}
 use Rattle.fmt.specs.declared.ChromaFormat.{ChromaFormat}
 use Rattle.fmt.specs.declared.ChromaFormat.TheVariants.{Monochrome, Yuv420, Yuv422, Yuv444}
-use Rattle.fmt.specs.declared.FormatFrom.{FormatFrom}
-use Rattle.fmt.specs.declared.FormatFrom.TheVariants.{Format, Unknown}
 
 -- chroma_format_idc: 0 monochrome, 1 4:2:0, 2 4:2:2, 3 4:4:4
 abbrev pub idc_of : ChromaFormat → ℕ
@@ -13,10 +11,10 @@ idc_of Yuv420 = 1
 idc_of Yuv422 = 2
 idc_of Yuv444 = 3
 
-abbrev pub format_from : ℕ → FormatFrom
+abbrev pub format_from : ℕ → Option ChromaFormat
 format_from idc =
-    cond (eqb idc 0) (Format Monochrome)
-    (cond (eqb idc 1) (Format Yuv420) (cond (eqb idc 2) (Format Yuv422) (cond (eqb idc 3) (Format Yuv444) Unknown)))
+    cond (eqb idc 0) (Some Monochrome)
+    (cond (eqb idc 1) (Some Yuv420) (cond (eqb idc 2) (Some Yuv422) (cond (eqb idc 3) (Some Yuv444) None)))
 
 -- subsampling 2,2 for 4:2:0, 2,1 for 4:2:2, else 1,1 (width, height)
 abbrev pub sub_width : ChromaFormat → ℕ

@@ -1,32 +1,27 @@
 // Bit depth: the rules of fmt.rs about it that the port takes, the door from a number of bits, and the figures of such a number.
-// Rests on nothing. Every figure of a depth stands here and nowhere else.
+// Rests on the kinds of refusal. Every figure of a depth stands here and nowhere else.
 ghost use Rattle.std.specs.Prelude.{◌≡◌};
 ghost use Rattle.fmt.specs.depth.Depth.{bits_of, max_val, neutral, depth_from, largest_of, neutral_of};
 
-#[derive(Clone, Copy)]
+use domain::refusal::Refusal;
+
+#[derive(Clone, Copy, Debug, PartialEq, Eq)]
 pub enum BitDepth {
     Eight,
     Ten,
     Twelve,
 }
 
-// What a number of bits names.
-#[derive(Clone, Copy)]
-pub enum DepthFrom {
-    Depth(BitDepth),
-    Refused,
-}
-
 impl BitDepth {
     // The door from a number of bits; the Rust's panic is number 1.
-    pub fn from_bits(bits: u32) -> DepthFrom
+    pub fn from_bits(bits: u32) -> Result<BitDepth, Refusal>
         ensures { result ≡ depth_from bits }
     {
         match bits {
-            8 => DepthFrom::Depth(BitDepth::Eight),
-            10 => DepthFrom::Depth(BitDepth::Ten),
-            12 => DepthFrom::Depth(BitDepth::Twelve),
-            _ => DepthFrom::Refused,
+            8 => Ok(BitDepth::Eight),
+            10 => Ok(BitDepth::Ten),
+            12 => Ok(BitDepth::Twelve),
+            _ => Err(Refusal::Depth),
         }
     }
 
@@ -68,8 +63,8 @@ pub fn largest_of(bits: u32) -> u16
     ensures { result ≡ largest_of bits }
 {
     match BitDepth::from_bits(bits) {
-        DepthFrom::Depth(d) => d.max_val(),
-        DepthFrom::Refused => 0,
+        Ok(d) => d.max_val(),
+        Err(_) => 0,
     }
 }
 
@@ -78,7 +73,7 @@ pub fn neutral_of(bits: u32) -> u16
     ensures { result ≡ neutral_of bits }
 {
     match BitDepth::from_bits(bits) {
-        DepthFrom::Depth(d) => d.neutral(),
-        DepthFrom::Refused => 0,
+        Ok(d) => d.neutral(),
+        Err(_) => 0,
     }
 }

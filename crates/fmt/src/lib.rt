@@ -8,7 +8,7 @@ ghost use Rattle.std.specs.Prelude.{◌≡◌, ◌*◌, ◌/◌, ◌≤◌};
 ghost use Rattle.fmt.specs.Fmt.{sub_width, sub_height, format_from, Subsampling};
 ghost use Rattle.fmt.specs.Places.{saturated, luma_row, luma_col, chroma_row, chroma_col};
 
-#[derive(Clone, Copy)]
+#[derive(Clone, Copy, Debug, PartialEq, Eq)]
 pub enum ChromaFormat {
     Monochrome,
     Yuv420,
@@ -16,24 +16,17 @@ pub enum ChromaFormat {
     Yuv444,
 }
 
-// What a chroma_format_idc names.
-#[derive(Clone, Copy)]
-pub enum FormatFrom {
-    Format(ChromaFormat),
-    Unknown,
-}
-
 impl ChromaFormat {
     // The door from a chroma_format_idc. It refuses nothing: only the chroma gather gives a number for an unknown format.
-    pub fn from_idc(idc: u32) -> FormatFrom
+    pub fn from_idc(idc: u32) -> Option<ChromaFormat>
         ensures { result ≡ format_from idc }
     {
         match idc {
-            0 => FormatFrom::Format(ChromaFormat::Monochrome),
-            1 => FormatFrom::Format(ChromaFormat::Yuv420),
-            2 => FormatFrom::Format(ChromaFormat::Yuv422),
-            3 => FormatFrom::Format(ChromaFormat::Yuv444),
-            _ => FormatFrom::Unknown,
+            0 => Some(ChromaFormat::Monochrome),
+            1 => Some(ChromaFormat::Yuv420),
+            2 => Some(ChromaFormat::Yuv422),
+            3 => Some(ChromaFormat::Yuv444),
+            _ => None,
         }
     }
 
@@ -65,16 +58,16 @@ impl ChromaFormat {
 // Rows and columns of luma samples and of chroma samples are kinds of their own: one passed for the other does not compile,
 // and the only way from one to the other is a format's subsampling, by the four functions below. The sides of a chroma plane
 // go by them too: they are the first row and the first column past it.
-#[derive(Clone, Copy)]
+#[derive(Clone, Copy, Debug, PartialEq, Eq)]
 pub struct LumaRow(pub u32);
 
-#[derive(Clone, Copy)]
+#[derive(Clone, Copy, Debug, PartialEq, Eq)]
 pub struct LumaCol(pub u32);
 
-#[derive(Clone, Copy)]
+#[derive(Clone, Copy, Debug, PartialEq, Eq)]
 pub struct ChromaRow(pub u32);
 
-#[derive(Clone, Copy)]
+#[derive(Clone, Copy, Debug, PartialEq, Eq)]
 pub struct ChromaCol(pub u32);
 
 // A number times the subsampling, or the largest u32, which is outside every picture.

@@ -5,6 +5,7 @@ ghost use Rattle.std.specs.Prelude.{◌≡◌, ◌≤◌, ◌<◌, IfOk, length,
 ghost use Rattle.std.specs.Io.{ReadsAtMost};
 ghost use Rattle.std.specs.Io.KnownBytes.{Consumes, IsAtEnd};
 
+use report::Printout;
 use std::io;
 use std::io::Read;
 
@@ -32,18 +33,13 @@ fn read_input<R: Read>(input: &mut R, buffer: &mut [u8]) -> usize
     ensures octets { 0 < result → Consumes (R.remaining input.old) (R.remaining input.new) (take result buffer.new) }
     ensures end { 0 < result → result < length buffer.new → IsAtEnd (R.remaining input.new) }
 {
-    match read_full(input, &mut *buffer) {
-        Ok(n) => n,
-        Err(_) => 0,
-    }
+    read_full(input, buffer).unwrap_or(0)
 }
 
 // One byte more than the limit is read: so an input that is too long is told from one that is not.
 fn main(rt: HostRuntime) -> io::Result<()> {
     let mut buffer = [0u8; 65537];
     let n = read_input(&mut rt.stdin(), &mut buffer);
-    let printout = report::report(&buffer[..n]);
-    let text = printout.text;
-    let length = printout.length;
+    let Printout { text, length } = report::report(&buffer[..n]);
     rt.write_all(&text[..length])
 }

@@ -2,31 +2,24 @@
 // list does with them: draws samples from a seed, looks for a line's entries in what was written, counts. Rests on nothing else.
 #![tactic(auto)]
 
-ghost use Rattle.std.specs.Prelude.{◌≡◌, ◌+◌, ◌*◌, ◌≤◌, ◌<◌, get_or};
+ghost use Rattle.std.specs.Prelude.{◌≡◌, ◌+◌, ◌*◌, ◌≤◌, get_or};
 ghost use Rattle.listing.specs.Hex.{hex_digit, digit_at, octet_at, half_at, word_at};
-ghost use Rattle.listing.specs.Drawn.{next_of, other_seed, drawn_sample, drawn, drawn_row, same_from, more, counted};
-
-use domain::helpers;
+ghost use Rattle.listing.specs.Drawn.{next_of, other_seed, drawn_sample, drawn, drawn_row, same_from, counted};
 
 fn digit(b: u8) -> u32
     ensures { (result ≡ hex_digit b) × (result ≤ 15) }
 {
-    if (b >= 48) & (b <= 57) {
-        return (b - 48) as u32;
+    match b {
+        b'0'..=b'9' => u32::from(b - b'0'),
+        b'a'..=b'f' => u32::from(b - b'a') + 10,
+        _ => 0,
     }
-    if (b >= 97) & (b <= 102) {
-        return (b - 87) as u32;
-    }
-    0
 }
 
 fn digit_at(line: &[u8], at: usize) -> u32
     ensures { (result ≡ digit_at line.now at) × (result ≤ 15) }
 {
-    if at < line.len() {
-        return digit(line[at]);
-    }
-    0
+    line.get(at).map_or(0, |b| digit(*b))
 }
 
 fn octet_at(line: &[u8], at: usize) -> u32
@@ -71,7 +64,7 @@ pub fn sample(x: u32, top: u32) -> u16
     if top == 1 {
         return ((x % 2) * 65535) as u16;
     }
-    (x % (helpers::min(top, 65535) + 1)) as u16
+    (x % (top.min(65535) + 1)) as u16
 }
 
 // Writes the samples of the numbers that follow a seed.
@@ -79,9 +72,9 @@ pub fn draw_into(seed: u32, top: u32, out: &mut [u16])
     ensures { out.new ≡ drawn seed top out.old }
 {
     let mut x = seed;
-    for i in 0..out.len() {
+    for slot in out {
         x = next(x);
-        out[i] = sample(x, top);
+        *slot = sample(x, top);
     }
 }
 
@@ -97,10 +90,7 @@ pub fn row(seed: u32, top: u32) -> [u16; 65]
 fn entry(written: &[u16], at: usize) -> u16
     ensures { result ≡ get_or written.now at 0 }
 {
-    if at < written.len() {
-        return written[at];
-    }
-    0
+    written.get(at).copied().unwrap_or(0)
 }
 
 // Whether the 32 entries from a place on are a line's words from a word on; what lies past an end counts as 0.
@@ -117,19 +107,10 @@ pub fn same_run(line: &[u8], first: u8, written: &[u16], place: u32) -> bool
 }
 
 // The calls of a list, and those of them that gave something else than the list has.
-#[derive(Clone, Copy)]
+#[derive(Clone, Copy, Debug, PartialEq, Eq)]
 pub struct Count {
     pub calls: u64,
     pub differ: u64,
-}
-
-fn one_more(k: u64) -> u64
-    ensures { result ≡ more k }
-{
-    if k == 18446744073709551615 {
-        return k;
-    }
-    k + 1
 }
 
 impl Count {
@@ -137,16 +118,13 @@ impl Count {
     pub fn with(self, same: bool) -> Count
         ensures { result ≡ counted self same }
     {
-        let calls = one_more(self.calls);
-        if same {
-            return Count {
-                calls,
-                differ: self.differ,
-            };
-        }
         Count {
-            calls,
-            differ: one_more(self.differ),
+            calls: self.calls.saturating_add(1),
+            differ: if same {
+                self.differ
+            } else {
+                self.differ.saturating_add(1)
+            },
         }
     }
 }

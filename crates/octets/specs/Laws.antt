@@ -32,6 +32,10 @@ unfolding bytes_of
 length_bytes [] = refl
 length_bytes (v ∷ l) = omega (arith, length_bytes l)
 
+-- twice as many bytes are so many samples
+pub bytes_whole : (b : List ℕ) (n : ℕ) → eqb (length b) (2 * n) ≡ true → length (samples_of b) ≡ n
+bytes_whole b n e = omega (arith, length_samples b, eqb-true (length b) (2 * n) e)
+
 -- as many bytes spell as many samples
 pub samples_alike : (a b : List ℕ) → length a ≡ length b → length (samples_of a) ≡ length (samples_of b)
 samples_alike a b e = length_samples a ∙ ap (λ (k : ℕ). k / 2) e ∙ sym (length_samples b)

@@ -1,21 +1,13 @@
 // Samples between bytes and lists, two bytes each, the lower first. They go in pairs, by way of numbers of 32 bits: of these the
 // compiler sees that four bytes make one, and each way becomes one copy. Where a list is too short nothing is written. Rests on
-// crate bytes.
+// the laws of fill.
 ghost use Rattle.std.specs.Prelude.{◌≡◌, ℕ, ◌+◌, ◌*◌, ◌%◌, ◌≤◌, ◌<◌, length, get_or, set};
 ghost use Rattle.laws.specs.Fill.{fill};
 ghost use Rattle.laws.specs.Bytes.{byte_of};
 ghost use Rattle.octets.specs.Bytes.{byte1, byte2, byte3, samples_of};
-ghost use Rattle.octets.specs.Laws.{AreBytes, Below};
+ghost use Rattle.octets.specs.Laws.{Below};
 ghost use Rattle.octets.specs.pairs.Words.{pair_of, Paired, half_of};
 ghost use Rattle.octets.specs.pairs.Into.{read_into, store_into};
-
-// A byte as a wider number, and that it is one.
-fn byte_at(row: &[u8], k: usize) -> u32
-    requires { k < length row.now }
-    ensures { (result ≡ get_or row.now k 0) × ((result < 256) × AreBytes row.now) }
-{
-    row[k] as u32
-}
 
 // Four bytes are two samples, the first in the lower half.
 fn pair_in(row: &[u8], i: usize) -> u32
@@ -23,8 +15,7 @@ fn pair_in(row: &[u8], i: usize) -> u32
     ensures { (result ≡ pair_of (samples_of row.now) i) × Below (samples_of row.now) }
 {
     let k = 4 * i;
-    let first = byte_at(row, k) + 256 * byte_at(row, k + 1);
-    first + 65536 * byte_at(row, k + 2) + 16777216 * byte_at(row, k + 3)
+    u32::from_le_bytes([row[k], row[k + 1], row[k + 2], row[k + 3]])
 }
 
 fn pairs_in(row: &[u8], count: usize, words: &mut [u32])
@@ -49,14 +40,15 @@ fn apart(words: &[u32], count: usize, out: &mut [u16])
 
 fn read_all(row: &[u8], count: usize, out: &mut [u16])
     requires { (count ≤ 32) × ((4 * count ≤ length row.now) × (2 * count ≤ length out.old)) }
-    ensures { out.new ≡ fill (λ (i : ℕ). get_or (samples_of row.now) i 0) (2 * count) out.entry.now }
+    ensures { out.new ≡ fill (λ (i : ℕ). get_or (samples_of row.now) i 0) (2 * count) out.old }
 {
     let mut words = [0u32; 32];
     pairs_in(row, count, &mut words);
-    apart(&words, count, &mut *out);
+    apart(&words, count, out);
 }
 
 // The first 2 · count samples of a row, at most 64.
+#[tactic(auto, unfolding(crate::specs::pairs::Into::read_into))]
 pub fn read(row: &[u8], count: usize, out: &mut [u16])
     ensures { out.new ≡ read_into count row.now out.old }
 {
@@ -64,22 +56,15 @@ pub fn read(row: &[u8], count: usize, out: &mut [u16])
         return;
     }
     if (row.len() >= 4 * count) & (out.len() >= 2 * count) {
-        read_all(row, count, &mut *out);
+        read_all(row, count, out);
     }
-}
-
-fn sample_at(samples: &[u16], k: usize) -> u32
-    requires { k < length samples.now }
-    ensures { (result ≡ get_or samples.now k 0) × ((result < 65536) × Below samples.now) }
-{
-    samples[k] as u32
 }
 
 fn pair_of(samples: &[u16], i: usize) -> u32
     requires { 2 * i + 1 < length samples.now }
     ensures { (result ≡ pair_of samples.now i) × Below samples.now }
 {
-    sample_at(samples, 2 * i) + 65536 * sample_at(samples, 2 * i + 1)
+    u32::from(samples[2 * i]) + 65536 * u32::from(samples[2 * i + 1])
 }
 
 fn pairs_of(samples: &[u16], count: usize, words: &mut [u32])
@@ -97,10 +82,11 @@ fn put_word(out: &mut [u8], i: usize, v: u32)
         (4 * i + 2) (byte2 v)) (4 * i + 3) (byte3 v) }
 {
     let k = 4 * i;
-    out[k] = crate::byte_0(v);
-    out[k + 1] = crate::byte_1(v);
-    out[k + 2] = crate::byte_2(v);
-    out[k + 3] = crate::byte_3(v);
+    let [first, second, third, fourth] = v.to_le_bytes();
+    out[k] = first;
+    out[k + 1] = second;
+    out[k + 2] = third;
+    out[k + 3] = fourth;
 }
 
 fn spread(words: &[u32], count: usize, out: &mut [u8])
@@ -108,7 +94,7 @@ fn spread(words: &[u32], count: usize, out: &mut [u8])
     ensures { out.new ≡ fill (byte_of 4 (λ (i : ℕ). get_or words.now i 0)) (4 * count) out.old }
 {
     for i in 0..count {
-        put_word(&mut *out, i, words[i]);
+        put_word(out, i, words[i]);
     }
 }
 
@@ -118,10 +104,11 @@ fn store_all(samples: &[u16], count: usize, out: &mut [u8])
 {
     let mut words = [0u32; 512];
     pairs_of(samples, count, &mut words);
-    spread(&words, count, &mut *out);
+    spread(&words, count, out);
 }
 
 // The first 2 · count samples of a list, at most 1024.
+#[tactic(auto, unfolding(crate::specs::pairs::Into::store_into))]
 pub fn store(samples: &[u16], count: usize, out: &mut [u8])
     ensures { out.new ≡ store_into count samples.now out.old }
 {
@@ -129,6 +116,6 @@ pub fn store(samples: &[u16], count: usize, out: &mut [u8])
         return;
     }
     if (samples.len() >= 2 * count) & (out.len() >= 4 * count) {
-        store_all(samples, count, &mut *out);
+        store_all(samples, count, out);
     }
 }

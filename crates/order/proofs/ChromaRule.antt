@@ -6,7 +6,7 @@ use Rattle.h265.specs.Order.{min_tb_addr_zs}
 use Rattle.domain.specs.Facts.{size_small}
 use Rattle.fmt.specs.Fmt.{sub_width, sub_height}
 use Rattle.order.specs.declared.ChromaBlock.{ChromaBlock}
-use Rattle.order.specs.declared.Reach.{Reach}
+use Rattle.order.specs.Answers.{Reached}
 use Rattle.order.specs.declared.Shifts.{Shifts}
 use Rattle.order.specs.declared.Site.{Site}
 use Rattle.order.specs.Order.{number_at}
@@ -41,7 +41,7 @@ unfolding chroma_has
 chroma_tells b = record { inside = λ r c. refl; top = λ r c. refl; side = λ r c. refl }
 
 -- the code's rule with its two limits is the chroma rule
-pub chroma_edges : (b : ChromaBlock) → ChromaFine b → (s : Shifts) (e : Site) (cur : ℕ) (r : Reach) → s ≡ shifts_of b.picture → e
+pub chroma_edges : (b : ChromaBlock) → ChromaFine b → (s : Shifts) (e : Site) (cur : ℕ) (r : Reached) → s ≡ shifts_of b.picture → e
     ≡ chroma_site b
     → cur ≡ number_at b.picture b.cur_luma_row.0 b.cur_luma_col.0 → r ≡ edges_of s e b.n (cur + 1) cur
     → r ≡ reach_by 0 (chroma_has b) b.row.0 b.col.0 b.n

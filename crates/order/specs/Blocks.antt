@@ -15,7 +15,7 @@ use Rattle.fmt.specs.Places.{saturated, luma_row, luma_col}
 use Rattle.order.specs.declared.Picture.{Picture}
 use Rattle.order.specs.declared.LumaBlock.{LumaBlock}
 use Rattle.order.specs.declared.ChromaBlock.{ChromaBlock}
-use Rattle.order.specs.declared.Reach.{Reach}
+use Rattle.order.specs.Answers.{Reached}
 use Rattle.order.specs.declared.Shifts.{Shifts}
 use Rattle.order.specs.declared.Site.{Site}
 use Rattle.order.specs.Order.{picture_ok, place_ok, number_at, before}
@@ -274,7 +274,7 @@ unfolding before
 luma_tells b = record { inside = λ r c. refl; top = λ r c. refl; side = λ r c. refl }
 
 -- the code's rule over the luma plane is the luma rule
-pub luma_edges : (b : LumaBlock) → LumaFine b → (s : Shifts) (e : Site) (cur : ℕ) (r : Reach) → s ≡ shifts_of b.picture → e ≡ luma_site b
+pub luma_edges : (b : LumaBlock) → LumaFine b → (s : Shifts) (e : Site) (cur : ℕ) (r : Reached) → s ≡ shifts_of b.picture → e ≡ luma_site b
     → cur ≡ number_at b.picture b.row.0 b.col.0 → r ≡ edges_of s e b.n cur cur → r
     ≡ reach_by 0 (luma_has b) b.row.0 b.col.0 b.n
 unfolding number_at min_tb_addr_zs

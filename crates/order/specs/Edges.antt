@@ -8,7 +8,7 @@ use Rattle.domain.specs.Facts.{Size, Unit, at_size}
 use Rattle.fmt.specs.Fmt.{Subsampling}
 use Rattle.order.specs.declared.Shifts.{Shifts}
 use Rattle.order.specs.declared.Site.{Site}
-use Rattle.order.specs.declared.Reach.{Reach}
+use Rattle.order.specs.Answers.{Reached}
 use Rattle.order.specs.Good.{Small}
 use Rattle.order.specs.Reach.{leading}
 
@@ -142,7 +142,7 @@ abbrev pub corner_there : Shifts → Site → ℕ → Bool
 corner_there s e limit = ltb 0 e.row.0 && ltb 0 e.col.0 && ltb (number_by s e.above.0 e.left.0) limit
 
 -- the reach by it, with a limit for the corner and the row above, and one for the left column
-abbrev pub edges_of : Shifts → Site → ℕ → ℕ → ℕ → Reach
+abbrev pub edges_of : Shifts → Site → ℕ → ℕ → ℕ → Reached
 edges_of s e n high low =
     record {
       no = 0;

@@ -1,4 +1,5 @@
 -- Order: document 01, module 2, with the doors. The rest is what the proofs go by.
+pub mod Answers
 pub mod Order
 pub mod CellWalk
 pub mod Good

@@ -9,8 +9,7 @@ use Rattle.fmt.specs.declared.LumaRow.{LumaRow}
 use Rattle.fmt.specs.declared.LumaCol.{LumaCol}
 use Rattle.order.specs.declared.Picture.{Picture}
 use Rattle.order.specs.declared.LumaNeighbour.{LumaNeighbour}
-use Rattle.order.specs.declared.Numbered.{Numbered}
-use Rattle.order.specs.declared.Flagged.{Flagged}
+use Rattle.order.specs.Answers.{Numbered, Flagged}
 
 -- the standard's luma grid of a picture: its CTU and its least unit as powers of two
 abbrev pub grid_of : Picture → Grid

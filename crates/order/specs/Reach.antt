@@ -9,7 +9,7 @@ use Rattle.fmt.specs.Fmt.{sub_width, sub_height}
 use Rattle.order.specs.declared.Picture.{Picture}
 use Rattle.order.specs.declared.LumaBlock.{LumaBlock}
 use Rattle.order.specs.declared.ChromaBlock.{ChromaBlock}
-use Rattle.order.specs.declared.Reach.{Reach}
+use Rattle.order.specs.Answers.{Reached}
 use Rattle.order.specs.Order.{picture_ok, place_ok, number_at, available_to}
 
 -- A rule tells of a sample's row and column whether it is there. The neighbours of the block whose first sample is (row, col):
@@ -31,7 +31,7 @@ abbrev pub leading : (ℕ → Bool) → ℕ → ℕ
 leading f m = leading_from f 0 m
 
 -- how far a block's neighbours reach along each edge, entries 0 to 2n
-abbrev pub reach_by : ℕ → (ℤ → ℤ → Bool) → ℕ → ℕ → ℕ → Reach
+abbrev pub reach_by : ℕ → (ℤ → ℤ → Bool) → ℕ → ℕ → ℕ → Reached
 reach_by k has row col n =
     record {
       no = k;
@@ -40,7 +40,7 @@ reach_by k has row col n =
       left = leading (left_has has row col) (2 * n + 1);
     }
 
-abbrev pub no_reach : ℕ → Reach
+abbrev pub no_reach : ℕ → Reached
 no_reach k = record { no = k; corner = false; above = 0; left = 0 }
 
 -- number 6 of a block in its plane: at a multiple of n, wholly in the plane
@@ -60,7 +60,7 @@ luma_reach_no b = first_fail ((2 unless size_ok b.n) ∷ (4 unless picture_ok b.
 abbrev pub luma_has : LumaBlock → ℤ → ℤ → Bool
 luma_has b r c = available_to b.picture b.row b.col r c
 
-unfoldable pub luma_reach : LumaBlock → Reach
+unfoldable pub luma_reach : LumaBlock → Reached
 luma_reach b = let no = luma_reach_no b in served no (reach_by 0 (luma_has b) b.row.0 b.col.0 b.n) (no_reach no)
 
 -- Chroma: sides of the plane.
@@ -101,5 +101,5 @@ chroma_has b (pos r) (pos c) =
 chroma_has b (pos r) (negsuc c) = false
 chroma_has b (negsuc r) c = false
 
-unfoldable pub chroma_reach : ChromaBlock → Reach
+unfoldable pub chroma_reach : ChromaBlock → Reached
 chroma_reach b = let no = chroma_reach_no b in served no (reach_by 0 (chroma_has b) b.row.0 b.col.0 b.n) (no_reach no)

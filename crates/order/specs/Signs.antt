@@ -8,7 +8,7 @@ use Rattle.order.specs.declared.Picture.{Picture}
 use Rattle.fmt.specs.declared.LumaRow.{LumaRow}
 use Rattle.fmt.specs.declared.LumaCol.{LumaCol}
 use Rattle.order.specs.declared.LumaNeighbour.{LumaNeighbour}
-use Rattle.order.specs.declared.Flagged.{Flagged}
+use Rattle.order.specs.Answers.{Flagged}
 use Rattle.order.specs.Order.{before, number_at, order_no, is_available}
 
 pub low_row : (p : Picture) (limit : ℕ) (z y col : ℤ) → y ≡ z → lt_z y (pos 0) ≡ true → false ≡ before p limit z col

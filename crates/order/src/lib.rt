@@ -8,6 +8,8 @@ ghost use Rattle.std.specs.Prelude.{◌≡◌, ◌+◌, ◌-◌, ◌*◌, ◌/�
 ghost use Rattle.h265.specs.Notation.{log2};
 ghost use Rattle.h265.specs.Order.{z_scan};
 ghost use Rattle.order.specs.Order.{place_ok, order_no, decode_order, before, is_available};
+ghost use Rattle.order.specs.Answers.{numbered, flagged, there, reached};
+ghost use Rattle.domain.specs.Refusal.{no_of};
 ghost use Rattle.order.specs.Good.{Good, Power, Small, shifts_of};
 ghost use Rattle.order.specs.Reach.{leading, in_plane, reach_by, luma_has, luma_reach_no, luma_reach};
 ghost use Rattle.order.specs.Reach.{has_chroma, chroma_block_ok, chroma_has, chroma_reach_no, chroma_reach};
@@ -16,7 +18,7 @@ ghost use Rattle.order.specs.Blocks.{luma_site, chroma_site};
 ghost use Rattle.fmt.specs.Fmt.{Subsampling};
 ghost use Rattle.domain.specs.Facts.{Size};
 
-use domain::helpers;
+use domain::refusal::Refusal;
 use fmt::{ChromaCol, ChromaFormat, ChromaRow, LumaCol, LumaRow};
 
 // A picture as the order sees it: its luma sides, its CTU and its least unit.
@@ -33,20 +35,6 @@ pub struct Picture {
 pub struct LumaNeighbour {
     pub row: i64,
     pub col: i64,
-}
-
-// A call's number, 0 for done, and its value, 0 where it is refused.
-#[derive(Clone, Copy)]
-pub struct Numbered {
-    pub no: u32,
-    pub value: u32,
-}
-
-// A call's number, and its flag, false where it is refused.
-#[derive(Clone, Copy)]
-pub struct Flagged {
-    pub no: u32,
-    pub yes: bool,
 }
 
 // The picture's grid as the code goes by it: shifts from samples to cells and from cells to CTUs, the cells along a CTU,
@@ -113,32 +101,28 @@ fn number(s: Shifts, row: usize, col: usize) -> usize
     cell_number(row >> unit, col >> unit, s.levels, s.cells, s.ctus)
 }
 
-// The number that refuses a place, or 0.
-fn order_no(p: Picture, row: LumaRow, col: LumaCol) -> u32
-    ensures { result ≡ order_no p row col }
+// Whether a place is in a picture that has an order, or why it is refused.
+#[tactic(auto, unfolding(crate::specs::Order::order_no))]
+fn check_place(p: Picture, row: LumaRow, col: LumaCol) -> Result<(), Refusal>
+    ensures { no_of result ≡ order_no p row col }
 {
     if !domain::picture_ok(p.width, p.height, p.ctu) {
-        return 4;
+        return Err(Refusal::Picture);
     }
     if !(domain::unit_ok(p.unit) & (row.0 < p.height) & (col.0 < p.width)) {
-        return 6;
+        return Err(Refusal::Place);
     }
-    0
+    Ok(())
 }
 
-pub fn decode_order(r: LumaRow, c: LumaCol, picture: Picture) -> Numbered
-    ensures { result ≡ decode_order picture r c }
+// The number, in decode order, of the cell that holds a luma sample.
+#[tactic(auto, unfolding(crate::specs::Order::decode_order), using(domain::specs::Refused::never_0))]
+pub fn decode_order(r: LumaRow, c: LumaCol, picture: Picture) -> Result<u32, Refusal>
+    ensures { numbered result ≡ decode_order picture r c }
 {
-    let no = order_no(picture, r, c);
-    if no != 0 {
-        return Numbered { no, value: 0 };
-    }
+    check_place(picture, r, c)?;
     let s = shifts_of(picture);
-    let value = number(s, r.0 as usize, c.0 as usize);
-    Numbered {
-        no: 0,
-        value: value as u32,
-    }
+    Ok(number(s, r.0 as usize, c.0 as usize) as u32)
 }
 
 // Whether a place is in the picture and has a number below limit.
@@ -166,27 +150,23 @@ fn comes_before(p: Picture, limit: usize, row: i64, col: i64) -> bool
     inside_before(p, limit, row as usize, col as usize)
 }
 
+// Whether a luma neighbour is available to a block.
+#[tactic(auto, unfolding(crate::specs::Order::is_available), using(domain::specs::Refused::never_0))]
 pub fn is_available(
     neighbour: LumaNeighbour,
     block_row: LumaRow,
     block_col: LumaCol,
     picture: Picture,
-) -> Flagged
-    ensures { result ≡ is_available picture neighbour block_row block_col }
+) -> Result<bool, Refusal>
+    ensures { flagged result ≡ is_available picture neighbour block_row block_col }
 {
-    let no = order_no(picture, block_row, block_col);
-    if no != 0 {
-        return Flagged { no, yes: false };
-    }
+    check_place(picture, block_row, block_col)?;
     let cur = number(
         shifts_of(picture),
         block_row.0 as usize,
         block_col.0 as usize,
     );
-    Flagged {
-        no: 0,
-        yes: comes_before(picture, cur, neighbour.row, neighbour.col),
-    }
+    Ok(comes_before(picture, cur, neighbour.row, neighbour.col))
 }
 
 // A luma block of side n in its picture.
@@ -212,9 +192,8 @@ pub struct ChromaBlock {
 
 // How far the neighbours of a block reach that are there: whether the corner is, and how many entries of the row above and of the
 // left column, from entry 0 on, up to entry 2n.
-#[derive(Clone, Copy)]
+#[derive(Clone, Copy, Debug, PartialEq, Eq)]
 pub struct Reach {
-    pub no: u32,
     pub corner: bool,
     pub above: usize,
     pub left: usize,
@@ -250,12 +229,10 @@ fn leads(
     requires { Line s row col down across group most }
     ensures { result ≡ leading (line_there s limit row col down across) most }
 {
-    let mut i = 0;
-    while i < most {
+    for i in (0..most).step_by(group) {
         if number(s, row + i * down, col + i * across) >= limit {
             return i;
         }
-        i += group;
     }
     most
 }
@@ -266,9 +243,9 @@ fn group_of(unit: usize, step: usize, n: usize) -> usize
     ensures { result ≡ group_of unit step n }
 {
     if step == 2 {
-        return helpers::min_len(unit / 2, n);
+        return n.min(unit / 2);
     }
-    helpers::min_len(unit, n)
+    n.min(unit)
 }
 
 // How many of an edge's 2n + 1 entries have a number below `limit`, from the luma place (row, col) on, where the plane has `room` for
@@ -288,7 +265,7 @@ fn edge_reach(
     ensures { result ≡ leading (line_there s limit row col down across) (min (2 * n + 1) room) }
 {
     let group = group_of(unit, down + across, n);
-    let most = helpers::min_len(2 * n + 1, room);
+    let most = room.min(2 * n + 1);
     leads(s, limit, row, col, down, across, group, most)
 }
 
@@ -355,43 +332,36 @@ fn in_plane(height: usize, width: usize, row: u32, col: u32, n: usize) -> bool
     multiple(r, n) & multiple(c, n) & (r + n <= height) & (c + n <= width)
 }
 
-// The number that refuses a luma block, or 0.
-fn luma_reach_no(b: LumaBlock) -> u32
-    ensures { result ≡ luma_reach_no b }
+// Whether a luma block has a reach, or why it is refused.
+#[tactic(auto, unfolding(crate::specs::Reach::luma_reach_no))]
+fn check_luma_block(b: LumaBlock) -> Result<(), Refusal>
+    ensures { no_of result ≡ luma_reach_no b }
 {
     let p = b.picture;
     let n = b.n;
     if !domain::size_ok(n) {
-        return 2;
+        return Err(Refusal::Size);
     }
     if !domain::picture_ok(p.width, p.height, p.ctu) {
-        return 4;
+        return Err(Refusal::Picture);
     }
     let placed = in_plane(p.height as usize, p.width as usize, b.row.0, b.col.0, n);
     if !(placed & (n <= (p.ctu as usize)) & domain::unit_ok(p.unit) & ((p.unit as usize) <= n)) {
-        return 6;
+        return Err(Refusal::Place);
     }
-    0
+    Ok(())
 }
 
 // The reach of a block over a good grid, below one limit in the row above and the corner, below another in the left column.
 fn edges(s: Shifts, e: Site, unit: usize, n: usize, above_limit: usize, left_limit: usize) -> Reach
     requires { Sited s e unit n }
-    ensures { result ≡ edges_of s e n above_limit left_limit }
+    ensures { there result ≡ edges_of s e n above_limit left_limit }
 {
     Reach {
-        no: 0,
         corner: corner_there(s, e, unit, n, above_limit),
         above: above_reach(s, e, unit, n, above_limit),
         left: left_reach(s, e, unit, n, left_limit),
     }
-}
-
-// The row or column before one, 0 for the first.
-fn back(v: u32) -> u32
-    ensures { result ≡ v - 1 }
-{
-    if v == 0 { 0 } else { v - 1 }
 }
 
 fn luma_site(b: LumaBlock) -> Site
@@ -400,8 +370,8 @@ fn luma_site(b: LumaBlock) -> Site
 {
     let row = b.row;
     let col = b.col;
-    let above = LumaRow(back(row.0));
-    let left = LumaCol(back(col.0));
+    let above = LumaRow(row.0.saturating_sub(1));
+    let left = LumaCol(col.0.saturating_sub(1));
     Site {
         row,
         col,
@@ -416,7 +386,7 @@ fn luma_site(b: LumaBlock) -> Site
 
 fn luma_work(b: LumaBlock) -> Reach
     requires { luma_reach_no b ≡ 0 }
-    ensures { result ≡ reach_by 0 (luma_has b) b.row.0 b.col.0 b.n }
+    ensures { there result ≡ reach_by 0 (luma_has b) b.row.0 b.col.0 b.n }
 {
     let p = b.picture;
     let s = shifts_of(p);
@@ -425,19 +395,12 @@ fn luma_work(b: LumaBlock) -> Reach
 }
 
 // How far the neighbours of a luma block reach that are available to it.
-pub fn luma_reach(b: LumaBlock) -> Reach
-    ensures { result ≡ luma_reach b }
+#[tactic(auto, unfolding(crate::specs::Reach::luma_reach), using(domain::specs::Refused::never_0))]
+pub fn luma_reach(b: LumaBlock) -> Result<Reach, Refusal>
+    ensures { reached result ≡ luma_reach b }
 {
-    let no = luma_reach_no(b);
-    if no != 0 {
-        return Reach {
-            no,
-            corner: false,
-            above: 0,
-            left: 0,
-        };
-    }
-    luma_work(b)
+    check_luma_block(b)?;
+    Ok(luma_work(b))
 }
 
 // Whether a format has chroma planes.
@@ -471,27 +434,28 @@ fn chroma_block_ok(p: Picture, f: ChromaFormat, row: ChromaRow, col: ChromaCol, 
     placed & (n <= (ctu.0 as usize))
 }
 
-// The number that refuses a chroma block, or 0.
-fn chroma_reach_no(b: ChromaBlock) -> u32
-    ensures { result ≡ chroma_reach_no b }
+// Whether a chroma block has a reach, or why it is refused.
+#[tactic(auto, unfolding(crate::specs::Reach::chroma_reach_no))]
+fn check_chroma_block(b: ChromaBlock) -> Result<(), Refusal>
+    ensures { no_of result ≡ chroma_reach_no b }
 {
     let p = b.picture;
     let f = b.format;
     let n = b.n;
     if !domain::size_ok(n) {
-        return 2;
+        return Err(Refusal::Size);
     }
     if !(domain::picture_ok(p.width, p.height, p.ctu) & has_chroma(f)) {
-        return 4;
+        return Err(Refusal::Picture);
     }
     let row = b.row;
     let col = b.col;
     let cur_row = b.cur_luma_row;
     let cur_col = b.cur_luma_col;
     if !(chroma_block_ok(p, f, row, col, n) & current_ok(p, cur_row, cur_col)) {
-        return 6;
+        return Err(Refusal::Place);
     }
-    0
+    Ok(())
 }
 
 fn chroma_site(b: ChromaBlock) -> Site
@@ -503,8 +467,8 @@ fn chroma_site(b: ChromaBlock) -> Site
     let width = f.chroma_col(LumaCol(b.picture.width));
     let row = f.luma_row(b.row);
     let col = f.luma_col(b.col);
-    let above = f.luma_row(ChromaRow(back(b.row.0)));
-    let left = f.luma_col(ChromaCol(back(b.col.0)));
+    let above = f.luma_row(ChromaRow(b.row.0.saturating_sub(1)));
+    let left = f.luma_col(ChromaCol(b.col.0.saturating_sub(1)));
     Site {
         row,
         col,
@@ -519,7 +483,7 @@ fn chroma_site(b: ChromaBlock) -> Site
 
 fn chroma_work(b: ChromaBlock) -> Reach
     requires { chroma_reach_no b ≡ 0 }
-    ensures { result ≡ reach_by 0 (chroma_has b) b.row.0 b.col.0 b.n }
+    ensures { there result ≡ reach_by 0 (chroma_has b) b.row.0 b.col.0 b.n }
 {
     let p = b.picture;
     let s = shifts_of(p);
@@ -529,17 +493,10 @@ fn chroma_work(b: ChromaBlock) -> Reach
 }
 
 // How far the neighbours of a chroma block reach that the chroma rule has for it.
-pub fn chroma_reach(b: ChromaBlock) -> Reach
-    ensures { result ≡ chroma_reach b }
+#[tactic(auto, unfolding(crate::specs::Reach::chroma_reach), using(domain::specs::Refused::never_0))]
+pub fn chroma_reach(b: ChromaBlock) -> Result<Reach, Refusal>
+    ensures { reached result ≡ chroma_reach b }
 {
-    let no = chroma_reach_no(b);
-    if no != 0 {
-        return Reach {
-            no,
-            corner: false,
-            above: 0,
-            left: 0,
-        };
-    }
-    chroma_work(b)
+    check_chroma_block(b)?;
+    Ok(chroma_work(b))
 }

@@ -2,12 +2,14 @@
 // Rests on tiling's definitions, on the domain's tests and on the count of next_cell.
 ghost use Rattle.std.specs.Prelude.{◌≡◌, ◌&&◌, ◌%◌, eqb};
 ghost use Rattle.domain.specs.Facts.{Size};
+ghost use Rattle.domain.specs.Refusal.{no_of};
 ghost use Rattle.order.specs.Good.{Good};
 ghost use Rattle.plan.specs.tiling.Tiling.{picture_of};
 ghost use Rattle.plan.specs.tiling.Check.{placed_ok, block_number};
 
 use crate::next_cell;
 use crate::tiling::{Block, Frame};
+use domain::refusal::Refusal;
 
 // Whether a place is at a multiple of a block's side, down and across.
 fn aligned(row: usize, col: usize, n: usize) -> bool
@@ -34,22 +36,22 @@ fn placed_ok(f: Frame, b: Block) -> bool
     at & (row + n <= (f.height as usize)) & (col + n <= (f.width as usize)) & (b.side <= f.ctu)
 }
 
-// The number that refuses the next block of a good picture's plan, or 0: 2, 3, 6, 9. So many samples are covered before it.
-pub(crate) fn block_no(f: Frame, b: Block, covered: usize) -> u32
+// Numbers 2, 3, 6, 9: whether the next block of a good picture's plan is not refused. So many samples are covered before it.
+pub(crate) fn check_block(f: Frame, b: Block, covered: usize) -> Result<(), Refusal>
     requires { Good (picture_of f) }
-    ensures { result ≡ block_number f b covered }
+    ensures { no_of result ≡ block_number f b covered }
 {
     if !domain::size_ok(b.side as usize) {
-        return 2;
+        return Err(Refusal::Size);
     }
     if !domain::mode_ok(b.mode) {
-        return 3;
+        return Err(Refusal::Mode);
     }
     if !placed_ok(f, b) {
-        return 6;
+        return Err(Refusal::Place);
     }
     if !next_cell::is_next(f, b.row as usize, b.col as usize, covered) {
-        return 9;
+        return Err(Refusal::Order);
     }
-    0
+    Ok(())
 }

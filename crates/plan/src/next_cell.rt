@@ -34,13 +34,11 @@ fn cells_ahead(h: usize, w: usize, m: u32, row: usize, col: usize) -> usize
     let mut x = col;
     let mut s: usize = 1;
     let mut z: usize = 0;
-    let mut left = m;
-    while left > 0 {
+    for _ in 0..m {
         z += bit(x, strip(s, s, h - y * s)) + bit(y, strip(s, 2 * s, w - (x / 2) * (2 * s)));
         y /= 2;
         x /= 2;
         s = 2 * s;
-        left -= 1;
     }
     z + (y * s * w + x * strip(s, s, h - y * s))
 }

@@ -1,72 +1,52 @@
 // The check that comes to a plan's verdict block by block (document 01, 'Plan, walk, replay'); where the blocks are read from is
 // left to the doors. Rests on the verdict's definition, in tiling, and on what refuses one block.
-ghost use Rattle.std.specs.Prelude.{◌≡◌};
-ghost use Rattle.plan.specs.verdict.Standing.{check_start, check_step, check_end, Unrefused};
+ghost use Rattle.std.specs.Prelude.{◌≡◌, ◌*◌, ◌<◌, cond, eqb};
+ghost use Rattle.domain.specs.Refusal.{no_of};
+ghost use Rattle.order.specs.Good.{Good};
+ghost use Rattle.plan.specs.tiling.Tiling.{picture_of};
+ghost use Rattle.plan.specs.Answers.{checking_of};
+ghost use Rattle.plan.specs.verdict.Standing.{check_start, check_block};
 
 use crate::block_check;
-use crate::tiling::{Block, Frame, Verdict};
+use crate::tiling::{Block, Fault, Frame};
+use domain::refusal::Refusal;
 
-// Where the check of a plan stands: the first refusal, its block, and the samples covered before it.
-#[derive(Drop)]
-pub(crate) struct Checking {
-    pub no: u32,
-    pub block: u32,
-    pub covered: usize,
+// Numbers 4 and 5, before any block. `whole` says whether what was lent makes whole records.
+#[tactic(auto, unfolding(crate::specs::verdict::Standing::check_start))]
+pub(crate) fn check_start(f: Frame, whole: bool) -> Result<(), Refusal>
+    ensures { no_of result ≡ (check_start f whole).no }
+{
+    if !domain::picture_ok(f.width, f.height, f.ctu) {
+        return Err(Refusal::Picture);
+    }
+    if whole { Ok(()) } else { Err(Refusal::Buffer) }
 }
 
-// No block is looked at. `whole` says whether what was lent makes whole records.
-pub(crate) fn check_start(f: Frame, whole: bool) -> Checking
-    ensures { result ≡ check_start f whole }
+// Block i is looked at, where those before it cover so many samples: so many are covered after it.
+pub(crate) fn check_step(f: Frame, covered: usize, b: Block, i: usize) -> Result<usize, Fault>
+    requires { Good (picture_of f) × (i < 4294967296) }
+    ensures { checking_of covered result ≡ check_block f covered b i }
 {
-    let no = if !domain::picture_ok(f.width, f.height, f.ctu) {
-        4
-    } else if whole {
-        0
-    } else {
-        5
-    };
-    Checking {
-        no,
-        block: 0,
-        covered: 0,
-    }
-}
-
-// Block i is looked at, unless one before it is refused.
-pub(crate) fn check_step(f: Frame, t: Checking, b: Block, i: usize) -> Checking
-    requires { Unrefused f t i }
-    ensures { result ≡ check_step f t b i }
-{
-    if t.no != 0 {
-        return t;
-    }
-    let no = block_check::block_no(f, b, t.covered);
-    if no != 0 {
-        return Checking {
-            no,
+    match block_check::check_block(f, b, covered) {
+        Ok(()) => {
+            let n = b.side as usize;
+            Ok(covered + n * n)
+        }
+        Err(why) => Err(Fault {
+            why,
             block: i as u32,
-            covered: t.covered,
-        };
-    }
-    let n = b.side as usize;
-    Checking {
-        no: 0,
-        block: 0,
-        covered: t.covered + n * n,
+        }),
     }
 }
 
-// Every block is looked at.
-pub(crate) fn check_end(f: Frame, t: Checking) -> Verdict
-    ensures { result ≡ check_end f t }
+// Number 10, after all blocks.
+pub(crate) fn check_end(f: Frame, covered: usize) -> Result<(), Refusal>
+    ensures { no_of result ≡ cond (eqb covered (f.height * f.width)) 0 10 }
 {
-    if t.no != 0 {
-        return Verdict {
-            no: t.no,
-            block: t.block,
-        };
-    }
     let area = (f.height as usize) * (f.width as usize);
-    let no = if t.covered == area { 0 } else { 10 };
-    Verdict { no, block: 0 }
+    if covered == area {
+        Ok(())
+    } else {
+        Err(Refusal::Gap)
+    }
 }

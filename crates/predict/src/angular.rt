@@ -6,6 +6,7 @@ ghost use Rattle.laws.specs.Fill.{fill, run, rows, block};
 ghost use Rattle.h265.specs.Notation.{from_rows};
 ghost use Rattle.h265.specs.Angular.{angular};
 ghost use Rattle.domain.specs.Facts.{Depth, Size};
+ghost use Rattle.domain.specs.Refusal.{no_of};
 ghost use Rattle.samples.specs.taps.Taps.{interp_of, edge_of};
 ghost use Rattle.predict.specs.refusals.Refusals.{angular_no, refs_no, rows_no};
 ghost use Rattle.predict.specs.Lent.{len, mut_len, entry_at, with_tables, lent_neighbours, Predicts, Becomes, Untouched};
@@ -16,7 +17,9 @@ ghost use Rattle.predict.specs.angular.Lines.{line_at, line_from, LineReads};
 ghost use Rattle.predict.specs.angular.Parts.{laid_refs, laid_at};
 ghost use Rattle.predict.specs.angular.Grid.{column};
 
+use crate::refusals::Lent;
 use crate::{angles, boundary, refusals};
+use domain::refusal::Refusal;
 use fmt::depth;
 use samples::taps;
 
@@ -532,6 +535,7 @@ pub(crate) fn angular_block(
 
 // The slices are the three tables of the Rust's scratch. The indices and fractions are asked for and go unused: a column's are
 // constants of its loop.
+#[tactic(auto, using(crate::specs::angular::Door::fit_lent))]
 pub fn predict_angular_slices(
     corner: u16,
     above: &[u16],
@@ -544,39 +548,29 @@ pub fn predict_angular_slices(
     refs: &mut [u16],
     indices: &mut [u32],
     fractions: &mut [u32],
-) -> u32
-    ensures { (result ≡ angular_no bits n mode (with_tables (len above) (len left) (mut_len pred) refs indices fractions))
-        × (Predicts result n (angular bits filter_boundary n mode (lent_neighbours corner above left)) pred
-        × ((result ≡ 0 → ⊥) → Untouched refs indices fractions)) }
+) -> Result<(), Refusal>
+    ensures { (no_of result ≡ angular_no bits n mode (with_tables (len above) (len left) (mut_len pred) refs indices fractions))
+        × (Predicts (no_of result) n (angular bits filter_boundary n mode (lent_neighbours corner above left)) pred
+        × ((no_of result ≡ 0 → ⊥) → Untouched refs indices fractions)) }
 {
-    let no = refusals::angular_no(
-        bits,
+    let lent = Lent::of(above, left, &*pred, &*refs, &*indices, &*fractions);
+    refusals::check_angular(bits, n, mode, lent)?;
+    angular_block(
+        corner,
+        above,
+        left,
         n,
-        mode,
-        above.len(),
-        left.len(),
-        pred.len(),
-        refs.len(),
-        indices.len(),
-        fractions.len(),
+        mode as usize,
+        filter_boundary,
+        bits,
+        &mut *pred,
+        &mut *refs,
     );
-    if no == 0 {
-        angular_block(
-            corner,
-            above,
-            left,
-            n,
-            mode as usize,
-            filter_boundary,
-            bits,
-            &mut *pred,
-            &mut *refs,
-        );
-    }
-    no
+    Ok(())
 }
 
 // A vertical mode row by row, for who may not need them all: its references first, then rows of it, edges as they are.
+#[tactic(auto, using(crate::specs::angular::Parts::refs_fit))]
 pub fn vertical_refs(
     corner: u16,
     above: &[u16],
@@ -584,17 +578,16 @@ pub fn vertical_refs(
     n: usize,
     mode: u8,
     refs: &mut [u16],
-) -> u32
-    ensures { (result ≡ refs_no n mode (len above) (len left) (mut_len refs))
-        × Becomes result (laid_refs corner above.now left.now n (mode - 18) refs.old) refs }
+) -> Result<(), Refusal>
+    ensures { (no_of result ≡ refs_no n mode (len above) (len left) (mut_len refs))
+        × Becomes (no_of result) (laid_refs corner above.now left.now n (mode - 18) refs.old) refs }
 {
-    let no = refusals::refs_no(n, mode, above.len(), left.len(), refs.len());
-    if no == 0 {
-        references(corner, above, left, n, (mode as usize) - 18, &mut *refs);
-    }
-    no
+    refusals::check_refs(n, mode, above.len(), left.len(), refs.len())?;
+    references(corner, above, left, n, (mode as usize) - 18, &mut *refs);
+    Ok(())
 }
 
+#[tactic(auto, using(crate::specs::angular::Parts::rows_fit))]
 pub fn vertical_rows(
     above: &[u16],
     refs: &[u16],
@@ -603,22 +596,20 @@ pub fn vertical_rows(
     first: usize,
     end: usize,
     pred: &mut [u16],
-) -> u32
-    ensures { (result ≡ rows_no n mode first end (len above) (len refs) (mut_len pred))
-        × Becomes result (rows (λ (y x : ℕ). laid_at above.now refs.now (mode - 18) (first + y) x) n
+) -> Result<(), Refusal>
+    ensures { (no_of result ≡ rows_no n mode first end (len above) (len refs) (mut_len pred))
+        × Becomes (no_of result) (rows (λ (y x : ℕ). laid_at above.now refs.now (mode - 18) (first + y) x) n
         (end - first) pred.old) pred }
 {
-    let no = refusals::rows_no(n, mode, first, end, above.len(), refs.len(), pred.len());
-    if no == 0 {
-        lines(
-            above,
-            refs,
-            n,
-            (mode as usize) - 18,
-            first,
-            end - first,
-            &mut *pred,
-        );
-    }
-    no
+    refusals::check_rows(n, mode, first, end, above.len(), refs.len(), pred.len())?;
+    lines(
+        above,
+        refs,
+        n,
+        (mode as usize) - 18,
+        first,
+        end - first,
+        &mut *pred,
+    );
+    Ok(())
 }

@@ -16,14 +16,18 @@ pub mod scratch_predict;
 ghost use Rattle.std.specs.Prelude.{◌≡◌};
 ghost use Rattle.h265.specs.Setting.{luma_at, first_edition_strong};
 ghost use Rattle.h265.specs.Prediction.{pred_samples};
+ghost use Rattle.domain.specs.Refusal.{no_of};
 ghost use Rattle.domain.specs.rows.Neighbours.{neighbours_of};
 ghost use Rattle.predict.specs.refusals.Refusals.{predict_no};
 ghost use Rattle.predict.specs.Contents.{chroma_at};
 ghost use Rattle.predict.specs.Lent.{len, mut_len, with_tables, lent_neighbours, Predicts, Untouched};
 
+use crate::refusals::Lent;
+use domain::refusal::Refusal;
 use domain::rows;
 
 // A chroma block: nothing is smoothed, and no edge is filtered. The last three slices are scratch.
+#[tactic(auto, using(crate::specs::by_mode::Door::given_lent))]
 pub fn predict_chroma_tb_slices(
     mode: u8,
     corner: u16,
@@ -35,28 +39,17 @@ pub fn predict_chroma_tb_slices(
     refs: &mut [u16],
     indices: &mut [u32],
     fractions: &mut [u32],
-) -> u32
-    ensures { (result ≡ predict_no bits n mode (with_tables (len above) (len left) (mut_len pred) refs indices fractions))
-        × (Predicts result n (pred_samples (chroma_at bits) first_edition_strong n mode (lent_neighbours corner above left)) pred
-        × ((result ≡ 0 → ⊥) → Untouched refs indices fractions)) }
+) -> Result<(), Refusal>
+    ensures { (no_of result ≡ predict_no bits n mode (with_tables (len above) (len left) (mut_len pred) refs indices fractions))
+        × (Predicts (no_of result) n (pred_samples (chroma_at bits) first_edition_strong n mode (lent_neighbours corner above left)) pred
+        × ((no_of result ≡ 0 → ⊥) → Untouched refs indices fractions)) }
 {
-    let no = refusals::predict_no(
-        bits,
-        n,
-        mode,
-        above.len(),
-        left.len(),
-        pred.len(),
-        refs.len(),
-        indices.len(),
-        fractions.len(),
+    let lent = Lent::of(above, left, &*pred, &*refs, &*indices, &*fractions);
+    refusals::check_predict(bits, n, mode, lent)?;
+    by_mode::by_mode(
+        mode, corner, above, left, n, bits, false, &mut *pred, &mut *refs,
     );
-    if no == 0 {
-        by_mode::by_mode(
-            mode, corner, above, left, n, bits, false, &mut *pred, &mut *refs,
-        );
-    }
-    no
+    Ok(())
 }
 
 // A luma block: references smoothed by the rule, edges filtered. The last three slices are scratch.
@@ -69,37 +62,33 @@ pub fn predict_luma_tb_slices(
     refs: &mut [u16],
     indices: &mut [u32],
     fractions: &mut [u32],
-) -> u32
-    ensures { (result ≡ predict_no bits n mode (with_tables 65 65 (mut_len pred) refs indices fractions))
-        × (Predicts result n (pred_samples (luma_at bits) first_edition_strong n mode (neighbours_of rows)) pred
-        × ((result ≡ 0 → ⊥) → Untouched refs indices fractions)) }
+) -> Result<(), Refusal>
+    ensures { (no_of result ≡ predict_no bits n mode (with_tables 65 65 (mut_len pred) refs indices fractions))
+        × (Predicts (no_of result) n (pred_samples (luma_at bits) first_edition_strong n mode (neighbours_of rows)) pred
+        × ((no_of result ≡ 0 → ⊥) → Untouched refs indices fractions)) }
 {
-    let no = refusals::predict_no(
-        bits,
-        n,
+    let lent = Lent {
+        above: 65,
+        left: 65,
+        pred: pred.len(),
+        refs: refs.len(),
+        indices: indices.len(),
+        fractions: fractions.len(),
+    };
+    refusals::check_predict(bits, n, mode, lent)?;
+    let used = luma_rows::prepared_rows(mode, rows, n, bits);
+    let above = used.above;
+    let left = used.left;
+    by_mode::by_mode(
         mode,
-        65,
-        65,
-        pred.len(),
-        refs.len(),
-        indices.len(),
-        fractions.len(),
+        used.corner,
+        &above,
+        &left,
+        n,
+        bits,
+        true,
+        &mut *pred,
+        &mut *refs,
     );
-    if no == 0 {
-        let used = luma_rows::prepared_rows(mode, rows, n, bits);
-        let above = used.above;
-        let left = used.left;
-        by_mode::by_mode(
-            mode,
-            used.corner,
-            &above,
-            &left,
-            n,
-            bits,
-            true,
-            &mut *pred,
-            &mut *refs,
-        );
-    }
-    no
+    Ok(())
 }

@@ -10,10 +10,12 @@ pub(crate) fn prepared_rows(mode: u8, rows: rows::Rows, n: usize, bits: u32) -> 
     requires { Predictable bits n mode }
     ensures { result ≡ prepared_rows bits n mode rows }
 {
-    if smooth::should_filter_refs(mode, n).yes {
+    if smooth::should_filter_refs(mode, n).unwrap_or(false) {
         let above = rows.above;
         let left = rows.left;
-        return smooth::filter_luma_refs(rows.corner, &above, &left, n, bits).rows;
+        if let Ok(smoothed) = smooth::filter_luma_refs(rows.corner, &above, &left, n, bits) {
+            return smoothed;
+        }
     }
     rows
 }

@@ -7,6 +7,7 @@ ghost use Rattle.h265.specs.Notation.{from_rows};
 ghost use Rattle.h265.specs.Planar.{planar};
 ghost use Rattle.h265.specs.Dc.{dc};
 ghost use Rattle.domain.specs.Facts.{Size};
+ghost use Rattle.domain.specs.Refusal.{no_of};
 ghost use Rattle.samples.specs.taps.Taps.{blended};
 ghost use Rattle.predict.specs.refusals.Refusals.{flat_no};
 ghost use Rattle.predict.specs.Lent.{len, mut_len, entry_at, lent_neighbours, Predicts};
@@ -16,6 +17,7 @@ ghost use Rattle.predict.specs.planar_dc.Stores.{heads};
 ghost use Rattle.predict.specs.planar_dc.Edge.{edges};
 
 use crate::{boundary, refusals};
+use domain::refusal::Refusal;
 use samples::taps;
 
 // Two samples by weights.
@@ -134,15 +136,19 @@ pub(crate) fn planar_block(above: &[u16], left: &[u16], n: usize, pred: &mut [u1
     }
 }
 
-pub fn predict_planar_into(above: &[u16], left: &[u16], n: usize, pred: &mut [u16]) -> u32
-    ensures { (result ≡ flat_no n (len above) (len left) (mut_len pred))
-        × Predicts result n (planar n (lent_neighbours 0 above left)) pred }
+#[tactic(auto, using(crate::specs::planar_dc::Flat::ready))]
+pub fn predict_planar_into(
+    above: &[u16],
+    left: &[u16],
+    n: usize,
+    pred: &mut [u16],
+) -> Result<(), Refusal>
+    ensures { (no_of result ≡ flat_no n (len above) (len left) (mut_len pred))
+        × Predicts (no_of result) n (planar n (lent_neighbours 0 above left)) pred }
 {
-    let no = refusals::flat_no(n, above.len(), left.len(), pred.len());
-    if no == 0 {
-        planar_block(above, left, n, &mut *pred);
-    }
-    no
+    refusals::check_flat(n, above.len(), left.len(), pred.len())?;
+    planar_block(above, left, n, &mut *pred);
+    Ok(())
 }
 
 // The sum of n samples of both rows.
@@ -238,19 +244,18 @@ pub(crate) fn dc_block(
     }
 }
 
+#[tactic(auto, using(crate::specs::planar_dc::Flat::ready))]
 pub fn predict_dc_into(
     above: &[u16],
     left: &[u16],
     n: usize,
     filter_boundary: bool,
     pred: &mut [u16],
-) -> u32
-    ensures { (result ≡ flat_no n (len above) (len left) (mut_len pred))
-        × Predicts result n (dc filter_boundary n (lent_neighbours 0 above left)) pred }
+) -> Result<(), Refusal>
+    ensures { (no_of result ≡ flat_no n (len above) (len left) (mut_len pred))
+        × Predicts (no_of result) n (dc filter_boundary n (lent_neighbours 0 above left)) pred }
 {
-    let no = refusals::flat_no(n, above.len(), left.len(), pred.len());
-    if no == 0 {
-        dc_block(above, left, n, filter_boundary, &mut *pred);
-    }
-    no
+    refusals::check_flat(n, above.len(), left.len(), pred.len())?;
+    dc_block(above, left, n, filter_boundary, &mut *pred);
+    Ok(())
 }

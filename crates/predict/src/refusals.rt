@@ -1,9 +1,13 @@
-// Which number a prediction's door gives, from document 01's table: the first check that fails, and 0 where none does.
-// Rests on the laws and on the domain's tests. The doors do their work where the number is 0.
-ghost use Rattle.std.specs.Prelude.{◌≡◌};
+// Whether a prediction's door serves a call, from document 01's table: the first check that fails is what it is refused for.
+// Rests on the laws and on the domain's tests.
+ghost use Rattle.std.specs.Prelude.{◌≡◌, length};
 ghost use Rattle.domain.specs.Domain.{predictor_row};
 ghost use Rattle.domain.specs.Facts.{Size};
-ghost use Rattle.predict.specs.refusals.Refusals.{lengths, is_enough, flat_no, angular_no, predict_no, refs_no, rows_no};
+ghost use Rattle.domain.specs.Refusal.{no_of};
+ghost use Rattle.predict.specs.refusals.Refusals.{lent_by, lengths_of, is_enough, flat_no, block_no, angular_no, predict_no};
+ghost use Rattle.predict.specs.refusals.Refusals.{vertical_ok, refs_no, rows_no};
+
+use domain::refusal::Refusal;
 
 // The least entries of a reference row.
 fn predictor_row(n: usize) -> usize
@@ -13,118 +17,135 @@ fn predictor_row(n: usize) -> usize
     2 * n
 }
 
-// Planar and DC: the number of a call whose rows have a and l entries and whose block buffer has p.
-pub(crate) fn flat_no(n: usize, a: usize, l: usize, p: usize) -> u32
-    ensures { result ≡ flat_no n a l p }
+// Planar and DC: a call whose rows have above and left entries and whose block buffer has pred.
+#[tactic(auto, unfolding(crate::specs::refusals::Refusals::flat_no))]
+pub(crate) fn check_flat(n: usize, above: usize, left: usize, pred: usize) -> Result<(), Refusal>
+    ensures { no_of result ≡ flat_no n above left pred }
 {
     if !domain::size_ok(n) {
-        return 2;
+        return Err(Refusal::Size);
     }
     let row = predictor_row(n);
-    if (a >= row) & (l >= row) & (p >= n * n) {
-        return 0;
+    if !((above >= row) & (left >= row) & (pred >= n * n)) {
+        return Err(Refusal::Buffer);
     }
-    5
+    Ok(())
 }
 
-// Number 5 where tables are lent too: whether each is long enough.
-fn is_enough(
-    n: usize,
-    above: usize,
-    left: usize,
-    pred: usize,
-    refs: usize,
-    indices: usize,
-    fractions: usize,
-) -> bool
-    requires { Size n }
-    ensures { result ≡ is_enough n (lengths above left pred refs indices fractions) }
+// What a call lends, by its lengths.
+#[derive(Clone, Copy, Debug, PartialEq, Eq)]
+pub(crate) struct Lent {
+    pub above: usize,
+    pub left: usize,
+    pub pred: usize,
+    pub refs: usize,
+    pub indices: usize,
+    pub fractions: usize,
+}
+
+impl Lent {
+    pub(crate) fn of(
+        above: &[u16],
+        left: &[u16],
+        pred: &[u16],
+        refs: &[u16],
+        indices: &[u32],
+        fractions: &[u32],
+    ) -> Lent
+        ensures { result ≡ lent_by (length above.now) (length left.now) (length pred.now) (length refs.now)
+            (length indices.now) (length fractions.now) }
+    {
+        Lent {
+            above: above.len(),
+            left: left.len(),
+            pred: pred.len(),
+            refs: refs.len(),
+            indices: indices.len(),
+            fractions: fractions.len(),
+        }
+    }
+
+    // Whether each is long enough for a block of side n.
+    fn are_enough(self, n: usize) -> bool
+        requires { Size n }
+        ensures { result ≡ is_enough n (lengths_of self) }
+    {
+        let row = predictor_row(n);
+        (self.above >= row)
+            & (self.left >= row)
+            & (self.pred >= n * n)
+            & (self.refs >= 193)
+            & (self.indices >= 32)
+            & (self.fractions >= 32)
+    }
+}
+
+// Where tables are lent too: the depth, the side, whether the mode is one of the door's, then what is lent.
+#[tactic(auto, unfolding(crate::specs::refusals::Refusals::block_no))]
+fn check_block(bits: u32, n: usize, serves: bool, lent: Lent) -> Result<(), Refusal>
+    ensures { no_of result ≡ block_no bits n serves (lengths_of lent) }
 {
-    let row = predictor_row(n);
-    (above >= row)
-        & (left >= row)
-        & (pred >= n * n)
-        & (refs >= 193)
-        & (indices >= 32)
-        & (fractions >= 32)
+    if !domain::depth_ok(bits) {
+        return Err(Refusal::Depth);
+    }
+    if !domain::size_ok(n) {
+        return Err(Refusal::Size);
+    }
+    if !serves {
+        return Err(Refusal::Mode);
+    }
+    if !lent.are_enough(n) {
+        return Err(Refusal::Buffer);
+    }
+    Ok(())
 }
 
 // Angular prediction.
-pub(crate) fn angular_no(
-    bits: u32,
-    n: usize,
-    mode: u8,
-    above: usize,
-    left: usize,
-    pred: usize,
-    refs: usize,
-    indices: usize,
-    fractions: usize,
-) -> u32
-    ensures { result ≡ angular_no bits n mode (lengths above left pred refs indices fractions) }
+pub(crate) fn check_angular(bits: u32, n: usize, mode: u8, lent: Lent) -> Result<(), Refusal>
+    ensures { no_of result ≡ angular_no bits n mode (lengths_of lent) }
 {
-    if !domain::depth_ok(bits) {
-        return 1;
-    }
-    if !domain::size_ok(n) {
-        return 2;
-    }
-    if !((mode >= 2) & domain::mode_ok(mode as u32)) {
-        return 3;
-    }
-    if !is_enough(n, above, left, pred, refs, indices, fractions) {
-        return 5;
-    }
-    0
+    check_block(bits, n, (mode >= 2) & domain::mode_ok(mode as u32), lent)
 }
 
 // A block in any mode.
-pub(crate) fn predict_no(
-    bits: u32,
+pub(crate) fn check_predict(bits: u32, n: usize, mode: u8, lent: Lent) -> Result<(), Refusal>
+    ensures { no_of result ≡ predict_no bits n mode (lengths_of lent) }
+{
+    check_block(bits, n, domain::mode_ok(mode as u32), lent)
+}
+
+fn is_vertical(mode: u8) -> bool
+    ensures { result ≡ vertical_ok mode }
+{
+    (mode >= 18) & domain::mode_ok(mode as u32)
+}
+
+// A vertical mode's references, and rows of it.
+#[tactic(auto, unfolding(crate::specs::refusals::Refusals::refs_no))]
+pub(crate) fn check_refs(
     n: usize,
     mode: u8,
     above: usize,
     left: usize,
-    pred: usize,
     refs: usize,
-    indices: usize,
-    fractions: usize,
-) -> u32
-    ensures { result ≡ predict_no bits n mode (lengths above left pred refs indices fractions) }
-{
-    if !domain::depth_ok(bits) {
-        return 1;
-    }
-    if !domain::size_ok(n) {
-        return 2;
-    }
-    if !domain::mode_ok(mode as u32) {
-        return 3;
-    }
-    if !is_enough(n, above, left, pred, refs, indices, fractions) {
-        return 5;
-    }
-    0
-}
-
-// A vertical mode's references, and rows of it.
-pub(crate) fn refs_no(n: usize, mode: u8, above: usize, left: usize, refs: usize) -> u32
-    ensures { result ≡ refs_no n mode above left refs }
+) -> Result<(), Refusal>
+    ensures { no_of result ≡ refs_no n mode above left refs }
 {
     if !domain::size_ok(n) {
-        return 2;
+        return Err(Refusal::Size);
     }
-    if !((mode >= 18) & domain::mode_ok(mode as u32)) {
-        return 3;
+    if !is_vertical(mode) {
+        return Err(Refusal::Mode);
     }
     let row = predictor_row(n);
-    if (above >= row) & (left >= row) & (refs >= 193) {
-        return 0;
+    if !((above >= row) & (left >= row) & (refs >= 193)) {
+        return Err(Refusal::Buffer);
     }
-    5
+    Ok(())
 }
 
-pub(crate) fn rows_no(
+#[tactic(auto, unfolding(crate::specs::refusals::Refusals::rows_no))]
+pub(crate) fn check_rows(
     n: usize,
     mode: u8,
     first: usize,
@@ -132,21 +153,21 @@ pub(crate) fn rows_no(
     above: usize,
     refs: usize,
     pred: usize,
-) -> u32
-    ensures { result ≡ rows_no n mode first end above refs pred }
+) -> Result<(), Refusal>
+    ensures { no_of result ≡ rows_no n mode first end above refs pred }
 {
     if !domain::size_ok(n) {
-        return 2;
+        return Err(Refusal::Size);
     }
-    if !((mode >= 18) & domain::mode_ok(mode as u32)) {
-        return 3;
+    if !is_vertical(mode) {
+        return Err(Refusal::Mode);
     }
     let row = predictor_row(n);
-    if (above >= row) & (refs >= 193) & (pred >= n * n) {
-        if (first <= end) & (end <= n) {
-            return 0;
-        }
-        return 11;
+    if !((above >= row) & (refs >= 193) & (pred >= n * n)) {
+        return Err(Refusal::Buffer);
     }
-    5
+    if !((first <= end) & (end <= n)) {
+        return Err(Refusal::Start);
+    }
+    Ok(())
 }

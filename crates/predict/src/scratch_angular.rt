@@ -2,11 +2,13 @@
 // Rests on that form. A call that makes its own scratch stands beside it.
 ghost use Rattle.std.specs.Prelude.{◌≡◌};
 ghost use Rattle.h265.specs.Angular.{angular};
+ghost use Rattle.domain.specs.Refusal.{no_of};
 ghost use Rattle.predict.specs.refusals.Refusals.{angular_no};
 ghost use Rattle.predict.specs.Lent.{len, mut_len, with_scratch, lent_neighbours, Predicts};
 
 use crate::angular;
 use crate::scratch::AngularScratch;
+use domain::refusal::Refusal;
 
 // Angular prediction. What the scratch holds after a call that is not refused is left open.
 pub fn predict_angular_into(
@@ -19,10 +21,10 @@ pub fn predict_angular_into(
     bits: u32,
     pred: &mut [u16],
     scratch: &mut AngularScratch,
-) -> u32
-    ensures { (result ≡ angular_no bits n mode (with_scratch (len above) (len left) (mut_len pred)))
-        × (Predicts result n (angular bits filter_boundary n mode (lent_neighbours corner above left)) pred
-        × ((result ≡ 0 → ⊥) → scratch.new ≡ scratch.old)) }
+) -> Result<(), Refusal>
+    ensures { (no_of result ≡ angular_no bits n mode (with_scratch (len above) (len left) (mut_len pred)))
+        × (Predicts (no_of result) n (angular bits filter_boundary n mode (lent_neighbours corner above left)) pred
+        × ((no_of result ≡ 0 → ⊥) → scratch.new ≡ scratch.old)) }
 {
     angular::predict_angular_slices(
         corner,
@@ -49,9 +51,9 @@ pub fn predict_angular_fresh(
     filter_boundary: bool,
     bits: u32,
     pred: &mut [u16],
-) -> u32
-    ensures { (result ≡ angular_no bits n mode (with_scratch (len above) (len left) (mut_len pred)))
-        × Predicts result n (angular bits filter_boundary n mode (lent_neighbours corner above left)) pred }
+) -> Result<(), Refusal>
+    ensures { (no_of result ≡ angular_no bits n mode (with_scratch (len above) (len left) (mut_len pred)))
+        × Predicts (no_of result) n (angular bits filter_boundary n mode (lent_neighbours corner above left)) pred }
 {
     let mut scratch = AngularScratch::new();
     predict_angular_into(

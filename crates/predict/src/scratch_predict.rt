@@ -4,11 +4,13 @@ ghost use Rattle.std.specs.Prelude.{◌≡◌};
 ghost use Rattle.h265.specs.Setting.{luma_at, first_edition_strong};
 ghost use Rattle.h265.specs.Prediction.{pred_samples};
 ghost use Rattle.domain.specs.rows.Neighbours.{neighbours_of};
+ghost use Rattle.domain.specs.Refusal.{no_of};
 ghost use Rattle.predict.specs.refusals.Refusals.{predict_no};
 ghost use Rattle.predict.specs.Contents.{chroma_at};
 ghost use Rattle.predict.specs.Lent.{len, mut_len, with_scratch, lent_neighbours, Predicts};
 
 use crate::scratch::AngularScratch;
+use domain::refusal::Refusal;
 use domain::rows;
 
 // A chroma block in any mode.
@@ -21,10 +23,10 @@ pub fn predict_chroma_tb_into(
     bits: u32,
     pred: &mut [u16],
     scratch: &mut AngularScratch,
-) -> u32
-    ensures { (result ≡ predict_no bits n mode (with_scratch (len above) (len left) (mut_len pred)))
-        × (Predicts result n (pred_samples (chroma_at bits) first_edition_strong n mode (lent_neighbours corner above left)) pred
-        × ((result ≡ 0 → ⊥) → scratch.new ≡ scratch.old)) }
+) -> Result<(), Refusal>
+    ensures { (no_of result ≡ predict_no bits n mode (with_scratch (len above) (len left) (mut_len pred)))
+        × (Predicts (no_of result) n (pred_samples (chroma_at bits) first_edition_strong n mode (lent_neighbours corner above left)) pred
+        × ((no_of result ≡ 0 → ⊥) → scratch.new ≡ scratch.old)) }
 {
     crate::predict_chroma_tb_slices(
         mode,
@@ -48,10 +50,10 @@ pub fn predict_luma_tb_into(
     bits: u32,
     pred: &mut [u16],
     scratch: &mut AngularScratch,
-) -> u32
-    ensures { (result ≡ predict_no bits n mode (with_scratch 65 65 (mut_len pred)))
-        × (Predicts result n (pred_samples (luma_at bits) first_edition_strong n mode (neighbours_of rows)) pred
-        × ((result ≡ 0 → ⊥) → scratch.new ≡ scratch.old)) }
+) -> Result<(), Refusal>
+    ensures { (no_of result ≡ predict_no bits n mode (with_scratch 65 65 (mut_len pred)))
+        × (Predicts (no_of result) n (pred_samples (luma_at bits) first_edition_strong n mode (neighbours_of rows)) pred
+        × ((no_of result ≡ 0 → ⊥) → scratch.new ≡ scratch.old)) }
 {
     crate::predict_luma_tb_slices(
         mode,
@@ -74,9 +76,9 @@ pub fn predict_chroma_tb_fresh(
     n: usize,
     bits: u32,
     pred: &mut [u16],
-) -> u32
-    ensures { (result ≡ predict_no bits n mode (with_scratch (len above) (len left) (mut_len pred)))
-        × Predicts result n (pred_samples (chroma_at bits) first_edition_strong n mode (lent_neighbours corner above left)) pred }
+) -> Result<(), Refusal>
+    ensures { (no_of result ≡ predict_no bits n mode (with_scratch (len above) (len left) (mut_len pred)))
+        × Predicts (no_of result) n (pred_samples (chroma_at bits) first_edition_strong n mode (lent_neighbours corner above left)) pred }
 {
     let mut scratch = AngularScratch::new();
     predict_chroma_tb_into(mode, corner, above, left, n, bits, pred, &mut scratch)
@@ -89,9 +91,9 @@ pub fn predict_luma_tb_fresh(
     n: usize,
     bits: u32,
     pred: &mut [u16],
-) -> u32
-    ensures { (result ≡ predict_no bits n mode (with_scratch 65 65 (mut_len pred)))
-        × Predicts result n (pred_samples (luma_at bits) first_edition_strong n mode (neighbours_of rows)) pred }
+) -> Result<(), Refusal>
+    ensures { (no_of result ≡ predict_no bits n mode (with_scratch 65 65 (mut_len pred)))
+        × Predicts (no_of result) n (pred_samples (luma_at bits) first_edition_strong n mode (neighbours_of rows)) pred }
 {
     let mut scratch = AngularScratch::new();
     predict_luma_tb_into(mode, rows, n, bits, pred, &mut scratch)

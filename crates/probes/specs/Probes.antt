@@ -1,32 +1,30 @@
 -- What each entry hands over, from the definition of the door behind it. Assumes nothing.
-use Rattle.std.specs.Prelude.{ℕ, Bool, true, false, List, [], ℤ, get_or}
-use Rattle.fmt.specs.declared.depth.DepthFrom.{DepthFrom}
-use Rattle.fmt.specs.declared.depth.DepthFrom.TheVariants.{Depth, Refused}
-use Rattle.fmt.specs.declared.FormatFrom.{FormatFrom}
-use Rattle.fmt.specs.declared.FormatFrom.TheVariants.{Format, Unknown}
+use Rattle.std.specs.Prelude.{ℕ, Bool, true, false, List, [], ℤ, get_or, Option, Some, None, Result, Ok, Err}
+use Rattle.domain.specs.declared.refusal.Refusal.{Refusal}
+use Rattle.domain.specs.Refusal.{number}
+use Rattle.fmt.specs.declared.depth.BitDepth.{BitDepth}
+use Rattle.fmt.specs.declared.ChromaFormat.{ChromaFormat}
 use Rattle.fmt.specs.depth.Depth.{bits_of, max_val, neutral, depth_from}
 use Rattle.fmt.specs.Fmt.{format_from, sub_width, sub_height}
 use Rattle.fmt.specs.Places.{luma_row, luma_col, chroma_row, chroma_col}
 use Rattle.order.specs.declared.Picture.{Picture}
-use Rattle.order.specs.declared.Numbered.{Numbered}
-use Rattle.order.specs.declared.Flagged.{Flagged}
+use Rattle.order.specs.Answers.{Numbered, Flagged}
 use Rattle.order.specs.Order.{decode_order, is_available}
-use Rattle.smooth.specs.declared.Rule.{Rule}
-use Rattle.smooth.specs.declared.FilteredRows.{FilteredRows}
-use Rattle.smooth.specs.declared.Smoothed.{Smoothed}
+use Rattle.smooth.specs.Answers.{Rule, FilteredRows, Smoothed}
 use Rattle.smooth.specs.Smoothing.{should_filter_refs, filter_references, filter_luma_refs}
 use Rattle.domain.specs.declared.rows.Rows.{Rows}
 use Rattle.refs.specs.declared.substitution.Flags.{Flags}
-use Rattle.domain.specs.declared.rows.Gathered.{Gathered}
-use Rattle.refs.specs.declared.GatheredPair.{GatheredPair}
+use Rattle.refs.specs.Answers.{Gathered, GatheredPair}
 use Rattle.refs.specs.declared.LumaRefGeometry.{LumaRefGeometry}
 use Rattle.refs.specs.declared.ChromaRefGeometry.{ChromaRefGeometry}
 use Rattle.refs.specs.substitution.Door.{substitute_refs}
 use Rattle.refs.specs.Door as gather
 use Rattle.checksum.specs.declared.RowRange.{RowRange}
-use Rattle.checksum.specs.declared.Summed.{Summed}
+use Rattle.checksum.specs.Answers.{Summed}
 use Rattle.checksum.specs.Checksum.{checksum_of}
-use Rattle.choose.specs.declared.Chosen.{Chosen}
+use Rattle.choose.specs.declared.Best.{Best}
+use Rattle.choose.specs.Answers.{Chosen}
+use Rattle.choose.specs.Answers as choose
 use Rattle.probes.specs.declared.predict_probes.Choice.{Choice}
 use Rattle.probes.specs.declared.Answer.{Answer}
 use Rattle.probes.specs.declared.PairReferences.{PairReferences}
@@ -36,33 +34,33 @@ use Rattle.probes.specs.declared.Place.{Place}
 use Rattle.probes.specs.declared.TwoRows.{TwoRows}
 use Rattle.probes.specs.declared.References.{References}
 
--- a depth's figures; a refusal is number 1 and zeros
-abbrev pub figures_of : DepthFrom → DepthFigures
-figures_of (Depth d) = record { no = 0; bits = bits_of d; largest = max_val d; neutral = neutral d }
-figures_of Refused = record { no = 1; bits = 0; largest = 0; neutral = 0 }
+-- a depth's figures; a refusal is its number and zeros
+abbrev pub figures_of : Result BitDepth Refusal → DepthFigures
+figures_of (Ok d) = record { no = 0; bits = bits_of d; largest = max_val d; neutral = neutral d }
+figures_of (Err why) = record { no = number why; bits = 0; largest = 0; neutral = 0 }
 
 abbrev pub depth_figures : ℕ → DepthFigures
 depth_figures bits = figures_of (depth_from bits)
 
 -- a format's subsampling, 1 and 1 for a number that names none
-abbrev pub subsampling_of : FormatFrom → FormatFigures
-subsampling_of (Format f) = record { known = 1; across = sub_width f; down = sub_height f }
-subsampling_of Unknown = record { known = 0; across = 1; down = 1 }
+abbrev pub subsampling_of : Option ChromaFormat → FormatFigures
+subsampling_of (Some f) = record { known = 1; across = sub_width f; down = sub_height f }
+subsampling_of None = record { known = 0; across = 1; down = 1 }
 
 abbrev pub format_figures : ℕ → FormatFigures
 format_figures idc = subsampling_of (format_from idc)
 
 -- the luma place of a chroma place, and the chroma place of a luma place
-abbrev pub luma_place : ℕ → ℕ → FormatFrom → Place
-luma_place row col (Format f) = record { known = 1; row = (luma_row f (record { 0 = row })).0; col = (luma_col f (record { 0 = col })).0 }
-luma_place row col Unknown = record { known = 0; row = 0; col = 0 }
+abbrev pub luma_place : ℕ → ℕ → Option ChromaFormat → Place
+luma_place row col (Some f) = record { known = 1; row = (luma_row f (record { 0 = row })).0; col = (luma_col f (record { 0 = col })).0 }
+luma_place row col None = record { known = 0; row = 0; col = 0 }
 
 abbrev pub on_luma : ℕ → ℕ → ℕ → Place
 on_luma idc row col = luma_place row col (format_from idc)
 
-abbrev pub chroma_place : ℕ → ℕ → FormatFrom → Place
-chroma_place row col (Format f) = record { known = 1; row = (chroma_row f (record { 0 = row })).0; col = (chroma_col f (record { 0 = col })).0 }
-chroma_place row col Unknown = record { known = 0; row = 0; col = 0 }
+abbrev pub chroma_place : ℕ → ℕ → Option ChromaFormat → Place
+chroma_place row col (Some f) = record { known = 1; row = (chroma_row f (record { 0 = row })).0; col = (chroma_col f (record { 0 = col })).0 }
+chroma_place row col None = record { known = 0; row = 0; col = 0 }
 
 abbrev pub on_chroma : ℕ → ℕ → ℕ → Place
 on_chroma idc row col = chroma_place row col (format_from idc)
@@ -154,3 +152,6 @@ checksum_answer r plane sum = sum_of (checksum_of r plane sum)
 -- a choice, as it is handed over
 abbrev pub chosen_of : Choice → Chosen
 chosen_of a = record { no = a.no; mode = a.mode; sum = a.sum }
+
+abbrev pub choice_of : Result Best Refusal → Choice
+choice_of r = let c = choose.chosen_of r in record { no = c.no; mode = c.mode; sum = c.sum }

@@ -47,14 +47,25 @@ pub extern "C" fn salvrunde_probe_count_errors(
         samples: *samples,
         squares: *squares,
     };
-    let v = r.count_numbers(a, b, rows, cols, sides, modes);
-    let next = v.next;
+    match r.count_numbers(a, b, rows, cols, sides, modes) {
+        Ok(next) => count_answer(0, 0, next),
+        Err(rejected) => count_answer(
+            rejected.fault.why.number(),
+            rejected.fault.block,
+            rejected.report,
+        ),
+    }
+}
+
+fn count_answer(no: u32, block: u32, next: Report) -> CountAnswer
+    ensures { result ≡ count_answer (record { no = no; block = block; next = next }) }
+{
     let blocks = next.blocks;
     let samples = next.samples;
     let squares = next.squares;
     CountAnswer {
-        no: v.no,
-        block: v.block,
+        no,
+        block,
         pairs: next.pairs as u64,
         blocks,
         samples,

@@ -6,18 +6,22 @@ pub mod error_probes;
 pub mod predict_probes;
 pub mod walk_probes;
 
-ghost use Rattle.std.specs.Prelude.{◌≡◌};
+ghost use Rattle.std.specs.Prelude.{◌≡◌, [], ◌∷◌};
 ghost use Rattle.probes.specs.Probes.{depth_figures, format_figures, on_luma, on_chroma, order_answer, available_answer};
 ghost use Rattle.probes.specs.Probes.{rule_answer, filter_answer, luma_answer};
+ghost use Rattle.probes.specs.Probes.{gathered_of, pair_references_of};
 ghost use Rattle.probes.specs.Probes.{rows_with, flags_with, substitute_answer, gather_answer, pair_answer};
+ghost use Rattle.refs.specs.Answers.{gathered};
 ghost use Rattle.checksum.specs.Checksum.{row_range};
 ghost use Rattle.probes.specs.Probes.{checksum_answer};
 ghost use Rattle.refs.specs.Door.{luma_geometry, chroma_geometry};
 
 use checksum::RowRange;
+use domain::refusal::Refusal;
+use domain::rows;
 use domain::rows::Rows;
-use fmt::depth::{BitDepth, DepthFrom};
-use fmt::{ChromaCol, ChromaFormat, ChromaRow, FormatFrom, LumaCol, LumaRow};
+use fmt::depth::BitDepth;
+use fmt::{ChromaCol, ChromaFormat, ChromaRow, LumaCol, LumaRow};
 use order::{LumaNeighbour, Picture};
 use refs::substitution::Flags;
 use refs::{ChromaRefGeometry, LumaRefGeometry, substitution};
@@ -37,14 +41,14 @@ pub extern "C" fn salvrunde_probe_depth(bits: u32) -> DepthFigures
     ensures { result ≡ depth_figures bits }
 {
     match BitDepth::from_bits(bits) {
-        DepthFrom::Depth(d) => DepthFigures {
+        Ok(d) => DepthFigures {
             no: 0,
             bits: d.bits() as u32,
             largest: d.max_val() as u32,
             neutral: d.neutral() as u32,
         },
-        DepthFrom::Refused => DepthFigures {
-            no: 1,
+        Err(why) => DepthFigures {
+            no: why.number(),
             bits: 0,
             largest: 0,
             neutral: 0,
@@ -66,12 +70,12 @@ pub extern "C" fn salvrunde_probe_format(idc: u32) -> FormatFigures
     ensures { result ≡ format_figures idc }
 {
     match ChromaFormat::from_idc(idc) {
-        FormatFrom::Format(f) => FormatFigures {
+        Some(f) => FormatFigures {
             known: 1,
             across: f.sub_w() as u32,
             down: f.sub_h() as u32,
         },
-        FormatFrom::Unknown => FormatFigures {
+        None => FormatFigures {
             known: 0,
             across: 1,
             down: 1,
@@ -94,7 +98,7 @@ pub extern "C" fn salvrunde_probe_on_luma(idc: u32, row: u32, col: u32) -> Place
     ensures { result ≡ on_luma idc row col }
 {
     match ChromaFormat::from_idc(idc) {
-        FormatFrom::Format(f) => {
+        Some(f) => {
             let r = f.luma_row(ChromaRow(row));
             let c = f.luma_col(ChromaCol(col));
             Place {
@@ -103,7 +107,7 @@ pub extern "C" fn salvrunde_probe_on_luma(idc: u32, row: u32, col: u32) -> Place
                 col: c.0,
             }
         }
-        FormatFrom::Unknown => Place {
+        None => Place {
             known: 0,
             row: 0,
             col: 0,
@@ -117,7 +121,7 @@ pub extern "C" fn salvrunde_probe_on_chroma(idc: u32, row: u32, col: u32) -> Pla
     ensures { result ≡ on_chroma idc row col }
 {
     match ChromaFormat::from_idc(idc) {
-        FormatFrom::Format(f) => {
+        Some(f) => {
             let r = f.chroma_row(LumaRow(row));
             let c = f.chroma_col(LumaCol(col));
             Place {
@@ -126,7 +130,7 @@ pub extern "C" fn salvrunde_probe_on_chroma(idc: u32, row: u32, col: u32) -> Pla
                 col: c.0,
             }
         }
-        FormatFrom::Unknown => Place {
+        None => Place {
             known: 0,
             row: 0,
             col: 0,
@@ -153,19 +157,18 @@ pub extern "C" fn salvrunde_probe_decode_order(
 ) -> Answer
     ensures { result ≡ order_answer row col width height ctu unit }
 {
-    let a = order::decode_order(
-        LumaRow(row),
-        LumaCol(col),
-        Picture {
-            width,
-            height,
-            ctu,
-            unit,
+    let picture = Picture {
+        width,
+        height,
+        ctu,
+        unit,
+    };
+    match order::decode_order(LumaRow(row), LumaCol(col), picture) {
+        Ok(value) => Answer { no: 0, value },
+        Err(why) => Answer {
+            no: why.number(),
+            value: 0,
         },
-    );
-    Answer {
-        no: a.no,
-        value: a.value,
     }
 }
 
@@ -184,20 +187,21 @@ pub extern "C" fn salvrunde_probe_is_available(
     ensures { result ≡ available_answer nr nc row col width height ctu unit }
 {
     let at = LumaNeighbour { row: nr, col: nc };
-    let a = order::is_available(
-        at,
-        LumaRow(row),
-        LumaCol(col),
-        Picture {
-            width,
-            height,
-            ctu,
-            unit,
+    let picture = Picture {
+        width,
+        height,
+        ctu,
+        unit,
+    };
+    match order::is_available(at, LumaRow(row), LumaCol(col), picture) {
+        Ok(yes) => Answer {
+            no: 0,
+            value: yes as u32,
         },
-    );
-    Answer {
-        no: a.no,
-        value: a.yes as u32,
+        Err(why) => Answer {
+            no: why.number(),
+            value: 0,
+        },
     }
 }
 
@@ -206,10 +210,15 @@ pub extern "C" fn salvrunde_probe_is_available(
 pub extern "C" fn salvrunde_probe_should_filter_refs(mode: u8, n: usize) -> Answer
     ensures { result ≡ rule_answer mode n }
 {
-    let a = smooth::should_filter_refs(mode, n);
-    Answer {
-        no: a.no,
-        value: a.yes as u32,
+    match smooth::should_filter_refs(mode, n) {
+        Ok(yes) => Answer {
+            no: 0,
+            value: yes as u32,
+        },
+        Err(why) => Answer {
+            no: why.number(),
+            value: 0,
+        },
     }
 }
 
@@ -231,13 +240,17 @@ pub extern "C" fn salvrunde_probe_filter_references(
 ) -> TwoRows
     ensures { result ≡ filter_answer corner above.now left.now n }
 {
-    let a = smooth::filter_references(corner, above, left, n);
-    let up = a.above;
-    let side = a.left;
-    TwoRows {
-        no: a.no,
-        above: up,
-        left: side,
+    match smooth::filter_references(corner, above, left, n) {
+        Ok(rows) => {
+            let above = rows.above;
+            let left = rows.left;
+            TwoRows { no: 0, above, left }
+        }
+        Err(why) => TwoRows {
+            no: why.number(),
+            above: [0u16; 65],
+            left: [0u16; 65],
+        },
     }
 }
 
@@ -261,14 +274,30 @@ pub extern "C" fn salvrunde_probe_filter_luma_refs(
 ) -> References
     ensures { result ≡ luma_answer corner above.now left.now n bits }
 {
-    let a = smooth::filter_luma_refs(corner, above, left, n, bits);
-    let up = a.rows.above;
-    let side = a.rows.left;
-    References {
-        no: a.no,
-        corner: a.rows.corner,
-        above: up,
-        left: side,
+    references_of(smooth::filter_luma_refs(corner, above, left, n, bits))
+}
+
+// What smoothing, a gather and substitution answer.
+fn references_of(answer: Result<Rows, Refusal>) -> References
+    ensures { result ≡ gathered_of (gathered answer) }
+{
+    match answer {
+        Ok(rows) => {
+            let above = rows.above;
+            let left = rows.left;
+            References {
+                no: 0,
+                corner: rows.corner,
+                above,
+                left,
+            }
+        }
+        Err(why) => References {
+            no: why.number(),
+            corner: 0,
+            above: [0; 65],
+            left: [0; 65],
+        },
     }
 }
 
@@ -297,15 +326,7 @@ pub extern "C" fn salvrunde_probe_substitute_refs(
         above: *has_above,
         left: *has_left,
     };
-    let a = substitution::substitute_refs(rows, flags, n, bits);
-    let up = a.rows.above;
-    let side = a.rows.left;
-    References {
-        no: a.no,
-        corner: a.rows.corner,
-        above: up,
-        left: side,
-    }
+    references_of(substitution::substitute_refs(rows, flags, n, bits))
 }
 
 #[unsafe(no_mangle)]
@@ -335,15 +356,7 @@ pub extern "C" fn salvrunde_probe_get_reference_samples(
         block_col: LumaCol(col),
         n,
     };
-    let a = refs::get_reference_samples(plane, geo);
-    let up = a.rows.above;
-    let side = a.rows.left;
-    References {
-        no: a.no,
-        corner: a.rows.corner,
-        above: up,
-        left: side,
-    }
+    references_of(refs::get_reference_samples(plane, geo))
 }
 
 // A call's number, and the corner and two rows of Cb and of Cr, zeros where it is refused.
@@ -357,6 +370,25 @@ pub struct PairReferences {
     pub cr_corner: u16,
     pub cr_above: [u16; 65],
     pub cr_left: [u16; 65],
+}
+
+// A number and two planes' rows, side by side.
+fn pair_of(no: u32, cb: Rows, cr: Rows) -> PairReferences
+    ensures { result ≡ pair_references_of (record { no = no; planes = cb ∷ cr ∷ [] }) }
+{
+    let cb_above = cb.above;
+    let cb_left = cb.left;
+    let cr_above = cr.above;
+    let cr_left = cr.left;
+    PairReferences {
+        no,
+        cb_corner: cb.corner,
+        cb_above,
+        cb_left,
+        cr_corner: cr.corner,
+        cr_above,
+        cr_left,
+    }
 }
 
 // The block's chroma place, then the luma place that is being decoded.
@@ -392,21 +424,9 @@ pub extern "C" fn salvrunde_probe_get_reference_samples_chroma_pair(
         cur_luma_row: LumaRow(cur_row),
         cur_luma_col: LumaCol(cur_col),
     };
-    let a = refs::get_reference_samples_chroma_pair(plane_cb, plane_cr, geo);
-    let cb = a.planes[0];
-    let cr = a.planes[1];
-    let cb_above = cb.above;
-    let cb_left = cb.left;
-    let cr_above = cr.above;
-    let cr_left = cr.left;
-    PairReferences {
-        no: a.no,
-        cb_corner: cb.corner,
-        cb_above,
-        cb_left,
-        cr_corner: cr.corner,
-        cr_above,
-        cr_left,
+    match refs::get_reference_samples_chroma_pair(plane_cb, plane_cr, geo) {
+        Ok(planes) => pair_of(0, planes[0], planes[1]),
+        Err(why) => pair_of(why.number(), rows::level_rows(0), rows::level_rows(0)),
     }
 }
 
@@ -429,9 +449,11 @@ pub extern "C" fn salvrunde_probe_picture_checksum(
         first,
         end,
     };
-    let a = checksum::picture_checksum(plane, range, sum);
-    Answer {
-        no: a.no,
-        value: a.sum,
+    match checksum::picture_checksum(plane, range, sum) {
+        Ok(value) => Answer { no: 0, value },
+        Err(why) => Answer {
+            no: why.number(),
+            value: 0,
+        },
     }
 }

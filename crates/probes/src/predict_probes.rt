@@ -11,8 +11,10 @@ ghost use Rattle.h265.specs.Prediction.{pred_samples};
 ghost use Rattle.predict.specs.Contents.{chroma_at};
 ghost use Rattle.predict.specs.Lent.{len, mut_len, with_tables, with_scratch, lent_neighbours, Predicts, Untouched};
 ghost use Rattle.choose.specs.Choose.{mode_sum, choose_no, Chooses, lends, ScratchKept};
-ghost use Rattle.probes.specs.Probes.{chosen_of};
+ghost use Rattle.probes.specs.Probes.{chosen_of, choice_of};
 
+use choose::Best;
+use domain::refusal::{Refusal, no_of};
 use domain::rows::Rows;
 use predict::{angular, planar_dc, scratch_angular, scratch_predict};
 
@@ -26,7 +28,7 @@ pub extern "C" fn salvrunde_probe_predict_planar_into(
     ensures { (result ≡ flat_no n (len above) (len left) (mut_len pred))
         × Predicts result n (planar n (lent_neighbours 0 above left)) pred }
 {
-    planar_dc::predict_planar_into(above, left, n, &mut *pred)
+    no_of(planar_dc::predict_planar_into(above, left, n, &mut *pred))
 }
 
 #[unsafe(no_mangle)]
@@ -40,7 +42,7 @@ pub extern "C" fn salvrunde_probe_predict_dc_into(
     ensures { (result ≡ flat_no n (len above) (len left) (mut_len pred))
         × Predicts result n (dc filter_boundary n (lent_neighbours 0 above left)) pred }
 {
-    planar_dc::predict_dc_into(above, left, n, filter_boundary, &mut *pred)
+    no_of(planar_dc::predict_dc_into(above, left, n, filter_boundary, &mut *pred))
 }
 
 #[unsafe(no_mangle)]
@@ -61,7 +63,7 @@ pub extern "C" fn salvrunde_probe_predict_angular_slices(
         × (Predicts result n (angular bits filter_boundary n mode (lent_neighbours corner above left)) pred
         × ((result ≡ 0 → ⊥) → Untouched refs indices fractions)) }
 {
-    angular::predict_angular_slices(
+    no_of(angular::predict_angular_slices(
         corner,
         above,
         left,
@@ -73,7 +75,7 @@ pub extern "C" fn salvrunde_probe_predict_angular_slices(
         &mut *refs,
         &mut *indices,
         &mut *fractions,
-    )
+    ))
 }
 
 #[unsafe(no_mangle)]
@@ -86,7 +88,7 @@ pub extern "C" fn salvrunde_probe_compute_residual_i32_into(
     ensures { (result ≡ residual_no n (len orig) (len pred) (length residual.old))
         × (residual.new ≡ residuals_after n orig.now pred.now residual.old) }
 {
-    residual::compute_residual_i32_into(orig, pred, n, &mut *residual)
+    no_of(residual::compute_residual_i32_into(orig, pred, n, &mut *residual))
 }
 
 #[unsafe(no_mangle)]
@@ -100,7 +102,7 @@ pub extern "C" fn salvrunde_probe_reconstruct_into(
     ensures { (result ≡ reconstruct_no bits n (len pred) residual.now (mut_len out))
         × (out.new ≡ reconstructed bits n pred.now residual.now out.old) }
 {
-    residual::reconstruct_into(pred, residual, n, bits, &mut *out)
+    no_of(residual::reconstruct_into(pred, residual, n, bits, &mut *out))
 }
 
 #[unsafe(no_mangle)]
@@ -120,7 +122,7 @@ pub extern "C" fn salvrunde_probe_predict_chroma_tb_slices(
         × (Predicts result n (pred_samples (chroma_at bits) first_edition_strong n mode (lent_neighbours corner above left)) pred
         × ((result ≡ 0 → ⊥) → Untouched refs indices fractions)) }
 {
-    predict::predict_chroma_tb_slices(
+    no_of(predict::predict_chroma_tb_slices(
         mode,
         corner,
         above,
@@ -131,7 +133,7 @@ pub extern "C" fn salvrunde_probe_predict_chroma_tb_slices(
         &mut *refs,
         &mut *indices,
         &mut *fractions,
-    )
+    ))
 }
 
 #[unsafe(no_mangle)]
@@ -156,7 +158,7 @@ pub extern "C" fn salvrunde_probe_predict_luma_tb_slices(
         above: *above,
         left: *left,
     };
-    predict::predict_luma_tb_slices(
+    no_of(predict::predict_luma_tb_slices(
         mode,
         rows,
         n,
@@ -165,7 +167,7 @@ pub extern "C" fn salvrunde_probe_predict_luma_tb_slices(
         &mut *refs,
         &mut *indices,
         &mut *fractions,
-    )
+    ))
 }
 
 // The same three through the struct of the scratch's tables, which each makes for itself.
@@ -183,7 +185,7 @@ pub extern "C" fn salvrunde_probe_predict_angular_scratch(
     ensures { (result ≡ angular_no bits n mode (with_scratch (len above) (len left) (mut_len pred)))
         × Predicts result n (angular bits filter_boundary n mode (lent_neighbours corner above left)) pred }
 {
-    scratch_angular::predict_angular_fresh(
+    no_of(scratch_angular::predict_angular_fresh(
         corner,
         above,
         left,
@@ -192,7 +194,7 @@ pub extern "C" fn salvrunde_probe_predict_angular_scratch(
         filter_boundary,
         bits,
         &mut *pred,
-    )
+    ))
 }
 
 #[unsafe(no_mangle)]
@@ -208,7 +210,7 @@ pub extern "C" fn salvrunde_probe_predict_chroma_tb_scratch(
     ensures { (result ≡ predict_no bits n mode (with_scratch (len above) (len left) (mut_len pred)))
         × Predicts result n (pred_samples (chroma_at bits) first_edition_strong n mode (lent_neighbours corner above left)) pred }
 {
-    scratch_predict::predict_chroma_tb_fresh(mode, corner, above, left, n, bits, &mut *pred)
+    no_of(scratch_predict::predict_chroma_tb_fresh(mode, corner, above, left, n, bits, &mut *pred))
 }
 
 #[unsafe(no_mangle)]
@@ -229,7 +231,7 @@ pub extern "C" fn salvrunde_probe_predict_luma_tb_scratch(
         above: *above,
         left: *left,
     };
-    scratch_predict::predict_luma_tb_fresh(mode, rows, n, bits, &mut *pred)
+    no_of(scratch_predict::predict_luma_tb_fresh(mode, rows, n, bits, &mut *pred))
 }
 
 // A chosen mode and its sum, both 0 where the call is refused.
@@ -239,6 +241,24 @@ pub struct Choice {
     pub no: u32,
     pub mode: u32,
     pub sum: u32,
+}
+
+// A choice, as it is handed over.
+fn handed_over(answer: Result<Best, Refusal>) -> Choice
+    ensures { result ≡ choice_of answer }
+{
+    match answer {
+        Ok(best) => Choice {
+            no: 0,
+            mode: best.mode as u32,
+            sum: best.sum,
+        },
+        Err(why) => Choice {
+            no: why.number(),
+            mode: 0,
+            sum: 0,
+        },
+    }
 }
 
 #[unsafe(no_mangle)]
@@ -258,7 +278,7 @@ pub extern "C" fn salvrunde_probe_choose_mode(
         (mode_sum bits n (lent_neighbours corner above left) source.now) (chosen_of result)
         × ((result.no ≡ 0 → ⊥) → ScratchKept pred refs indices fractions) }
 {
-    let a = choose::choose_mode(
+    handed_over(choose::choose_mode(
         corner,
         above,
         left,
@@ -269,12 +289,7 @@ pub extern "C" fn salvrunde_probe_choose_mode(
         &mut *refs,
         &mut *indices,
         &mut *fractions,
-    );
-    Choice {
-        no: a.no,
-        mode: a.mode as u32,
-        sum: a.sum,
-    }
+    ))
 }
 
 #[unsafe(no_mangle)]
@@ -294,7 +309,7 @@ pub extern "C" fn salvrunde_probe_choose_early(
         (mode_sum bits n (lent_neighbours corner above left) source.now) (chosen_of result)
         × ((result.no ≡ 0 → ⊥) → ScratchKept pred refs indices fractions) }
 {
-    let a = choose::choose_early(
+    handed_over(choose::choose_early(
         corner,
         above,
         left,
@@ -305,10 +320,5 @@ pub extern "C" fn salvrunde_probe_choose_early(
         &mut *refs,
         &mut *indices,
         &mut *fractions,
-    );
-    Choice {
-        no: a.no,
-        mode: a.mode as u32,
-        sum: a.sum,
-    }
+    ))
 }

@@ -2,6 +2,7 @@
 // as plain numbers. Rests on the doors' contracts.
 ghost use Rattle.std.specs.Prelude.{◌≡◌};
 ghost use Rattle.plan.specs.tiling.Plan.{listed};
+ghost use Rattle.walk.specs.Answers.{stepped_of};
 ghost use Rattle.walk.specs.Lent.{scratch_tables, lent_plan, world_before, world_after};
 ghost use Rattle.probes.specs.walk_probes.Probes.{plan_answer, still_of, progress_of, step_answer};
 ghost use Rattle.probes.specs.walk_probes.Probes.{ProbeReplay, ProbeReplayLent, ProbeWalk, ProbeWalkLent};
@@ -9,7 +10,7 @@ ghost use Rattle.probes.specs.walk_probes.Probes.{ProbeReplay, ProbeReplayLent, 
 use plan::tiling::{Block, Frame};
 use predict::scratch::AngularScratch;
 use walk::checks::Still;
-use walk::{Progress, Stepped};
+use walk::{Advance, Progress, Rejected};
 
 // A plan's number, and the list number of the block that it is about.
 #[repr(C)]
@@ -31,10 +32,12 @@ pub extern "C" fn salvrunde_probe_check_plan(
 ) -> PlanAnswer
     ensures { result ≡ plan_answer width height ctu (lent_plan rows cols sides modes) }
 {
-    let a = plan::check_plan_numbers(Frame { width, height, ctu }, rows, cols, sides, modes);
-    PlanAnswer {
-        no: a.no,
-        block: a.block,
+    match plan::check_plan_numbers(Frame { width, height, ctu }, rows, cols, sides, modes) {
+        Ok(()) => PlanAnswer { no: 0, block: 0 },
+        Err(fault) => PlanAnswer {
+            no: fault.why.number(),
+            block: fault.block,
+        },
     }
 }
 
@@ -86,12 +89,7 @@ pub extern "C" fn salvrunde_probe_walk(
         &mut *fractions,
         grant,
     );
-    StepAnswer {
-        no: a.no,
-        block: a.block,
-        did: a.did,
-        done: a.next.done,
-    }
+    step_answer(a)
 }
 
 #[unsafe(no_mangle)]
@@ -130,12 +128,7 @@ pub extern "C" fn salvrunde_probe_replay(
         &mut *fractions,
         grant,
     );
-    StepAnswer {
-        no: a.no,
-        block: a.block,
-        did: a.did,
-        done: a.next.done,
-    }
+    step_answer(a)
 }
 
 fn progress_of(done: u32) -> Progress
@@ -151,14 +144,22 @@ fn still_of(bits: u32, width: u32, height: u32, ctu: u32) -> Still
     Still { bits, frame }
 }
 
-fn step_answer(a: Stepped) -> StepAnswer
-    ensures { result ≡ step_answer a }
+fn step_answer(a: Result<Advance, Rejected>) -> StepAnswer
+    ensures { result ≡ step_answer (stepped_of a) }
 {
-    StepAnswer {
-        no: a.no,
-        block: a.block,
-        did: a.did,
-        done: a.next.done,
+    match a {
+        Ok(advance) => StepAnswer {
+            no: 0,
+            block: 0,
+            did: advance.did,
+            done: advance.next.done,
+        },
+        Err(rejected) => StepAnswer {
+            no: rejected.fault.why.number(),
+            block: rejected.fault.block,
+            did: 0,
+            done: rejected.progress.done,
+        },
     }
 }
 

@@ -4,7 +4,7 @@
 -- `a.1.0` the second; `b`, `c` and `d` begin with the fifth, the ninth and the thirteenth. tests/doors finds a public function that
 -- gives a number and has no theorem here. What a refusal leaves: tables/Refused and run_tables/Refused. Rests on the rows of tables and
 -- run_tables.
-use Rattle.std.specs.Prelude.{◌≡◌, refl, List, ℕ, length}
+use Rattle.std.specs.Prelude.{◌≡◌, refl, Bool, true, false, cond, List, ℕ, leb, eqb, length, Result, Ok, Err}
 use Rattle.std.proofs.Common.{sym, ◌∙◌, subst}
 use Rattle.std.proofs.Math.Path.{ap}
 use seplogic.Ra.Ura.{Ura}
@@ -16,16 +16,26 @@ use contract.Lifetimes.{Lfts}
 use contract.Monad.{Fun, fact, fact_mono}
 use denote.Triple.Clauses.{Ended, AtExit, Clauses}
 use denote.Triple.Entry.{Args, Res}
-use Rattle.fmt.specs.declared.depth.DepthFrom.{DepthFrom}
-use Rattle.fmt.specs.declared.depth.DepthFrom.TheVariants.{Depth, Refused}
+use Rattle.domain.specs.declared.refusal.Refusal.{Refusal}
+use Rattle.domain.specs.Refusal.{no_of}
+use Rattle.domain.specs.Refused.{never_0}
+use Rattle.std.proofs.lemmas.Bool.{eqb-false}
+use Rattle.fmt.specs.declared.depth.BitDepth.{BitDepth}
 use Rattle.fmt.specs.depth.Depth.{depth_from, depth_number}
 use Rattle.refs.specs.Door.{luma_block, luma_geometry, chroma_block, chroma_geometry}
 use Rattle.checksum.specs.Checksum.{row_range}
-use Rattle.errors.specs.declared.Counted.{Counted}
+use Rattle.errors.specs.Answers.{Counted, counted_of}
 use Rattle.errors.specs.Errors.{counted_by}
 use Rattle.errors.specs.RecordBytes.{Entered, count_entry}
 use Rattle.predict.specs.refusals.Refusals.{lengths}
-use Rattle.plan.specs.declared.tiling.Verdict.{Verdict}
+use Rattle.plan.specs.declared.tiling.Fault.{Fault}
+use Rattle.plan.specs.Answers.{Verdict, verdict_of}
+use Rattle.plan.specs.tiling.PlanCheck.{plan_verdict}
+use Rattle.walk.specs.declared.Advance.{Advance}
+use Rattle.walk.specs.Answers.{stepped_of, step_in}
+use Rattle.walk.specs.checks.Checks.{settle}
+use Rattle.walk.specs.calls.Steps.{step_of, step_granted, step_refused}
+use Rattle.plan.proofs.check.Reads as plan-check
 use Rattle.plan.specs.tiling.Plan.{plan_of, listed}
 use Rattle.walk.specs.declared.checks.Still.{Still}
 use Rattle.walk.specs.Lent.{tables, scratch_tables, world}
@@ -130,7 +140,7 @@ use Rattle.probes.specs.contracts.walk_probes.salvrunde_probe_replay_records as 
 use Rattle.probes.proofs.walk_probes.salvrunde_probe_walk.Reads as walk-probes-salvrunde-probe-walk
 use Rattle.probes.specs.contracts.walk_probes.salvrunde_probe_walk_records as walk-probes-salvrunde-probe-walk-records
 use Rattle.refs.proofs.chroma_layout.Reads as refs-chroma-layout
-use Rattle.refs.proofs.gather_no.Reads as refs-gather-no
+use Rattle.refs.proofs.check_gather.Reads as refs-check-gather
 use Rattle.refs.proofs.get_reference_samples.Reads as refs-get-reference-samples
 use Rattle.refs.proofs.get_reference_samples_chroma_pair.Reads as refs-get-reference-samples-chroma-pair
 use Rattle.refs.proofs.luma_layout.Reads as refs-luma-layout
@@ -145,8 +155,8 @@ use Rattle.walk.specs.contracts.Progress.replay as walk-replay
 use Rattle.walk.proofs.Progress.replay_numbers.Reads as walk-replay-numbers
 use Rattle.walk.specs.contracts.Progress.walk as walk-walk
 use Rattle.walk.proofs.Progress.walk_numbers.Reads as walk-walk-numbers
-use Rattle.walk.proofs.checks.opening_no.Reads as checks-opening-no
-use Rattle.walk.proofs.checks.settled.Reads as checks-settled
+use Rattle.walk.proofs.checks.check_opening.Reads as checks-check-opening
+use Rattle.walk.proofs.granted.Reads as walk-granted
 
 -- the number in every answer that meets a contract, by the rows of a theorem
 record Tabled {A X S : Type 0} (post : A → X → S → Type 0) (number : X → ℕ) {of : A → ℕ} {rows : A → List (Row ℕ)}
@@ -174,56 +184,56 @@ abbrev Prints : {A S : Type 0} → (A → Printout → S → Type 0) → (A → 
 Prints {A} {S} post input = (a : A) (x : Printout) (s : S) → post a x s → (x ≡ report_of (input a)) × ProgramTable (input a)
 
 -- a depth's figures have the number of the answer that they are read from
-figures_number : (d : DepthFrom) → (figures_of d).no ≡ depth_number d
-figures_number (Depth d) = refl
-figures_number Refused = refl
+figures_number : (d : Result BitDepth Refusal) → (figures_of d).no ≡ depth_number d
+figures_number (Ok d) = refl
+figures_number (Err why) = refl
 
 -- fmt
 depth_from_bits_row : Tabled (depth-from-bits.Post tt) depth_number (λ a. depth-from a.0)
 depth_from_bits_row = tabled (λ a x s p. ap depth_number p)
 
 -- order
-order_decode_order_row : Tabled (order-decode-order.Post tt) (λ r. r.no) (λ a. decode-order a.1.1.0 a.0 a.1.0)
+order_decode_order_row : Tabled (order-decode-order.Post tt) (λ r. no_of r) (λ a. decode-order a.1.1.0 a.0 a.1.0)
 order_decode_order_row = tabled (λ a x s p. ap (λ r. r.no) p)
 
-order_is_available_row : Tabled (order-is-available.Post tt) (λ r. r.no) (λ a. is-available a.1.1.1.0 a.1.0 a.1.1.0 a.0)
+order_is_available_row : Tabled (order-is-available.Post tt) (λ r. no_of r) (λ a. is-available a.1.1.1.0 a.1.0 a.1.1.0 a.0)
 order_is_available_row = tabled (λ a x s p. ap (λ r. r.no) p)
 
-order_luma_reach_row : Tabled (order-luma-reach.Post tt) (λ r. r.no) (λ a. luma-reach a.0)
+order_luma_reach_row : Tabled (order-luma-reach.Post tt) (λ r. no_of r) (λ a. luma-reach a.0)
 order_luma_reach_row = tabled (λ a x s p. ap (λ r. r.no) p)
 
-order_chroma_reach_row : Tabled (order-chroma-reach.Post tt) (λ r. r.no) (λ a. chroma-reach a.0)
+order_chroma_reach_row : Tabled (order-chroma-reach.Post tt) (λ r. no_of r) (λ a. chroma-reach a.0)
 order_chroma_reach_row = tabled (λ a x s p. ap (λ r. r.no) p)
 
 -- refs
-substitution_substitute_refs_row : Tabled (substitution-substitute-refs.Post tt) (λ r. r.no)
+substitution_substitute_refs_row : Tabled (substitution-substitute-refs.Post tt) (λ r. no_of r)
     (λ a. substitute-refs a.0 a.1.0 a.1.1.0 a.1.1.1.0)
 substitution_substitute_refs_row = tabled (λ a x s p. ap (λ r. r.no) p)
 
-refs_gather_no_row : TabledFirst (refs-gather-no.Post tt) (λ a r. r) (λ a. gather_number a.0 a.1.0 a.1.1.0)
-refs_gather_no_row = tabled_first (λ a x s p. p)
+refs_check_gather_row : TabledFirst (refs-check-gather.Post tt) (λ a r. no_of r) (λ a. gather_number a.0 (no_of a.1.0) a.1.1.0)
+refs_check_gather_row = tabled_first (λ a x s p. p.0)
 
-refs_luma_layout_row : Tabled (refs-luma-layout.Post tt) (λ r. r.reach.no) (λ a. luma-reach (luma_block a.0))
+refs_luma_layout_row : Tabled (refs-luma-layout.Post tt) (λ r. no_of r.reach) (λ a. luma-reach (luma_block a.0))
 refs_luma_layout_row = tabled (λ a x s p. ap (λ r. r.reach.no) p)
 
-refs_chroma_layout_row : Tabled (refs-chroma-layout.Post tt) (λ r. r.reach.no) (λ a. chroma-reach (chroma_block a.0))
+refs_chroma_layout_row : Tabled (refs-chroma-layout.Post tt) (λ r. no_of r.reach) (λ a. chroma-reach (chroma_block a.0))
 refs_chroma_layout_row = tabled (λ a x s p. ap (λ r. r.reach.no) p)
 
 refs_get_reference_samples_row : (κs : Lfts 1)
-    → Tabled (refs-get-reference-samples.Post κs) (λ r. r.no) (λ a. luma_gather a.0.now a.1.0)
+    → Tabled (refs-get-reference-samples.Post κs) (λ r. no_of r) (λ a. luma_gather a.0.now a.1.0)
 refs_get_reference_samples_row κs = tabled (λ a x s p. ap (λ r. r.no) p)
 
 refs_get_reference_samples_chroma_pair_row : (κs : Lfts 2)
-    → Tabled (refs-get-reference-samples-chroma-pair.Post κs) (λ r. r.no) (λ a. chroma_gather a.0.now a.1.0.now a.1.1.0)
+    → Tabled (refs-get-reference-samples-chroma-pair.Post κs) (λ r. no_of r) (λ a. chroma_gather a.0.now a.1.0.now a.1.1.0)
 refs_get_reference_samples_chroma_pair_row κs = tabled (λ a x s p. ap (λ r. r.no) p)
 
 -- checksum
 checksum_picture_checksum_row : (κs : Lfts 1)
-    → Tabled (checksum-picture-checksum.Post κs) (λ r. r.no) (λ a. sums.picture-checksum a.1.0 a.0.now a.1.1.0)
+    → Tabled (checksum-picture-checksum.Post κs) (λ r. no_of r) (λ a. sums.picture-checksum a.1.0 a.0.now a.1.1.0)
 checksum_picture_checksum_row κs = tabled (λ a x s p. ap (λ r. r.no) p)
 
 on_bytes_picture_checksum_bytes_row : (κs : Lfts 1)
-    → Tabled (on-bytes-picture-checksum-bytes.Post κs) (λ r. r.no)
+    → Tabled (on-bytes-picture-checksum-bytes.Post κs) (λ r. no_of r)
     (λ a. sums.picture_checksum_bytes a.1.0 a.1.1.1.0 a.0.now a.1.1.0)
 on_bytes_picture_checksum_bytes_row κs = tabled (λ a x s p. ap (λ r. r.no) p)
 
@@ -232,7 +242,7 @@ abbrev counted_in : Counted → Verdict
 counted_in v = about v.no v.block
 
 errors_count_numbers_row : (κs : Lfts 6)
-    → TabledFirst (errors-count-numbers.Post κs) (λ a r. counted_in r)
+    → TabledFirst (errors-count-numbers.Post κs) (λ a r. counted_in (counted_of r))
     (λ a. let b = a.1.1.1.1 in
     pairs.count-pair a.0 a.1.0.now a.1.1.0.now
     (plan_of a.1.1.1.0.now b.0.now b.1.0.now b.1.1.0.now))
@@ -240,12 +250,12 @@ unfolding counted_by
 errors_count_numbers_row κs = tabled_first (λ a x s p. ap counted_in p)
 
 on_bytes_count_bytes_row : (κs : Lfts 3)
-    → TabledFirst (on-bytes-count-bytes.Post κs) (λ a r. counted_in r)
+    → TabledFirst (on-bytes-count-bytes.Post κs) (λ a r. counted_in (counted_of r))
     (λ a. pairs.count-bytes a.0 a.1.0.now a.1.1.0.now a.1.1.1.0.now)
 unfolding counted_by
 on_bytes_count_bytes_row κs = tabled_first (λ a x s p. ap counted_in p)
 
-errors_join_row : Tabled (errors-join.Post tt) (λ r. r.no) (λ a. pairs.join a.0 a.1.0)
+errors_join_row : Tabled (errors-join.Post tt) (λ r. (counted_of r).no) (λ a. pairs.join a.0 a.1.0)
 errors_join_row = tabled (λ a x s p. ap (λ r. r.no) p)
 
 -- the number that an entry gives, with its block
@@ -266,56 +276,56 @@ record_join_into_row : (κs : Lfts 2)
 record_join_into_row κs = tabled (λ a x s p. ap (λ (w : Entered). w.number) p)
 
 -- smooth
-smooth_should_filter_refs_row : Tabled (smooth-should-filter-refs.Post tt) (λ r. r.no) (λ a. should-filter-refs a.0 a.1.0)
+smooth_should_filter_refs_row : Tabled (smooth-should-filter-refs.Post tt) (λ r. no_of r) (λ a. should-filter-refs a.0 a.1.0)
 smooth_should_filter_refs_row = tabled (λ a x s p. ap (λ r. r.no) p)
 
 smooth_filter_references_row : (κs : Lfts 2)
-    → Tabled (smooth-filter-references.Post κs) (λ r. r.no)
+    → Tabled (smooth-filter-references.Post κs) (λ r. no_of r)
     (λ a. filter-references a.0 a.1.0.now a.1.1.0.now a.1.1.1.0)
 smooth_filter_references_row κs = tabled (λ a x s p. ap (λ r. r.no) p)
 
 smooth_filter_luma_refs_row : (κs : Lfts 2)
-    → Tabled (smooth-filter-luma-refs.Post κs) (λ r. r.no)
+    → Tabled (smooth-filter-luma-refs.Post κs) (λ r. no_of r)
     (λ a. let b = a.1.1.1.1 in filter-luma-refs a.0 a.1.0.now a.1.1.0.now a.1.1.1.0 b.0)
 smooth_filter_luma_refs_row κs = tabled (λ a x s p. ap (λ r. r.no) p)
 
 -- predict
 planar_dc_predict_planar_into_row : (κs : Lfts 3)
-    → Tabled (planar-dc-predict-planar-into.Post κs) (λ r. r)
+    → Tabled (planar-dc-predict-planar-into.Post κs) (λ r. no_of r)
     (λ a. predict_flat a.1.1.0 a.0.now a.1.0.now a.1.1.1.0.now)
 planar_dc_predict_planar_into_row κs = tabled (λ a x s p. p.0)
 
 planar_dc_predict_dc_into_row : (κs : Lfts 3)
-    → Tabled (planar-dc-predict-dc-into.Post κs) (λ r. r)
+    → Tabled (planar-dc-predict-dc-into.Post κs) (λ r. no_of r)
     (λ a. let b = a.1.1.1.1 in predict_flat a.1.1.0 a.0.now a.1.0.now b.0.now)
 planar_dc_predict_dc_into_row κs = tabled (λ a x s p. p.0)
 
 angular_predict_angular_slices_row : (κs : Lfts 6)
-    → Tabled (angular-predict-angular-slices.Post κs) (λ r. r)
+    → Tabled (angular-predict-angular-slices.Post κs) (λ r. no_of r)
     (λ a. let b = a.1.1.1.1 in let c = b.1.1.1.1 in
     predict_angular b.1.1.0 a.1.1.1.0 b.0 (lengths (length a.1.0.now) (length a.1.1.0.now) (length b.1.1.1.0.now) (length c.0.now) (length c.1.0.now) (length c.1.1.0.now)))
 angular_predict_angular_slices_row κs = tabled (λ a x s p. p.0)
 
 angular_vertical_refs_row : (κs : Lfts 3)
-    → Tabled (angular-vertical-refs.Post κs) (λ r. r)
+    → Tabled (angular-vertical-refs.Post κs) (λ r. no_of r)
     (λ a. let b = a.1.1.1.1 in vertical_refs a.1.1.1.0 b.0 a.1.0.now a.1.1.0.now b.1.0.now)
 angular_vertical_refs_row κs = tabled (λ a x s p. p.0)
 
 angular_vertical_rows_row : (κs : Lfts 3)
-    → Tabled (angular-vertical-rows.Post κs) (λ r. r)
+    → Tabled (angular-vertical-rows.Post κs) (λ r. no_of r)
     (λ a. let b = a.1.1.1.1 in
     vertical_rows a.1.1.0 a.1.1.1.0 b.0 b.1.0 a.0.now a.1.0.now b.1.1.0.now)
 angular_vertical_rows_row κs = tabled (λ a x s p. p.0)
 
 predict_predict_chroma_tb_slices_row : (κs : Lfts 6)
-    → Tabled (predict-predict-chroma-tb-slices.Post κs) (λ r. r)
+    → Tabled (predict-predict-chroma-tb-slices.Post κs) (λ r. no_of r)
     (λ a. let b = a.1.1.1.1 in let c = b.1.1.1.1 in
     predict_chroma b.1.0 b.0 a.0 (lengths (length a.1.1.0.now) (length a.1.1.1.0.now) (length b.1.1.0.now)
     (length b.1.1.1.0.now) (length c.0.now) (length c.1.0.now)))
 predict_predict_chroma_tb_slices_row κs = tabled (λ a x s p. p.0)
 
 predict_predict_luma_tb_slices_row : (κs : Lfts 4)
-    → Tabled (predict-predict-luma-tb-slices.Post κs) (λ r. r)
+    → Tabled (predict-predict-luma-tb-slices.Post κs) (λ r. no_of r)
     (λ a. let b = a.1.1.1.1 in
     predict_luma a.1.1.1.0 a.1.1.0 a.0 (length b.0.now) (length b.1.0.now) (length b.1.1.0.now) (length
     b.1.1.1.0.now))
@@ -323,70 +333,100 @@ predict_predict_luma_tb_slices_row κs = tabled (λ a x s p. p.0)
 
 -- choose
 choose_choose_mode_row : (κs : Lfts 7)
-    → Tabled (choose-choose-mode.Post κs) (λ r. r.no)
+    → Tabled (choose-choose-mode.Post κs) (λ r. no_of r)
     (λ a. let b = a.1.1.1.1 in let c = b.1.1.1.1 in
     choose_mode b.1.0 b.0 a.1.1.1.0.now (lengths (length a.1.0.now) (length a.1.1.0.now) (length b.1.1.0.now) (length b.1.1.1.0.now) (length c.0.now) (length c.1.0.now)))
 choose_choose_mode_row κs = tabled (λ a x s p. p.0.number)
 
 choose_choose_early_row : (κs : Lfts 7)
-    → Tabled (choose-choose-early.Post κs) (λ r. r.no)
+    → Tabled (choose-choose-early.Post κs) (λ r. no_of r)
     (λ a. let b = a.1.1.1.1 in let c = b.1.1.1.1 in
     choose_mode b.1.0 b.0 a.1.1.1.0.now (lengths (length a.1.0.now) (length a.1.1.0.now) (length b.1.1.0.now) (length b.1.1.1.0.now) (length c.0.now) (length c.1.0.now)))
 choose_choose_early_row κs = tabled (λ a x s p. p.0.number)
 
 scratch_angular_predict_angular_fresh_row : (κs : Lfts 3)
-    → Tabled (scratch-angular-predict-angular-fresh.Post κs) (λ r. r)
+    → Tabled (scratch-angular-predict-angular-fresh.Post κs) (λ r. no_of r)
     (λ a. let b = a.1.1.1.1 in
     predict_angular_scratch b.1.1.0 a.1.1.1.0 b.0 (length a.1.0.now) (length a.1.1.0.now) (length b.1.1.1.0.now))
 scratch_angular_predict_angular_fresh_row κs = tabled (λ a x s p. p.0)
 
 scratch_predict_predict_chroma_tb_fresh_row : (κs : Lfts 3)
-    → Tabled (scratch-predict-predict-chroma-tb-fresh.Post κs) (λ r. r)
+    → Tabled (scratch-predict-predict-chroma-tb-fresh.Post κs) (λ r. no_of r)
     (λ a. let b = a.1.1.1.1 in
     predict_chroma_scratch b.1.0 b.0 a.0 (length a.1.1.0.now) (length a.1.1.1.0.now) (length b.1.1.0.now))
 scratch_predict_predict_chroma_tb_fresh_row κs = tabled (λ a x s p. p.0)
 
 scratch_predict_predict_luma_tb_fresh_row : (κs : Lfts 1)
-    → Tabled (scratch-predict-predict-luma-tb-fresh.Post κs) (λ r. r)
+    → Tabled (scratch-predict-predict-luma-tb-fresh.Post κs) (λ r. no_of r)
     (λ a. let b = a.1.1.1.1 in predict_luma_scratch a.1.1.1.0 a.1.1.0 a.0 (length b.0.now))
 scratch_predict_predict_luma_tb_fresh_row κs = tabled (λ a x s p. p.0)
 
 -- residual
 residual_compute_residual_i32_into_row : (κs : Lfts 3)
-    → Tabled (residual-compute-residual-i32-into.Post κs) (λ r. r)
+    → Tabled (residual-compute-residual-i32-into.Post κs) (λ r. no_of r)
     (λ a. compute_residual a.1.1.0 a.0.now a.1.0.now a.1.1.1.0.now)
 residual_compute_residual_i32_into_row κs = tabled (λ a x s p. p.0)
 
 residual_reconstruct_into_row : (κs : Lfts 3)
-    → Tabled (residual-reconstruct-into.Post κs) (λ r. r)
+    → Tabled (residual-reconstruct-into.Post κs) (λ r. no_of r)
     (λ a. let b = a.1.1.1.1 in reconstruct a.1.1.1.0 a.1.1.0 a.0.now a.1.0.now b.0.now)
 residual_reconstruct_into_row κs = tabled (λ a x s p. p.0)
 
 -- plan
 plan_check_plan_numbers_row : (κs : Lfts 4)
-    → TabledFirst (plan-check-plan-numbers.Post κs) (λ a r. r)
+    → TabledFirst (plan-check-plan-numbers.Post κs) (λ a r. verdict_of r)
     (λ a. let b = a.1.1.1.1 in check_plan_numbers a.0 a.1.0.now a.1.1.0.now a.1.1.1.0.now b.0.now)
 plan_check_plan_numbers_row κs = tabled_first (λ a x s p. p)
 
 plan_check_plan_bytes_row : (κs : Lfts 1)
-    → TabledFirst (plan-check-plan-bytes.Post κs) (λ a r. r) (λ a. check_plan_bytes a.0 a.1.0.now)
+    → TabledFirst (plan-check-plan-bytes.Post κs) (λ a r. verdict_of r) (λ a. check_plan_bytes a.0 a.1.0.now)
 plan_check_plan_bytes_row κs = tabled_first (λ a x s p. p)
 
--- walk
-checks_opening_no_row : Tabled (checks-opening-no.Post tt) (λ r. r) (λ a. opening a.0 a.1.0)
-checks_opening_no_row = tabled (λ a x s p. p)
+-- of a plan in any form
+plan_check_row : (P : _) (laws : _) (copy : _) (blocks : _) (methods : _) (clone : _) (cloned : _) (κs : Lfts 1)
+    → TabledFirst (plan-check.Post P laws copy blocks methods clone cloned κs) (λ a r. verdict_of r)
+    (λ a. check_plan a.0 (blocks.plan a.1.0))
+plan_check_row P laws copy blocks methods clone cloned κs = tabled_first (λ a x s p. p)
 
-checks_settled_row : TabledFirst (checks-settled.Post tt) (λ a r. r) (λ a. settled a.1.1.0 a.1.0 a.0 a.1.1.1.0)
-checks_settled_row = tabled_first (λ a x s p. p)
+-- walk
+checks_check_opening_row : Tabled (checks-check-opening.Post tt) (λ r. no_of r) (λ a. opening a.0 a.1.0)
+checks_check_opening_row = tabled (λ a x s p. p)
+
+-- what a call that is granted says of its verdict
+granted_verdict : (v : Verdict) (count done grant : ℕ) → (v.no ≡ 0 → v.block ≡ 0) → (r : Result Advance Fault)
+    → step_in r ≡ step_of v count done grant → verdict_of r ≡ v
+granted_verdict v count done grant clean (Ok a) e =
+    let g = step_granted v count done grant e refl in λ i. record { no = sym g.0 i; block = sym (clean g.0) i }
+granted_verdict v count done grant clean (Err f) e = step_refused v count done grant e (never_0 f.why)
+
+settle_clean : (found : Verdict) (count done early : ℕ) → (settle found count done early).no ≡ 0 → (settle found count done early).block ≡ 0
+unfolding settle
+settle_clean found count done early = go (eqb early 0) (eqb found.no 0) refl refl
+  where
+    go : (a b : Bool) → eqb early 0 ≡ a → eqb found.no 0 ≡ b
+        → (cond a (cond b (record { no = cond (leb done count) 0 11; block = 0 }) found) (record { no = early; block = 0 })).no ≡ 0
+        → (cond a (cond b (record { no = cond (leb done count) 0 11; block = 0 }) found) (record { no = early; block = 0 })).block ≡ 0
+    go true true p q e = refl
+    go true false p q e = absurd (eqb-false found.no 0 q e)
+    go false b p q e = absurd (eqb-false early 0 p e)
+
+walk_granted_row : (P : _) (laws : _) (copy : _) (blocks : _) (methods : _) (clone : _) (cloned : _) (κs : Lfts 1)
+    → TabledFirst (walk-granted.Post P laws copy blocks methods clone cloned κs) (λ a r. verdict_of r)
+    (λ a. let plan = blocks.plan a.1.1.0 in settled (plan_verdict a.1.0 plan) plan.count a.0.done (no_of a.1.1.1.0))
+walk_granted_row P laws copy blocks methods clone cloned κs =
+    tabled_first
+    (λ a x s p. let plan = blocks.plan a.1.1.0 in
+    granted_verdict _ plan.count a.0.done a.1.1.1.1.0
+    (settle_clean (plan_verdict a.1.0 plan) plan.count a.0.done (no_of a.1.1.1.0)) x p)
 
 walk_replay_numbers_row : (κs : Lfts 9)
-    → TabledFirst (walk-replay-numbers.Post κs) (λ a r. verdict_in r)
+    → TabledFirst (walk-replay-numbers.Post κs) (λ a r. verdict_in (stepped_of r))
     (λ a. let b = a.1.1.1.1 in let c = b.1.1.1.1 in
     replay a.1.0 (plan_of a.1.1.0.now a.1.1.1.0.now b.0.now b.1.0.now) a.0 (tables c.0.now c.1.0.now c.1.1.0.now) c.1.1.1.0 b.1.1.0.now b.1.1.1.0.now)
 walk_replay_numbers_row κs = tabled_first (λ a x s p. ap verdict_in p.0)
 
 walk_walk_numbers_row : (κs : Lfts 10)
-    → TabledFirst (walk-walk-numbers.Post κs) (λ a r. verdict_in r)
+    → TabledFirst (walk-walk-numbers.Post κs) (λ a r. verdict_in (stepped_of r))
     (λ a. let b = a.1.1.1.1 in let c = b.1.1.1.1 in let d = c.1.1.1.1 in
     walk a.1.0 (plan_of a.1.1.0.now a.1.1.1.0.now b.0.now b.1.0.now) a.0 (tables c.1.0.now c.1.1.0.now c.1.1.1.0.now) d.0 b.1.1.0.now (world b.1.1.1.0.now c.0.now))
 walk_walk_numbers_row κs = tabled_first (λ a x s p. ap verdict_in p.0)
@@ -680,44 +720,44 @@ module _ {M : Type 1} {𝓤 : Ura M} (𝓛 : Logic 𝓤) (mem : Memory → SProp
 
   -- predict
   scratch_angular_predict_angular_into_row : (κs : Lfts 4)
-      → TabledHeld scratch-angular-predict-angular-into.ended κs (scratch-angular-predict-angular-into.clauses 𝓛 mem run) (λ r. r)
+      → TabledHeld scratch-angular-predict-angular-into.ended κs (scratch-angular-predict-angular-into.clauses 𝓛 mem run) (λ r. no_of r)
       (λ a. let b = a.1.1.1.1 in
       predict_angular_scratch b.1.1.0 a.1.1.1.0 b.0 (length a.1.0.now) (length a.1.1.0.now) (length b.1.1.1.0.now))
   scratch_angular_predict_angular_into_row κs = tabled_held (λ a g x s. fact_mono 𝓤 _ _ (λ p. p.0))
 
   scratch_predict_predict_chroma_tb_into_row : (κs : Lfts 4)
-      → TabledHeld scratch-predict-predict-chroma-tb-into.ended κs (scratch-predict-predict-chroma-tb-into.clauses 𝓛 mem run) (λ r. r)
+      → TabledHeld scratch-predict-predict-chroma-tb-into.ended κs (scratch-predict-predict-chroma-tb-into.clauses 𝓛 mem run) (λ r. no_of r)
       (λ a. let b = a.1.1.1.1 in
       predict_chroma_scratch b.1.0 b.0 a.0 (length a.1.1.0.now) (length a.1.1.1.0.now) (length b.1.1.0.now))
   scratch_predict_predict_chroma_tb_into_row κs = tabled_held (λ a g x s. fact_mono 𝓤 _ _ (λ p. p.0))
 
   scratch_predict_predict_luma_tb_into_row : (κs : Lfts 2)
-      → TabledHeld scratch-predict-predict-luma-tb-into.ended κs (scratch-predict-predict-luma-tb-into.clauses 𝓛 mem run) (λ r. r)
+      → TabledHeld scratch-predict-predict-luma-tb-into.ended κs (scratch-predict-predict-luma-tb-into.clauses 𝓛 mem run) (λ r. no_of r)
       (λ a. let b = a.1.1.1.1 in predict_luma_scratch a.1.1.1.0 a.1.1.0 a.0 (length b.0.now))
   scratch_predict_predict_luma_tb_into_row κs = tabled_held (λ a g x s. fact_mono 𝓤 _ _ (λ p. p.0))
 
   -- plan
   plan_check_plan_row : (κs : Lfts 1)
-      → TabledHeldFirst plan-check-plan.ended κs (plan-check-plan.clauses 𝓛 mem run) (λ a r. r)
+      → TabledHeldFirst plan-check-plan.ended κs (plan-check-plan.clauses 𝓛 mem run) (λ a r. verdict_of r)
       (λ a. check_plan a.0 (listed a.1.0.now))
   plan_check_plan_row κs = tabled_held_first (λ a g x s. fact_mono 𝓤 _ _ (λ p. p))
 
   -- errors
   errors_count_row : (κs : Lfts 3)
-      → TabledHeldFirst errors-count.ended κs (errors-count.clauses 𝓛 mem run) (λ a r. counted_in r)
+      → TabledHeldFirst errors-count.ended κs (errors-count.clauses 𝓛 mem run) (λ a r. counted_in (counted_of r))
       (λ a. pairs.count-pair a.0 a.1.0.now a.1.1.0.now (listed a.1.1.1.0.now))
   unfolding counted_by
   errors_count_row κs = tabled_held_first (λ a g x s. fact_mono 𝓤 _ _ (λ p. ap counted_in p))
 
   -- walk
   walk_replay_row : (κs : Lfts 4)
-      → TabledHeldFirst walk-replay.ended κs (walk-replay.clauses 𝓛 mem run) (λ a r. verdict_in r)
+      → TabledHeldFirst walk-replay.ended κs (walk-replay.clauses 𝓛 mem run) (λ a r. verdict_in (stepped_of r))
       (λ a. let b = a.1.1.1.1 in
       replay a.1.0 (listed a.1.1.0.now) a.0 scratch_tables b.1.1.0 a.1.1.1.0.now b.0.now)
   walk_replay_row κs = tabled_held_first (λ a g x s. fact_mono 𝓤 _ _ (λ p. ap verdict_in p.0))
 
   walk_walk_row : (κs : Lfts 5)
-      → TabledHeldFirst walk-walk.ended κs (walk-walk.clauses 𝓛 mem run) (λ a r. verdict_in r)
+      → TabledHeldFirst walk-walk.ended κs (walk-walk.clauses 𝓛 mem run) (λ a r. verdict_in (stepped_of r))
       (λ a. let b = a.1.1.1.1 in
       walk a.1.0 (listed a.1.1.0.now) a.0 scratch_tables b.1.1.1.0 a.1.1.1.0.now (world b.0.now b.1.0.now))
   walk_walk_row κs = tabled_held_first (λ a g x s. fact_mono 𝓤 _ _ (λ p. ap verdict_in p.0))

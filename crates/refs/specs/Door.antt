@@ -1,11 +1,9 @@
 -- Document 01: what the doors of the two gathers refuse, and what they give. Assumes nothing.
-use Rattle.std.specs.Prelude.{ℕ, ◌*◌, Bool, ◌&&◌, List, [], ◌∷◌, leb, eqb, length}
+use Rattle.std.specs.Prelude.{ℕ, ◌*◌, Bool, ◌&&◌, List, [], ◌∷◌, leb, eqb, length, Option, Some, None}
 use Rattle.laws.specs.Choose.{◌unless◌, first_fail, served}
 use Rattle.domain.specs.Domain.{depth_ok, size_ok}
 use Rattle.fmt.specs.declared.ChromaFormat.{ChromaFormat}
 use Rattle.fmt.specs.declared.ChromaFormat.TheVariants.{Monochrome}
-use Rattle.fmt.specs.declared.FormatFrom.{FormatFrom}
-use Rattle.fmt.specs.declared.FormatFrom.TheVariants.{Format, Unknown}
 use Rattle.fmt.specs.Fmt.{format_from}
 use Rattle.order.specs.declared.Picture.{Picture}
 use Rattle.order.specs.declared.LumaBlock.{LumaBlock}
@@ -13,8 +11,7 @@ use Rattle.order.specs.declared.ChromaBlock.{ChromaBlock}
 use Rattle.order.specs.Order.{picture_ok}
 use Rattle.order.specs.Reach.{luma_place_ok, luma_has, chroma_place_ok, chroma_has, chroma_height, chroma_width}
 use Rattle.domain.specs.declared.rows.Rows.{Rows}
-use Rattle.domain.specs.declared.rows.Gathered.{Gathered}
-use Rattle.refs.specs.declared.GatheredPair.{GatheredPair}
+use Rattle.refs.specs.Answers.{Gathered, GatheredPair}
 use Rattle.refs.specs.declared.LumaRefGeometry.{LumaRefGeometry}
 use Rattle.refs.specs.declared.ChromaRefGeometry.{ChromaRefGeometry}
 use Rattle.domain.specs.rows.Neighbours.{level_rows}
@@ -77,9 +74,9 @@ get_reference_samples plane g = let k = luma_no (length plane) g in record { no 
 
 -- The chroma pair gather refuses 1, 2, 4, 5, 6. Order is counted in the picture's CTUs; formats go by chroma_format_idc, and an unknown
 -- one is refused as monochrome is.
-abbrev pub format_in : FormatFrom → ChromaFormat
-format_in (Format f) = f
-format_in Unknown = Monochrome
+abbrev pub format_in : Option ChromaFormat → ChromaFormat
+format_in (Some f) = f
+format_in None = Monochrome
 
 abbrev pub format_of : ℕ → ChromaFormat
 format_of idc = format_in (format_from idc)

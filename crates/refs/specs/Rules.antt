@@ -9,6 +9,7 @@ use Rattle.laws.specs.Diff.{order, sub_pos}
 use Rattle.fmt.specs.Fmt.{sub_width, sub_height}
 use Rattle.order.specs.declared.LumaBlock.{LumaBlock}
 use Rattle.order.specs.declared.ChromaBlock.{ChromaBlock}
+use Rattle.order.specs.Answers.{held}
 use Rattle.order.specs.Order.{before, number_at}
 use Rattle.order.specs.Good.{Good}
 use Rattle.order.specs.Leading.{leading_from_leads}
@@ -148,7 +149,7 @@ module _ {has : ℤ → ℤ → Bool} {height width : ℕ} (rule : HasRule has h
   closed_down (pos c) r r' h e = rule.down c r r' h e
   closed_down (negsuc c) r r' h e = absurd (false≢true (sym (rule.off.side (pos r') c) ∙ e))
 
-  pub counted : (row col n : ℕ) → Counted has row col n (reach_by 0 has row col n)
+  pub counted : (row col n : ℕ) → Counted has row col n (held (reach_by 0 has row col n))
   counted row col n =
       record {
         corner = refl;
@@ -161,7 +162,7 @@ module _ {has : ℤ → ℤ → Bool} {height width : ℕ} (rule : HasRule has h
       }
 
   -- and in a plane of height by width samples the code reads inside it
-  pub reads : (row col n : ℕ) → n ≤ 32 → Reads (reach_by 0 has row col n) (spot_of width row col) (height * width) n
+  pub reads : (row col n : ℕ) → n ≤ 32 → Reads (held (reach_by 0 has row col n)) (spot_of width row col) (height * width) n
   reads row col n small =
       let a = leading_from_leads (above_has has row col) 0 (2 * n + 1) in
       let l = leading_from_leads (left_has has row col) 0 (2 * n + 1) in

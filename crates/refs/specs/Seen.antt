@@ -1,15 +1,20 @@
 -- The samples that are there, as they are read out of a plane, and the rows made of these values alone, whatever held them. Assumes
 -- nothing.
-use Rattle.std.specs.Prelude.{◌≡◌, Bool, true, false, ◌||◌, List, [], ◌∷◌, ℕ, ◌+◌, ◌-◌, ◌*◌, ◌≤◌, ◌<◌, ltb, length, get_or, set, replicate}
+use Rattle.std.specs.Prelude.{◌≡◌, Bool, true, false, ◌||◌, List, [], ◌∷◌, ℕ, zero, suc, ◌+◌, ◌-◌, ◌*◌, ◌≤◌, ◌<◌, ltb}
+use Rattle.std.specs.Prelude.{length, get_or, set, replicate, take, drop}
 use Rattle.std.proofs.Math.Path.{refl, ap}
-use Rattle.std.proofs.Common.{sym, ◌∙◌, lt-ltb, le-ltb, ltb-true}
+use Rattle.std.proofs.Common.{sym, ◌∙◌, subst, lt-ltb, le-ltb, ltb-true, add-one}
 use Rattle.std.proofs.Math.Bool.{cond}
 use Rattle.std.proofs.lemmas.Bool.{false≢true}
 use native.Mathlib.Omega.{arith}
-use Rattle.std.proofs.lemmas.List.{length-replicate}
+use Rattle.std.proofs.lemmas.List.{length-replicate, length-take, length-drop}
+use Rattle.std.proofs.lemmas.List.Edits.{paste_none, fill_from_more}
+use Rattle.std.proofs.lemmas.Slice.{put_mid-paste}
+use borrow.Rule.Slice.PartMut.{put_mid}
+use lib.Seq.{paste}
 use Rattle.laws.specs.Choose.{if_yes, if_no}
 use Rattle.laws.specs.Fill.{fill, run}
-use Rattle.laws.specs.FillLaws.{fill_at, fill_same, fill_run}
+use Rattle.laws.specs.FillLaws.{fill_at, fill_same, fill_run, run_more}
 use Rattle.order.specs.declared.Reach.{Reach}
 use Rattle.domain.specs.declared.rows.Rows.{Rows}
 use Rattle.refs.specs.declared.Spot.{Spot}
@@ -31,6 +36,24 @@ entry_in row i = get_or row i 0
 -- an edge whose entries from have on, up to count, are rest
 abbrev pub padded : ℕ → ℕ → ℕ → List ℕ → List ℕ
 padded count have rest row = run (λ i. rest) have (count - have) row
+
+-- so it is where that part is filled in
+pasted : (v a k : ℕ) (d : List ℕ) → a + k ≤ length d → paste d a (replicate k v) k ≡ run (λ i. v) a k d
+unfolding run
+pasted v a zero d h = sym (paste_none d a [])
+pasted v a (suc k) d h =
+    subst (λ (m : ℕ). paste d a (replicate m v) m ≡ run (λ (i : ℕ). v) a m d) (add-one k)
+    (sym (fill_from_more d a k v (omega arith)) ∙ run_more (λ (i : ℕ). v) a d (pasted v a k d (omega arith)) refl)
+
+pub padded_by : (count have rest : ℕ) (row : List ℕ) {part : List ℕ} → have ≤ count → count ≤ length row
+    → part ≡ replicate (length (take (count - have) (drop have row))) rest
+    → put_mid have (count - have) row part ≡ padded count have rest row
+padded_by count have rest row {part} h m e =
+    let k : length (take (count - have) (drop have row)) ≡ count - have =
+    omega (arith, length-take (count - have) (drop have row), length-drop have row) in
+    put_mid-paste have (count - have) row part (replicate (count - have) rest) (count - have)
+    (e ∙ ap (λ (i : ℕ). replicate i rest) k) refl (sym (length-replicate (count - have) rest))
+    ∙ pasted rest have (count - have) row (omega arith)
 
 -- a plane's two rows, above and left, with their corner
 abbrev pub with_corner : ℕ → List (List ℕ) → Rows

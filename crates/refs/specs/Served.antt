@@ -1,21 +1,24 @@
 -- A call's number from the number that the reach gives, and what a call that is not refused rests on. Assumes nothing.
-use Rattle.std.specs.Prelude.{◌≡◌, refl, Bool, true, false, cond, ◌&&◌, ◌||◌, List, [], ◌∷◌, ℕ, zero, suc, ◌*◌, ◌≤◌, leb, eqb, ℤ, length}
+use Rattle.std.specs.Prelude.{◌≡◌, refl, Bool, true, false, cond, ◌&&◌, ◌||◌, List, [], ◌∷◌, ℕ, zero, suc, ◌*◌, ◌≤◌}
+use Rattle.std.specs.Prelude.{leb, eqb, ℤ, length, Ok}
 use Rattle.std.proofs.Common.{sym, ap, ap₂, ◌∙◌, subst, ⊎_elim, arith, ne_eqb, eqb-true, le-leb}
 use Rattle.std.proofs.lemmas.Bool.{false≢true, lt-leb}
 use Rattle.laws.specs.Choose.{served, worked, passed, both_true}
 use Rattle.domain.specs.Domain.{depth_ok, size_ok}
 use Rattle.domain.specs.Facts.{depth_of, size_small}
+use Rattle.domain.specs.Refusal.{no_of}
 use Rattle.fmt.specs.depth.Depth.{neutral_of}
 use Rattle.fmt.specs.depth.Laws.{neutral_of_is}
 use Rattle.order.specs.declared.Reach.{Reach}
+use Rattle.order.specs.Answers.{Reached, there, held, reached}
 use Rattle.order.specs.Order.{picture_ok}
 use Rattle.order.specs.Reach.{reach_by, no_reach, luma_place_ok, luma_reach_no, luma_has, luma_reach, has_chroma, chroma_place_ok, chroma_reach_no}
 use Rattle.order.specs.Reach.{chroma_has, chroma_reach, chroma_width}
 use Rattle.order.specs.Blocks.{luma_fine, chroma_fine}
 use Rattle.domain.specs.declared.rows.Rows.{Rows}
-use Rattle.refs.specs.declared.GatheredPair.{GatheredPair}
 use Rattle.refs.specs.declared.Spot.{Spot}
 use Rattle.refs.specs.declared.Layout.{Layout}
+use Rattle.refs.specs.Answers.{Laid, laid}
 use Rattle.refs.specs.declared.LumaRefGeometry.{LumaRefGeometry}
 use Rattle.refs.specs.declared.ChromaRefGeometry.{ChromaRefGeometry}
 use Rattle.refs.specs.Gather.{gathered_by, sample_of}
@@ -24,7 +27,7 @@ use Rattle.refs.specs.Door.{luma_block, luma_number, luma_length, luma_no, luma_
 use Rattle.refs.specs.Door.{chroma_length, chroma_number, chroma_no, chroma_rows, chroma_pair}
 use Rattle.refs.specs.substitution.Line.{told}
 use Rattle.refs.specs.Counts.{Counted}
-use Rattle.refs.specs.Spots.{spot_of, luma_layout, chroma_layout, plane_rows, Reads, rows_are}
+use Rattle.refs.specs.Spots.{spot_of, luma_spot, chroma_spot, luma_layout, chroma_layout, plane_rows, Reads, rows_are}
 use Rattle.refs.specs.Rules.{HasRule, luma_rule, chroma_rule, counted, reads}
 
 -- 1, then what the reach gives of 2 and 4, then 5, then its 6; a plane of the right length is whole
@@ -81,7 +84,7 @@ chroma-no whole g =
     (picture_ok (chroma_picture g) && has_chroma (format_of g.format)) q whole)
 
 -- the number stands in the reach, and a reach of number 0 is the block's own
-reach_no : (k : ℕ) (r : Reach) → r.no ≡ 0 → (served k r (no_reach k)).no ≡ k
+reach_no : (k : ℕ) (r : Reached) → r.no ≡ 0 → (served k r (no_reach k)).no ≡ k
 reach_no k r z =
     ⊎_elim (λ e. ap (λ (b : Bool). (cond b r (no_reach k)).no) e ∙ z ∙ sym (eqb-true k 0 e))
     (λ e. ap (λ (b : Bool). (cond b r (no_reach k)).no) e) (told (eqb k 0))
@@ -124,15 +127,16 @@ pub record GatherReady (has : ℤ → ℤ → Bool) (r : Reach) (len width row c
   pub known : Counted has row col n r
   pub reads : Reads r (spot_of width row col) len n
 
-ready : {has : ℤ → ℤ → Bool} {height width : ℕ} → HasRule has height width → (r : Reach) (len row col n : ℕ) → r ≡ reach_by 0 has row col n
+ready : {has : ℤ → ℤ → Bool} {height width : ℕ} → HasRule has height width → (r : Reach) (len row col n : ℕ)
+    → there r ≡ reach_by 0 has row col n
     → len ≡ height * width
     → n ≤ 32 → GatherReady has r len width row col n
 ready {has} {height} {width} rule r len row col n er el small =
-    subst (λ (q : Reach). GatherReady has q len width row col n) (sym er)
-    (subst (λ (l : ℕ). GatherReady has (reach_by 0 has row col n) l width row col n) (sym el)
+    subst (λ (q : Reached). GatherReady has (held q) len width row col n) (sym er)
+    (subst (λ (l : ℕ). GatherReady has (held (reach_by 0 has row col n)) l width row col n) (sym el)
     (record { known = counted rule row col n; reads = reads rule row col n small }))
 
-pub luma_ready : (len : ℕ) (g : LumaRefGeometry) (r : Reach) → r ≡ luma_reach (luma_block g) → luma_no len g ≡ 0
+pub luma_ready : (len : ℕ) (g : LumaRefGeometry) (r : Reach) → there r ≡ luma_reach (luma_block g) → luma_no len g ≡ 0
     → (depth_ok g.bits ≡ true) × GatherReady (luma_has (luma_block g)) r len g.picture.width g.block_row.0 g.block_col.0
     g.n
 unfolding luma_reach
@@ -146,7 +150,7 @@ luma_ready len g r er e =
           (eqb-true len (luma_length g) f.2) (size_small g.n w.size).1,
     )
 
-pub chroma_ready : (cb cr : ℕ) (g : ChromaRefGeometry) (r : Reach) → r ≡ chroma_reach (chroma_block g) → chroma_no cb cr g ≡ 0
+pub chroma_ready : (cb cr : ℕ) (g : ChromaRefGeometry) (r : Reach) → there r ≡ chroma_reach (chroma_block g) → chroma_no cb cr g ≡ 0
     → (depth_ok g.bits ≡ true)
     × GatherReady (chroma_has (chroma_block g)) r cb (chroma_width (chroma_block g)) g.block_row.0 g.block_col.0 g.n
     × GatherReady (chroma_has (chroma_block g)) r cr (chroma_width (chroma_block g)) g.block_row.0 g.block_col.0 g.n
@@ -164,22 +168,35 @@ chroma_ready cb cr g r er e =
     (eqb-true len (chroma_length g) t) (size_small g.n w.size).1 in
     (f.0, one cb l.0, one cr l.1)
 
--- a pair of planes
-abbrev pub gathered_pair : ℕ → List Rows → GatheredPair
-gathered_pair k v = record { no = k; planes = v }
-
 -- the number that the code gives is the call's, however its planes are told to be whole
-pub luma-number : (whole : Bool) (g : LumaRefGeometry) {l : Layout} {w : Bool} {k : ℕ} → l ≡ luma_layout g → w ≡ whole → k
-    ≡ gather_no g.bits l.reach.no w
+pub luma-number : (whole : Bool) (g : LumaRefGeometry) (l : Layout) {w : Bool} {k : ℕ} → laid l ≡ luma_layout g → w ≡ whole → k
+    ≡ gather_no g.bits (no_of l.reach) w
     → k ≡ luma_number whole g
-luma-number whole g el ew ek =
-    ek ∙ ap₂ (gather_no g.bits) (ap (λ (q : Layout). q.reach.no) el ∙ luma-reach-no g) ew ∙ sym (luma-no whole g)
+luma-number whole g l el ew ek =
+    ek ∙ ap₂ (gather_no g.bits) (ap (λ (q : Laid). q.reach.no) el ∙ luma-reach-no g) ew ∙ sym (luma-no whole g)
 
-pub chroma-number : (whole : Bool) (g : ChromaRefGeometry) {l : Layout} {w : Bool} {k : ℕ} → l ≡ chroma_layout g → w ≡ whole → k
-    ≡ gather_no g.bits l.reach.no w
+pub chroma-number : (whole : Bool) (g : ChromaRefGeometry) (l : Layout) {w : Bool} {k : ℕ} → laid l ≡ chroma_layout g → w ≡ whole → k
+    ≡ gather_no g.bits (no_of l.reach) w
     → k ≡ chroma_number whole g
-chroma-number whole g el ew ek =
-    ek ∙ ap₂ (gather_no g.bits) (ap (λ (q : Layout). q.reach.no) el ∙ chroma-reach-no g) ew ∙ sym (chroma-no whole g)
+chroma-number whole g l el ew ek =
+    ek ∙ ap₂ (gather_no g.bits) (ap (λ (q : Laid). q.reach.no) el ∙ chroma-reach-no g) ew ∙ sym (chroma-no whole g)
+
+-- so at the doors over samples, by the planes' lengths
+pub luma_door : (len : ℕ) (g : LumaRefGeometry) (l : Layout) {k : ℕ} → laid l ≡ luma_layout g
+    → k ≡ gather_no g.bits (no_of l.reach) (eqb len l.length) → k ≡ luma_no len g
+unfolding luma_no
+luma_door len g l el ek = luma-number (eqb len (luma_length g)) g l el (ap (λ (q : Laid). eqb len q.length) el) ek
+
+pub chroma_door : (cb cr : ℕ) (g : ChromaRefGeometry) (l : Layout) {k : ℕ} → laid l ≡ chroma_layout g
+    → k ≡ gather_no g.bits (no_of l.reach) (eqb cb l.length && eqb cr l.length) → k ≡ chroma_no cb cr g
+unfolding chroma_no
+chroma_door cb cr g l el ek =
+    chroma-number (eqb cb (chroma_length g) && eqb cr (chroma_length g)) g l el
+    (ap (λ (q : Laid). eqb cb q.length && eqb cr q.length) el) ek
+
+-- a reach that is given is the block's own
+pub laid_there : (l : Layout) {k : Laid} {r : Reach} → laid l ≡ k → l.reach ≡ Ok r → there r ≡ k.reach
+laid_there l el er = sym (ap reached er) ∙ ap (λ (q : Laid). q.reach) el
 
 -- the rows of a plane, from the parts that the code makes
 module _ {has : ℤ → ℤ → Bool} {r : Reach} (plane : List ℕ) (width row col n bits : ℕ)
@@ -196,42 +213,40 @@ module _ {has : ℤ → ℤ → Bool} {r : Reach} (plane : List ℕ) (width row 
       ∙ rows_are has plane width row col n (neutral_at bits) r y.reads.few.side y.known
 
 -- the same for the two doors, whose calls are not refused
-module _ (plane : List ℕ) (g : LumaRefGeometry) {l : Layout} (el : l ≡ luma_layout g) (e : luma_no (length plane) g ≡ 0) where
-  abbrev luma : (depth_ok g.bits ≡ true) × GatherReady (luma_has (luma_block g)) l.reach (length plane) g.picture.width
+module _ (plane : List ℕ) (g : LumaRefGeometry) {s : Spot} {r : Reach} (es : s ≡ luma_spot g) (er : there r ≡ luma_reach (luma_block g))
+    (e : luma_no (length plane) g ≡ 0) where
+  abbrev luma : (depth_ok g.bits ≡ true) × GatherReady (luma_has (luma_block g)) r (length plane) g.picture.width
       g.block_row.0 g.block_col.0 g.n
-  luma = luma_ready (length plane) g l.reach (ap (λ (q : Layout). q.reach) el) e
+  luma = luma_ready (length plane) g r er e
 
-  pub luma_inside : Reads l.reach l.spot (length plane) g.n
-  luma_inside = inside plane g.picture.width g.block_row.0 g.block_col.0 g.n g.bits luma.1
-      (ap (λ (q : Layout). q.spot) el)
+  pub luma_inside : Reads r s (length plane) g.n
+  luma_inside = inside plane g.picture.width g.block_row.0 g.block_col.0 g.n g.bits luma.1 es
 
-  pub luma_made : {neutral : ℕ} {v : Rows} → neutral ≡ neutral_of g.bits → v ≡ plane_rows plane l.spot l.reach g.n neutral → v
+  pub luma_made : {neutral : ℕ} {v : Rows} → neutral ≡ neutral_of g.bits → v ≡ plane_rows plane s r g.n neutral → v
       ≡ luma_rows plane g
   unfolding luma_rows
-  luma_made en ev = made plane g.picture.width g.block_row.0 g.block_col.0 g.n g.bits luma.1
-      (ap (λ (q : Layout). q.spot) el) luma.0 en ev
+  luma_made en ev = made plane g.picture.width g.block_row.0 g.block_col.0 g.n g.bits luma.1 es luma.0 en ev
 
-module _ (cb cr : List ℕ) (g : ChromaRefGeometry) {l : Layout} (el : l ≡ chroma_layout g) (e : chroma_no (length cb) (length cr) g ≡ 0) where
+module _ (cb cr : List ℕ) (g : ChromaRefGeometry) {s : Spot} {r : Reach} (es : s ≡ chroma_spot g)
+    (er : there r ≡ chroma_reach (chroma_block g)) (e : chroma_no (length cb) (length cr) g ≡ 0) where
   abbrev Chroma : List ℕ → Type 0
-  Chroma plane = GatherReady (chroma_has (chroma_block g)) l.reach (length plane) (chroma_width (chroma_block g)) g.block_row.0
+  Chroma plane = GatherReady (chroma_has (chroma_block g)) r (length plane) (chroma_width (chroma_block g)) g.block_row.0
       g.block_col.0 g.n
 
   abbrev fine : (depth_ok g.bits ≡ true) × Chroma cb × Chroma cr
-  fine = chroma_ready (length cb) (length cr) g l.reach (ap (λ (q : Layout). q.reach) el) e
+  fine = chroma_ready (length cb) (length cr) g r er e
 
-  one_inside : (plane : List ℕ) → Chroma plane → Reads l.reach l.spot (length plane) g.n
-  one_inside plane y = inside plane (chroma_width (chroma_block g)) g.block_row.0 g.block_col.0 g.n g.bits y
-      (ap (λ (q : Layout). q.spot) el)
+  one_inside : (plane : List ℕ) → Chroma plane → Reads r s (length plane) g.n
+  one_inside plane y = inside plane (chroma_width (chroma_block g)) g.block_row.0 g.block_col.0 g.n g.bits y es
 
-  pub chroma_inside : Reads l.reach l.spot (length cb) g.n × Reads l.reach l.spot (length cr) g.n
+  pub chroma_inside : Reads r s (length cb) g.n × Reads r s (length cr) g.n
   chroma_inside = (one_inside cb fine.1, one_inside cr fine.2)
 
   one_made : (plane : List ℕ) → Chroma plane → {neutral : ℕ} {v : Rows} → neutral ≡ neutral_of g.bits → v
-      ≡ plane_rows plane l.spot l.reach g.n neutral → v ≡ chroma_rows plane g
+      ≡ plane_rows plane s r g.n neutral → v ≡ chroma_rows plane g
   unfolding chroma_rows
-  one_made plane y en ev = made plane (chroma_width (chroma_block g)) g.block_row.0 g.block_col.0 g.n g.bits y
-      (ap (λ (q : Layout). q.spot) el) fine.0 en ev
+  one_made plane y en ev = made plane (chroma_width (chroma_block g)) g.block_row.0 g.block_col.0 g.n g.bits y es fine.0 en ev
 
-  pub chroma_made : {neutral : ℕ} {v u : Rows} → neutral ≡ neutral_of g.bits → v ≡ plane_rows cb l.spot l.reach g.n neutral
-      → u ≡ plane_rows cr l.spot l.reach g.n neutral → ◌≡◌ {A = List Rows} (v ∷ u ∷ []) (chroma_pair cb cr g)
+  pub chroma_made : {neutral : ℕ} {v u : Rows} → neutral ≡ neutral_of g.bits → v ≡ plane_rows cb s r g.n neutral
+      → u ≡ plane_rows cr s r g.n neutral → ◌≡◌ {A = List Rows} (v ∷ u ∷ []) (chroma_pair cb cr g)
   chroma_made en ev eu = ap₂ (λ (a b : Rows). a ∷ b ∷ []) (one_made cb fine.1 en ev) (one_made cr fine.2 en eu)

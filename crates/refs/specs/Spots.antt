@@ -6,7 +6,7 @@ use Rattle.order.specs.declared.Reach.{Reach}
 use Rattle.order.specs.Reach.{luma_reach, chroma_reach, chroma_width}
 use Rattle.domain.specs.declared.rows.Rows.{Rows}
 use Rattle.refs.specs.declared.Spot.{Spot}
-use Rattle.refs.specs.declared.Layout.{Layout}
+use Rattle.refs.specs.Answers.{Laid}
 use Rattle.refs.specs.declared.LumaRefGeometry.{LumaRefGeometry}
 use Rattle.refs.specs.declared.ChromaRefGeometry.{ChromaRefGeometry}
 use Rattle.refs.specs.Gather.{gathered_by, sample_of}
@@ -26,10 +26,10 @@ abbrev pub chroma_spot : ChromaRefGeometry → Spot
 chroma_spot g = spot_of (chroma_width (chroma_block g)) g.block_row.0 g.block_col.0
 
 -- what a gather goes by, luma and chroma
-abbrev pub luma_layout : LumaRefGeometry → Layout
+abbrev pub luma_layout : LumaRefGeometry → Laid
 luma_layout g = record { reach = luma_reach (luma_block g); spot = luma_spot g; length = luma_length g }
 
-abbrev pub chroma_layout : ChromaRefGeometry → Layout
+abbrev pub chroma_layout : ChromaRefGeometry → Laid
 chroma_layout g = record { reach = chroma_reach (chroma_block g); spot = chroma_spot g; length = chroma_length g }
 
 -- entry i of an edge from at on, each entry step samples further

@@ -4,26 +4,24 @@
 
 pub mod substitution;
 
-ghost use Rattle.std.specs.Prelude.{◌≡◌, ℕ, ◌+◌, ◌-◌, ◌*◌, ◌≤◌, ◌<◌, length};
+ghost use Rattle.std.specs.Prelude.{◌≡◌, ℕ, ◌+◌, ◌-◌, ◌*◌, ◌≤◌, ◌<◌, length, Ok, IfOk};
+ghost use Rattle.domain.specs.Refusal.{no_of};
 ghost use Rattle.laws.specs.Fill.{fill};
-ghost use Rattle.refs.specs.Door.{luma_no, luma_rows, get_reference_samples, format_of, chroma_block, chroma_no, chroma_pair};
+ghost use Rattle.order.specs.Answers.{there};
+ghost use Rattle.order.specs.Reach.{luma_reach, chroma_reach};
+ghost use Rattle.refs.specs.Answers.{gathered, gathered_pair, laid};
+ghost use Rattle.refs.specs.Door.{luma_block, luma_no, luma_rows, get_reference_samples, format_of, chroma_block, chroma_no, chroma_pair};
 ghost use Rattle.refs.specs.Door.{get_reference_samples_chroma_pair};
 ghost use Rattle.refs.specs.Served.{gather_no};
 ghost use Rattle.refs.specs.substitution.Line.{rest_by};
-ghost use Rattle.refs.specs.Spots.{spot_of, luma_layout, chroma_layout, on_edge, corner_on, plane_rows, Few, Reads};
+ghost use Rattle.refs.specs.Spots.{spot_of, luma_spot, chroma_spot, luma_layout, chroma_layout, on_edge, corner_on, plane_rows, Few, Reads};
 ghost use Rattle.refs.specs.Seen.{corner_seen, entry_in, padded, with_corner, pad_rows};
 
+use domain::refusal::Refusal;
 use domain::rows;
-use domain::rows::{Gathered, Rows};
-use fmt::{ChromaCol, ChromaFormat, ChromaRow, FormatFrom, LumaCol, LumaRow, depth};
+use domain::rows::Rows;
+use fmt::{ChromaCol, ChromaFormat, ChromaRow, LumaCol, LumaRow, depth};
 use order::{ChromaBlock, LumaBlock, Picture, Reach};
-
-// A call's number, and the rows of Cb and of Cr, all 0 where it is refused.
-#[derive(Drop)]
-pub struct GatheredPair {
-    pub no: u32,
-    pub planes: [Rows; 2],
-}
 
 // A luma block in its picture; stride, CTUs in a row and the neutral sample are worked out.
 #[derive(Clone, Copy)]
@@ -61,13 +59,6 @@ pub struct Spot {
     pub width: usize,
 }
 
-// The row or column before one, 0 for the first.
-fn back(v: usize) -> usize
-    ensures { result ≡ v - 1 }
-{
-    if v == 0 { 0 } else { v - 1 }
-}
-
 // Numbers of 32 bits: no product can pass the type's end.
 fn spot_of(width: u32, row: u32, col: u32) -> Spot
     ensures { result ≡ spot_of width row col }
@@ -75,8 +66,8 @@ fn spot_of(width: u32, row: u32, col: u32) -> Spot
     let across = width as usize;
     let down = row as usize;
     let along = col as usize;
-    let up = back(down) * across;
-    let aside = back(along);
+    let up = down.saturating_sub(1) * across;
+    let aside = along.saturating_sub(1);
     Spot {
         corner: up + aside,
         above: up + along,
@@ -86,14 +77,13 @@ fn spot_of(width: u32, row: u32, col: u32) -> Spot
 }
 
 // Reads the first `have` entries of an edge out of the plane, each `step` samples further.
+#[tactic(auto, using(laws::specs::FillLaws::fill_none, laws::specs::FillLaws::fill_more))]
 fn edge(plane: &[u16], at: usize, step: usize, have: usize, out: &mut [u16])
     requires { (have ≤ length out.old) × ((i : ℕ) → i < have → at + i * step < length plane.now) }
     ensures { out.new ≡ fill (on_edge plane.now at step) have out.old }
 {
-    let mut i = 0;
-    while i < have {
+    for i in 0..have {
         out[i] = plane[at + i * step];
-        i += 1;
     }
 }
 
@@ -115,16 +105,12 @@ fn last_of(row: &[u16], have: usize, other: u16) -> u16
 }
 
 // Puts `rest` into a row's entries from `have` on, up to `count`.
+#[tactic(auto, using(crate::specs::Seen::padded_by))]
 fn pad(row: &mut [u16], have: usize, count: usize, rest: u16)
     requires { (have ≤ count) × (count ≤ length row.old) }
     ensures { row.new ≡ padded count have rest row.old }
 {
-    let more = count - have;
-    let mut i = 0;
-    while i < more {
-        row[have + i] = rest;
-        i += 1;
-    }
+    row[have..count].fill(rest);
 }
 
 // Completes a plane's two rows, above and left, of what was read, where a neighbour is there, and gives the corner: what stands before the
@@ -171,23 +157,28 @@ fn plane_rows(plane: &[u16], s: Spot, r: Reach, n: usize, neutral: u16) -> Rows
     with_corner(corner, two)
 }
 
-// The number that refuses a gather, or 0: the depth's, then the reach's 2 or 4, then the planes', then the reach's 6.
-pub fn gather_no(bits: u32, reach: u32, whole: bool) -> u32
-    ensures { result ≡ gather_no bits reach whole }
+// How far the neighbours of a gather's block reach, or why the gather is refused: its depth, then the block's size or picture, then its
+// planes, then the block's place.
+pub fn check_gather(bits: u32, reach: Result<Reach, Refusal>, whole: bool) -> Result<Reach, Refusal>
+    ensures { (no_of result ≡ gather_no bits (no_of reach) whole) × IfOk result (λ r. reach ≡ Ok r) }
 {
     if !domain::depth_ok(bits) {
-        return 1;
+        return Err(Refusal::Depth);
     }
-    if (reach == 2) | (reach == 4) {
+    if whole {
         return reach;
     }
-    if whole { reach } else { 5 }
+    match reach {
+        Err(Refusal::Size) => reach,
+        Err(Refusal::Picture) => reach,
+        _ => Err(Refusal::Buffer),
+    }
 }
 
-// What a gather goes by: how far its block's neighbours reach, where they stand, how many samples a plane has.
+// What a gather goes by: how far its block's neighbours reach or why they are not asked, where they stand, how many samples a plane has.
 #[derive(Clone, Copy)]
 pub struct Layout {
-    pub reach: Reach,
+    pub reach: Result<Reach, Refusal>,
     pub spot: Spot,
     pub length: usize,
 }
@@ -200,7 +191,7 @@ fn area(height: u32, width: u32) -> usize
 }
 
 pub fn luma_layout(geo: LumaRefGeometry) -> Layout
-    ensures { result ≡ luma_layout geo }
+    ensures { laid result ≡ luma_layout geo }
 {
     let picture = geo.picture;
     let row = geo.block_row;
@@ -221,31 +212,20 @@ pub fn luma_layout(geo: LumaRefGeometry) -> Layout
     }
 }
 
-fn luma_rows(plane: &[u16], geo: LumaRefGeometry, l: Layout) -> Rows
-    requires { (l ≡ luma_layout geo) × (luma_no (length plane.now) geo ≡ 0) }
+fn luma_rows(plane: &[u16], geo: LumaRefGeometry, s: Spot, r: Reach) -> Rows
+    requires { (s ≡ luma_spot geo) × (there r ≡ luma_reach (luma_block geo)) × (luma_no (length plane.now) geo ≡ 0) }
     ensures { result ≡ luma_rows plane.now geo }
 {
-    let s = l.spot;
-    let reach = l.reach;
-    plane_rows(plane, s, reach, geo.n, depth::neutral_of(geo.bits))
+    plane_rows(plane, s, r, geo.n, depth::neutral_of(geo.bits))
 }
 
 // The reference rows of a luma block (document 01, module 4).
-pub fn get_reference_samples(plane: &[u16], geo: LumaRefGeometry) -> Gathered
-    ensures { result ≡ get_reference_samples plane.now geo }
+pub fn get_reference_samples(plane: &[u16], geo: LumaRefGeometry) -> Result<Rows, Refusal>
+    ensures { gathered result ≡ get_reference_samples plane.now geo }
 {
     let l = luma_layout(geo);
-    let no = gather_no(geo.bits, l.reach.no, plane.len() == l.length);
-    if no != 0 {
-        return Gathered {
-            no,
-            rows: rows::level_rows(0),
-        };
-    }
-    Gathered {
-        no: 0,
-        rows: luma_rows(plane, geo, l),
-    }
+    let reach = check_gather(geo.bits, l.reach, plane.len() == l.length)?;
+    Ok(luma_rows(plane, geo, l.spot, reach))
 }
 
 // The format that a chroma_format_idc names; monochrome where it names none, which is refused as monochrome is.
@@ -253,8 +233,8 @@ fn format_of(idc: u32) -> ChromaFormat
     ensures { result ≡ format_of idc }
 {
     match ChromaFormat::from_idc(idc) {
-        FormatFrom::Format(f) => f,
-        FormatFrom::Unknown => ChromaFormat::Monochrome,
+        Some(f) => f,
+        None => ChromaFormat::Monochrome,
     }
 }
 
@@ -286,7 +266,7 @@ fn chroma_block(geo: ChromaRefGeometry) -> ChromaBlock
 
 // The planes' sides are the first row and the first column past them.
 pub fn chroma_layout(geo: ChromaRefGeometry) -> Layout
-    ensures { result ≡ chroma_layout geo }
+    ensures { laid result ≡ chroma_layout geo }
 {
     let block = chroma_block(geo);
     let format = block.format;
@@ -303,12 +283,17 @@ pub fn chroma_layout(geo: ChromaRefGeometry) -> Layout
 }
 
 // The rows of Cb and of Cr: one layout for both.
-fn chroma_pair(plane_cb: &[u16], plane_cr: &[u16], geo: ChromaRefGeometry, l: Layout) -> [Rows; 2]
-    requires { (l ≡ chroma_layout geo) × (chroma_no (length plane_cb.now) (length plane_cr.now) geo ≡ 0) }
+fn chroma_pair(
+    plane_cb: &[u16],
+    plane_cr: &[u16],
+    geo: ChromaRefGeometry,
+    s: Spot,
+    reach: Reach,
+) -> [Rows; 2]
+    requires { (s ≡ chroma_spot geo) × (there reach ≡ chroma_reach (chroma_block geo))
+        × (chroma_no (length plane_cb.now) (length plane_cr.now) geo ≡ 0) }
     ensures { result ≡ chroma_pair plane_cb.now plane_cr.now geo }
 {
-    let s = l.spot;
-    let reach = l.reach;
     let neutral = depth::neutral_of(geo.bits);
     let n = geo.n;
     let cb = plane_rows(plane_cb, s, reach, n, neutral);
@@ -321,21 +306,11 @@ pub fn get_reference_samples_chroma_pair(
     plane_cb: &[u16],
     plane_cr: &[u16],
     geo: ChromaRefGeometry,
-) -> GatheredPair
-    ensures { result ≡ get_reference_samples_chroma_pair plane_cb.now plane_cr.now geo }
+) -> Result<[Rows; 2], Refusal>
+    ensures { gathered_pair result ≡ get_reference_samples_chroma_pair plane_cb.now plane_cr.now geo }
 {
     let l = chroma_layout(geo);
     let whole = (plane_cb.len() == l.length) & (plane_cr.len() == l.length);
-    let no = gather_no(geo.bits, l.reach.no, whole);
-    if no != 0 {
-        let none = rows::level_rows(0);
-        return GatheredPair {
-            no,
-            planes: [none, none],
-        };
-    }
-    GatheredPair {
-        no: 0,
-        planes: chroma_pair(plane_cb, plane_cr, geo, l),
-    }
+    let reach = check_gather(geo.bits, l.reach, whole)?;
+    Ok(chroma_pair(plane_cb, plane_cr, geo, l.spot, reach))
 }

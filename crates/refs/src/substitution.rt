@@ -2,14 +2,17 @@
 // sample's value never says whether it is there.
 ghost use Rattle.std.specs.Prelude.{◌≡◌, ◌+◌, ◌*◌, ◌≤◌, ◌<◌, false, cond, length, get_or, set};
 ghost use Rattle.h265.specs.Substitution.{first_marked, settled};
+ghost use Rattle.domain.specs.Refusal.{no_of};
+ghost use Rattle.refs.specs.Answers.{gathered};
 ghost use Rattle.refs.specs.Seen.{with_corner};
 ghost use Rattle.refs.specs.substitution.Substitution.{samples_on, from_line, substituted};
 ghost use Rattle.refs.specs.substitution.Door.{substitute_no, substitute_refs};
 ghost use Rattle.refs.specs.substitution.Line.{line_of};
 ghost use Rattle.refs.specs.substitution.InPlace.{past_left, left_settled, above_settled};
 
+use domain::refusal::Refusal;
 use domain::rows;
-use domain::rows::{Gathered, Rows};
+use domain::rows::Rows;
 use fmt::depth;
 
 // Which entries of a block's rows are there.
@@ -21,6 +24,7 @@ pub struct Flags {
 }
 
 // The sample at place p of the line: left[e] down to left[0], the corner, above[0] to above[e].
+#[tactic(auto, unfolding(crate::specs::substitution::Substitution::marked_on_line))]
 fn sample_on(two: &[[u16; 65]; 2], corner: u16, e: usize, p: usize) -> u16
     requires { (e ≤ 64) × (p < 2 * e + 3) }
     ensures { result ≡ samples_on (with_corner corner two.now) e p }
@@ -35,6 +39,7 @@ fn sample_on(two: &[[u16; 65]; 2], corner: u16, e: usize, p: usize) -> u16
 }
 
 // Whether place p of the line is there.
+#[tactic(auto, unfolding(crate::specs::substitution::Substitution::marked_on_line))]
 fn flag_on(left: &[bool; 65], corner: bool, above: &[bool; 65], e: usize, p: usize) -> bool
     requires { (e ≤ 64) × (p < 2 * e + 3) }
     ensures { result ≡ line_of false left.now corner above.now e p }
@@ -54,14 +59,12 @@ fn first_marked(left: &[bool; 65], corner: bool, above: &[bool; 65], e: usize) -
     ensures { result ≡ first_marked (line_of false left.now corner above.now e) 0 (2 * e + 3) }
 {
     let total = 2 * e + 3;
-    let mut p = 0;
-    while p < total {
+    for p in 0..total {
         if flag_on(left, corner, above, e, p) {
             return p;
         }
-        p += 1;
     }
-    p
+    total
 }
 
 // A sample where it is there, another where it is not. Every sample may be 0.
@@ -91,10 +94,8 @@ fn fill_left(row: &mut [u16; 65], has: &[bool; 65], e: usize, start: u16) -> u16
         × (row.new ≡ left_settled has.now e start row.old) }
 {
     let mut carried = start;
-    let mut p = 0;
-    while p <= e {
-        carried = settle_at(&mut *row, has, e - p, carried);
-        p += 1;
+    for i in (0..=e).rev() {
+        carried = settle_at(&mut *row, has, i, carried);
     }
     carried
 }
@@ -105,10 +106,8 @@ fn fill_above(row: &mut [u16; 65], has: &[bool; 65], e: usize, start: u16)
     ensures { row.new ≡ above_settled has.now e start row.old }
 {
     let mut carried = start;
-    let mut i = 0;
-    while i <= e {
+    for i in 0..=e {
         carried = settle_at(&mut *row, has, i, carried);
-        i += 1;
     }
 }
 
@@ -165,32 +164,25 @@ fn substitute(rows: Rows, flags: Flags, n: usize, neutral: u16) -> Rows
     }
 }
 
-// The number that refuses a substitution, or 0.
-fn substitute_no(n: usize, bits: u32) -> u32
-    ensures { result ≡ substitute_no bits n }
+// Whether a substitution is served, or why it is refused.
+#[tactic(auto, unfolding(crate::specs::substitution::Door::substitute_no))]
+fn check_substitute(n: usize, bits: u32) -> Result<(), Refusal>
+    ensures { no_of result ≡ substitute_no bits n }
 {
     if !domain::depth_ok(bits) {
-        return 1;
+        return Err(Refusal::Depth);
     }
     if !domain::size_ok(n) {
-        return 2;
+        return Err(Refusal::Size);
     }
-    0
+    Ok(())
 }
 
 // Reference rows with the missing entries substituted (H.265 8.4.4.2.2, document 01, module 3).
-pub fn substitute_refs(rows: Rows, flags: Flags, n: usize, bits: u32) -> Gathered
-    ensures { result ≡ substitute_refs rows flags n bits }
+#[tactic(auto, unfolding(crate::specs::substitution::Door::substitute_refs), using(domain::specs::Refused::never_0))]
+pub fn substitute_refs(rows: Rows, flags: Flags, n: usize, bits: u32) -> Result<Rows, Refusal>
+    ensures { gathered result ≡ substitute_refs rows flags n bits }
 {
-    let no = substitute_no(n, bits);
-    if no != 0 {
-        return Gathered {
-            no,
-            rows: rows::level_rows(0),
-        };
-    }
-    Gathered {
-        no: 0,
-        rows: substitute(rows, flags, n, depth::neutral_of(bits)),
-    }
+    check_substitute(n, bits)?;
+    Ok(substitute(rows, flags, n, depth::neutral_of(bits)))
 }

@@ -9,8 +9,8 @@ ghost use Rattle.std.specs.Prelude.{◌+◌, ◌≤◌, ◌<◌, IfOk, length, t
 ghost use Rattle.std.specs.Io.{ReadsAtMost};
 ghost use Rattle.std.specs.Io.KnownBytes.{Consumes, IsAtEnd};
 
-use fmt::depth::{BitDepth, DepthFrom};
-use fmt::{ChromaFormat, FormatFrom, LumaCol, LumaRow};
+use fmt::depth::BitDepth;
+use fmt::{ChromaFormat, LumaCol, LumaRow};
 use listing::Count;
 use order::{LumaNeighbour, Picture};
 use std::io;
@@ -40,24 +40,24 @@ fn call_of(list: &[u8], line: u16) -> [u32; 10] {
 // Whether a door gives another answer than the list has.
 fn depth_differs(call: [u32; 10]) -> bool {
     match BitDepth::from_bits(call[0]) {
-        DepthFrom::Depth(d) => {
+        Ok(d) => {
             let bits = d.bits() as u32;
             let largest = d.max_val() as u32;
             let neutral = d.neutral() as u32;
             (call[1] != 0) | (call[2] != bits) | (call[3] != largest) | (call[4] != neutral)
         }
-        DepthFrom::Refused => call[1] != 1,
+        Err(_) => call[1] != 1,
     }
 }
 
 fn format_differs(call: [u32; 10]) -> bool {
     match ChromaFormat::from_idc(call[0]) {
-        FormatFrom::Format(f) => {
+        Some(f) => {
             let across = f.sub_w();
             let down = f.sub_h();
             (call[1] != 1) | ((call[2] as usize) != across) | ((call[3] as usize) != down)
         }
-        FormatFrom::Unknown => call[1] != 0,
+        None => call[1] != 0,
     }
 }
 
@@ -68,8 +68,10 @@ fn order_differs(call: [u32; 10]) -> bool {
         ctu: call[4],
         unit: call[5],
     };
-    let answer = order::decode_order(LumaRow(call[0]), LumaCol(call[1]), picture);
-    (call[6] != answer.no) | (call[7] != answer.value)
+    match order::decode_order(LumaRow(call[0]), LumaCol(call[1]), picture) {
+        Ok(number) => (call[6] != 0) | (call[7] != number),
+        Err(why) => (call[6] != why.number()) | (call[7] != 0),
+    }
 }
 
 // A neighbour's coordinate is written with 2^31 added.
@@ -88,8 +90,10 @@ fn available_differs(call: [u32; 10]) -> bool {
         ctu: call[6],
         unit: call[7],
     };
-    let answer = order::is_available(at, LumaRow(call[2]), LumaCol(call[3]), picture);
-    (call[8] != answer.no) | (call[9] != (answer.yes as u32))
+    match order::is_available(at, LumaRow(call[2]), LumaCol(call[3]), picture) {
+        Ok(yes) => (call[8] != 0) | (call[9] != (yes as u32)),
+        Err(why) => (call[8] != why.number()) | (call[9] != 0),
+    }
 }
 
 fn differs(kind: u32, call: [u32; 10]) -> bool {

@@ -14,6 +14,7 @@
 ghost use Rattle.std.specs.Prelude.{◌+◌, ◌≤◌, ◌<◌, ◌≡◌, true, Ok};
 ghost use Rattle.std.specs.Io.KnownBytes.{Consumes};
 
+use domain::refusal::no_of;
 use domain::rows::Rows;
 use listing::Count;
 use predict::scratch::AngularScratch;
@@ -101,50 +102,54 @@ fn row_same(line: &[u8], row: [u16; 65], call: Call) -> bool {
     same(line, &row, call)
 }
 
+// Whether the line has this number and this value.
+fn answers(call: Call, no: u32, value: u32) -> bool {
+    (no == call.no) & (value == call.value)
+}
+
 fn rule_same(call: Call) -> bool {
-    let answer = smooth::should_filter_refs(call.mode, call.n);
-    (answer.no == call.no) & ((answer.yes as u32) == call.value)
+    match smooth::should_filter_refs(call.mode, call.n) {
+        Ok(yes) => answers(call, 0, yes as u32),
+        Err(why) => answers(call, why.number(), 0),
+    }
 }
 
 // The row above, or where the edge is asked for the row on the left.
-fn weak_same(line: &[u8], call: Call, above: &[u16], left: &[u16]) -> bool {
-    let answer = smooth::filter_references(
-        listing::sample(call.seed, call.top),
-        above,
-        left,
-        call.n,
-    );
-    let up = answer.above;
-    let side = answer.left;
-    let number = answer.no == call.no;
+fn either_same(line: &[u8], call: Call, above: [u16; 65], left: [u16; 65]) -> bool {
     if call.edge {
-        return number & row_same(line, side, call);
+        return row_same(line, left, call);
     }
-    number & row_same(line, up, call)
+    row_same(line, above, call)
+}
+
+fn weak_same(line: &[u8], call: Call, above: &[u16], left: &[u16]) -> bool {
+    let corner = listing::sample(call.seed, call.top);
+    match smooth::filter_references(corner, above, left, call.n) {
+        Ok(rows) => (call.no == 0) & either_same(line, call, rows.above, rows.left),
+        Err(why) => (why.number() == call.no) & row_same(line, [0u16; 65], call),
+    }
 }
 
 fn luma_same(line: &[u8], call: Call, above: &[u16], left: &[u16]) -> bool {
     let corner = listing::sample(call.seed, call.top);
-    let answer = smooth::filter_luma_refs(corner, above, left, call.n, call.bits);
-    let up = answer.rows.above;
-    let side = answer.rows.left;
-    let number = (answer.no == call.no) & ((answer.rows.corner as u32) == call.value);
-    if call.edge {
-        return number & row_same(line, side, call);
+    match smooth::filter_luma_refs(corner, above, left, call.n, call.bits) {
+        Ok(rows) => {
+            answers(call, 0, rows.corner as u32) & either_same(line, call, rows.above, rows.left)
+        }
+        Err(why) => answers(call, why.number(), 0) & row_same(line, [0u16; 65], call),
     }
-    number & row_same(line, up, call)
 }
 
 fn planar_same(line: &[u8], call: Call, above: &[u16], left: &[u16]) -> bool {
     let mut pred = [4660u16; 1024];
-    let no = planar_dc::predict_planar_into(above, left, call.n, &mut pred);
-    (no == call.no) & same(line, &pred, call)
+    let answer = planar_dc::predict_planar_into(above, left, call.n, &mut pred);
+    (no_of(answer) == call.no) & same(line, &pred, call)
 }
 
 fn dc_same(line: &[u8], call: Call, above: &[u16], left: &[u16]) -> bool {
     let mut pred = [4660u16; 1024];
-    let no = planar_dc::predict_dc_into(above, left, call.n, call.edge, &mut pred);
-    (no == call.no) & same(line, &pred, call)
+    let answer = planar_dc::predict_dc_into(above, left, call.n, call.edge, &mut pred);
+    (no_of(answer) == call.no) & same(line, &pred, call)
 }
 
 fn angular_same(line: &[u8], call: Call, above: &[u16], left: &[u16]) -> bool {
@@ -152,7 +157,7 @@ fn angular_same(line: &[u8], call: Call, above: &[u16], left: &[u16]) -> bool {
     let mut refs = [4660u16; 193];
     let mut indices = [4660u32; 32];
     let mut fractions = [4660u32; 32];
-    let no = angular::predict_angular_slices(
+    let answer = angular::predict_angular_slices(
         listing::sample(call.seed, call.top),
         above,
         left,
@@ -165,7 +170,7 @@ fn angular_same(line: &[u8], call: Call, above: &[u16], left: &[u16]) -> bool {
         &mut indices,
         &mut fractions,
     );
-    (no == call.no) & same(line, &pred, call)
+    (no_of(answer) == call.no) & same(line, &pred, call)
 }
 
 // The residual of the two blocks.
@@ -173,8 +178,8 @@ fn residual_same(line: &[u8], call: Call) -> bool {
     let pred = block_of(call.seed, call.top);
     let orig = block_of(listing::other(call.seed), call.top);
     let mut residual = [4660i32; 1024];
-    let no = residual::compute_residual_i32_into(&orig, &pred, call.n, &mut residual);
-    (no == call.no) & same_residuals(line, &residual, call)
+    let answer = residual::compute_residual_i32_into(&orig, &pred, call.n, &mut residual);
+    (no_of(answer) == call.no) & same_residuals(line, &residual, call)
 }
 
 // The residual of the two blocks, added to the first: the number is that of the second call, the value that of the first.
@@ -184,8 +189,8 @@ fn rebuilt_same(line: &[u8], call: Call) -> bool {
     let mut residual = [0i32; 1024];
     let mut out = [4660u16; 1024];
     let first = residual::compute_residual_i32_into(&orig, &pred, call.n, &mut residual);
-    let no = residual::reconstruct_into(&pred, &residual, call.n, call.bits, &mut out);
-    (first == call.value) & (no == call.no) & same(line, &out, call)
+    let answer = residual::reconstruct_into(&pred, &residual, call.n, call.bits, &mut out);
+    (no_of(first) == call.value) & (no_of(answer) == call.no) & same(line, &out, call)
 }
 
 fn chroma_block_same(line: &[u8], call: Call, above: &[u16], left: &[u16]) -> bool {
@@ -193,7 +198,7 @@ fn chroma_block_same(line: &[u8], call: Call, above: &[u16], left: &[u16]) -> bo
     let mut refs = [4660u16; 193];
     let mut indices = [4660u32; 32];
     let mut fractions = [4660u32; 32];
-    let no = predict::predict_chroma_tb_slices(
+    let answer = predict::predict_chroma_tb_slices(
         call.mode,
         listing::sample(call.seed, call.top),
         above,
@@ -205,7 +210,7 @@ fn chroma_block_same(line: &[u8], call: Call, above: &[u16], left: &[u16]) -> bo
         &mut indices,
         &mut fractions,
     );
-    (no == call.no) & same(line, &pred, call)
+    (no_of(answer) == call.no) & same(line, &pred, call)
 }
 
 // A luma block's rows are whole by their type.
@@ -219,7 +224,7 @@ fn luma_block_same(line: &[u8], call: Call) -> bool {
     let mut refs = [4660u16; 193];
     let mut indices = [4660u32; 32];
     let mut fractions = [4660u32; 32];
-    let no = predict::predict_luma_tb_slices(
+    let answer = predict::predict_luma_tb_slices(
         call.mode,
         rows,
         call.n,
@@ -229,7 +234,7 @@ fn luma_block_same(line: &[u8], call: Call) -> bool {
         &mut indices,
         &mut fractions,
     );
-    (no == call.no) & same(line, &pred, call)
+    (no_of(answer) == call.no) & same(line, &pred, call)
 }
 
 // Whether the line has this table, of so many entries.

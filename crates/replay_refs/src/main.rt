@@ -18,6 +18,8 @@
 ghost use Rattle.std.specs.Prelude.{◌≤◌, ◌<◌, length, ◌≡◌, true, Ok};
 ghost use Rattle.std.specs.Io.KnownBytes.{Consumes};
 
+use domain::refusal::Refusal;
+use domain::rows;
 use domain::rows::Rows;
 use fmt::{ChromaCol, ChromaRow, LumaCol, LumaRow};
 use listing::Count;
@@ -105,7 +107,14 @@ fn row_same(line: &[u8], row: [u16; 65], place: u32) -> bool {
     listing::same_run(line, 19, &row, place)
 }
 
-// Whether an answer's number, corner and row are those of the line.
+// Whether an answer's number, corner and row are those of the line; rows are all 0 where a call is refused.
+fn answer_same(line: &[u8], call: Call, answer: Result<Rows, Refusal>) -> bool {
+    match answer {
+        Ok(rows) => rows_same(line, call, 0, rows),
+        Err(why) => rows_same(line, call, why.number(), rows::level_rows(0)),
+    }
+}
+
 fn rows_same(line: &[u8], call: Call, no: u32, rows: Rows) -> bool {
     let above = rows.above;
     let left = rows.left;
@@ -128,7 +137,7 @@ fn substitution_same(line: &[u8], call: Call) -> bool {
         left: flags_of(call.cur_col, call.unit, call.height as usize),
     };
     let answer = substitution::substitute_refs(rows, flags, call.n, call.bits);
-    rows_same(line, call, answer.no, answer.rows)
+    answer_same(line, call, answer)
 }
 
 fn luma_same(line: &[u8], call: Call, plane: &[u16]) -> bool {
@@ -145,8 +154,7 @@ fn luma_same(line: &[u8], call: Call, plane: &[u16]) -> bool {
         block_col: LumaCol(call.col),
         n: call.n,
     };
-    let answer = refs::get_reference_samples(plane, geo);
-    rows_same(line, call, answer.no, answer.rows)
+    answer_same(line, call, refs::get_reference_samples(plane, geo))
 }
 
 fn chroma_same(line: &[u8], call: Call, cb: &[u16], cr: &[u16]) -> bool {
@@ -163,11 +171,11 @@ fn chroma_same(line: &[u8], call: Call, cb: &[u16], cr: &[u16]) -> bool {
         cur_luma_row: LumaRow(call.cur_row),
         cur_luma_col: LumaCol(call.cur_col),
     };
-    let answer = refs::get_reference_samples_chroma_pair(cb, cr, geo);
-    if call.which < 2 {
-        return rows_same(line, call, answer.no, answer.planes[0]);
+    let which = if call.which < 2 { 0 } else { 1 };
+    match refs::get_reference_samples_chroma_pair(cb, cr, geo) {
+        Ok(planes) => rows_same(line, call, 0, planes[which]),
+        Err(why) => rows_same(line, call, why.number(), rows::level_rows(0)),
     }
-    rows_same(line, call, answer.no, answer.planes[1])
 }
 
 // Whether a door gives what the line has. Kinds 1 to 3; others never do.

@@ -2,15 +2,16 @@
 use Rattle.std.specs.Prelude.{ℕ, zero, suc, ◌*◌, cond, List, [], ◌++◌, eqb, ℤ, pos, length, replicate}
 use Rattle.std.specs.Borrow.{Bor}
 use denote.Triple.Both.{Both}
-use Rattle.plan.specs.declared.tiling.Verdict.{Verdict}
+use Rattle.plan.specs.Answers.{Verdict}
 use Rattle.plan.specs.declared.tiling.Block.{Block}
 use Rattle.plan.specs.tiling.Tiling.{place}
-use Rattle.plan.specs.tiling.Plan.{Plan}
+use Rattle.plan.specs.tiling.Plan.{Plan, listed}
 use Rattle.walk.specs.declared.checks.Still.{Still}
 use Rattle.walk.specs.declared.Progress.{Progress}
 use Rattle.walk.specs.block.Walked.{World}
 use Rattle.walk.specs.Lent.{scratch_tables, lent_plan}
 use Rattle.walk.specs.calls.Door.{walk_verdict, walk_after, replay_after}
+use Rattle.report.specs.declared.Job.{Job as Held}
 use Rattle.report.specs.declared.Printout.{Printout}
 use Rattle.report.specs.declared.file.Trailer.{Trailer}
 use Rattle.report.specs.file.File.{trailer_of, file_ok, source_of, plan_in}
@@ -22,6 +23,10 @@ pub record Job : Type 0 where
   pub still : Still
   pub plan : Plan
   pub source : List ℕ
+
+-- the same as the program holds it
+abbrev pub held_job : Held → Job
+held_job h = record { still = h.still; plan = listed h.plan.now; source = h.source.now }
 
 -- the same in a still and lent slices, as they stand in an `ensures`
 abbrev pub Numbers : Type 0

@@ -4,237 +4,152 @@
 
 pub mod file;
 mod sums;
-pub mod text;
+mod text;
 
-ghost use Rattle.std.specs.Prelude.{◌≡◌, ◌≤◌, ◌<◌, replicate, length as count, pos};
-ghost use Rattle.plan.specs.tiling.Plan.{plan_of};
+ghost use Rattle.std.specs.Prelude.{◌≡◌, ◌≤◌, [], length as count};
+ghost use Rattle.plan.specs.tiling.Plan.{listed};
+ghost use Rattle.walk.specs.Answers.{stepped_of};
 ghost use Rattle.walk.specs.Lent.{scratch_tables, world, world_before, world_after};
 ghost use Rattle.walk.specs.calls.Door.{replay_after};
-ghost use Rattle.report.specs.Told.{still_in, lent_job, lines, told, job_of, printed, report_of};
-ghost use Rattle.report.specs.text.Laws.{Laid};
+ghost use Rattle.report.specs.Told.{held_job, lines, told, job_of, printed, report_of};
 ghost use Rattle.report.specs.Laws.{Listed, WholeWalk};
 ghost use Rattle.report.specs.Whole.{Blank, GoodFile};
 
 use crate::file::Trailer;
-use plan::tiling::Frame;
+use crate::text::Text;
+use domain::refusal::Refusal;
+use plan::tiling::{Block, Fault};
+use predict::scratch::AngularScratch;
 use walk::checks::Still;
-use walk::{Progress, Stepped};
+use walk::{Advance, Progress, Rejected};
 
 // The text and how many bytes it has.
-#[derive(Drop)]
+#[derive(Clone, Debug, Drop, PartialEq, Eq)]
 pub struct Printout {
     pub text: [u8; 65536],
     pub length: usize,
 }
 
-// Room for a plane, for a picture's residuals and for the text, each of zeros.
-fn blank_plane() -> [u16; 8192]
-    ensures { result ≡ replicate 8192 0 }
-{
-    [0; 8192]
-}
-
-fn blank_residuals() -> [i32; 8192]
-    ensures { result ≡ replicate 8192 (pos 0) }
-{
-    [0; 8192]
-}
-
-fn blank_text() -> [u8; 65536]
-    ensures { (result ≡ replicate 65536 0) × (count result ≡ 65536) }
-{
-    [0; 65536]
+// A file's contents: the still, its plan and its source.
+#[derive(Clone, Copy)]
+struct Job<'a> {
+    still: Still,
+    plan: &'a [Block],
+    source: &'a [u16],
 }
 
 // The lines of all blocks.
-fn lay_lines(
-    out: &mut [u8],
-    rows: &[u32],
-    cols: &[u32],
-    sides: &[u32],
-    modes: &[u32],
-    residuals: &[i32],
-) -> usize
-    requires { Listed (plan_of rows.now cols.now sides.now modes.now) (count residuals.now) × (65536 ≤
-        count out.old) }
-    ensures { Laid 0 (lines (plan_of rows.now cols.now sides.now modes.now).block residuals.now (count rows.now)) out.old out.new result
-        53760 }
+fn push_lines(text: &mut Text, plan: &[Block], residuals: &[i32])
+    requires plan { Listed (listed plan.now) (count residuals.now) }
+    requires empty { text.old.bytes ≡ [] }
+    ensures bytes { text.new.bytes ≡ lines (listed plan.now).block residuals.now (count plan.now) }
+    ensures short { count text.new.bytes ≤ 53760 }
 {
-    let mut end = 0;
-    let mut at = 0;
-    let mut k = 0;
-    while k < rows.len() {
-        let b = plan::block_at(rows, cols, sides, modes, k);
-        let n = b.side as usize;
-        end = text::lay_line(&mut *out, end, b, sums::sum_of(residuals, at, n * n));
-        at += n * n;
-        k += 1;
+    let mut rest = residuals;
+    for b in plan {
+        let (own, after) = rest.split_at((b.side * b.side) as usize);
+        text::push_line(text, *b, sums::sum_of(own));
+        rest = after;
     }
-    end
 }
 
 // The whole walk.
-fn walk_all(
-    still: Still,
-    rows: &[u32],
-    cols: &[u32],
-    sides: &[u32],
-    modes: &[u32],
-    source: &[u16],
-    work: &mut [u16],
-    residuals: &mut [i32],
-) -> Stepped
-    requires { count rows.now ≤ 512 }
-    ensures { WholeWalk (lent_job still rows cols sides modes source) (world_before work residuals)
-        (world_after work residuals) result }
+fn walk_all(job: &Job, work: &mut [u16], residuals: &mut [i32]) -> Result<Advance, Rejected>
+    requires { count job.now.plan.now ≤ 512 }
+    ensures { WholeWalk (held_job job.now) (world_before work residuals) (world_after work residuals) (stepped_of result) }
 {
-    let mut refs = [0u16; 193];
-    let mut indices = [0u32; 32];
-    let mut fractions = [0u32; 32];
-    Progress::fresh().walk_numbers(
-        still,
-        rows,
-        cols,
-        sides,
-        modes,
-        source,
-        &mut *work,
-        &mut *residuals,
-        &mut refs,
-        &mut indices,
-        &mut fractions,
-        rows.len() as u32,
+    let mut scratch = AngularScratch::new();
+    Progress::fresh().walk(
+        job.still,
+        job.plan,
+        job.source,
+        work,
+        residuals,
+        &mut scratch,
+        job.plan.len() as u32,
     )
 }
 
 // The whole replay.
-fn replay_all(
-    still: Still,
-    rows: &[u32],
-    cols: &[u32],
-    sides: &[u32],
-    modes: &[u32],
-    residuals: &[i32],
-    plane: &mut [u16],
-)
-    requires { count rows.now ≤ 512 }
-    ensures { plane.new ≡ replay_after still (plan_of rows.now cols.now sides.now modes.now) scratch_tables 0 (count rows.now) residuals.now plane.old }
+fn replay_all(job: &Job, residuals: &[i32], plane: &mut [u16])
+    requires { count job.now.plan.now ≤ 512 }
+    ensures { let j = held_job job.now in
+        plane.new ≡ replay_after j.still j.plan scratch_tables 0 (count job.now.plan.now) residuals.now plane.old }
 {
-    let mut refs = [0u16; 193];
-    let mut indices = [0u32; 32];
-    let mut fractions = [0u32; 32];
-    Progress::fresh().replay_numbers(
-        still,
-        rows,
-        cols,
-        sides,
-        modes,
+    let mut scratch = AngularScratch::new();
+    let _ = Progress::fresh().replay(
+        job.still,
+        job.plan,
         residuals,
-        &mut *plane,
-        &mut refs,
-        &mut indices,
-        &mut fractions,
-        rows.len() as u32,
+        plane,
+        &mut scratch,
+        job.plan.len() as u32,
     );
 }
 
-// The text of a still with its plan and its source; the other slices are lent for the work.
-fn tell(
-    out: &mut [u8],
-    still: Still,
-    rows: &[u32],
-    cols: &[u32],
-    sides: &[u32],
-    modes: &[u32],
-    source: &[u16],
-    work: &mut [u16],
-    residuals: &mut [i32],
-    plane: &mut [u16],
-) -> usize
-    requires { Blank still (count rows.now) (world work.old residuals.old) plane.old (count out.old) }
-    ensures { Laid 0 (told (lent_job still rows cols sides modes source)) out.old out.new result
-        65536 }
+// The text of a still with its plan and its source; the slices are lent for the work.
+fn tell(text: &mut Text, job: &Job, work: &mut [u16], residuals: &mut [i32], plane: &mut [u16])
+    requires blank { Blank job.now.still (count job.now.plan.now) (world work.old residuals.old) plane.old }
+    requires empty { text.old.bytes ≡ [] }
+    ensures { text.new.bytes ≡ told (held_job job.now) }
 {
-    let walked = walk_all(
-        still,
-        rows,
-        cols,
-        sides,
-        modes,
-        source,
-        &mut *work,
-        &mut *residuals,
-    );
-    if walked.no != 0 {
-        return text::lay_refusal(&mut *out, walked.no, walked.block);
-    }
-    replay_all(still, rows, cols, sides, modes, residuals, &mut *plane);
-    let same = sums::agrees(plane, source);
-    let lines = lay_lines(&mut *out, rows, cols, sides, modes, residuals);
-    text::lay_ending(&mut *out, lines, rows.len(), same)
-}
-
-fn still_in(t: Trailer) -> Still
-    ensures { result ≡ still_in t }
-{
-    let frame = Frame {
-        width: t.width as u32,
-        height: t.height as u32,
-        ctu: t.ctu as u32,
-    };
-    Still {
-        bits: t.bits as u32,
-        frame,
+    match walk_all(job, work, residuals) {
+        Err(rejected) => text::push_refusal(text, rejected.fault),
+        Ok(_) => {
+            replay_all(job, residuals, plane);
+            let same = sums::agrees(plane, job.source);
+            push_lines(text, job.plan, residuals);
+            text::push_ending(text, job.plan.len(), same);
+        }
     }
 }
 
 // The text of a file that number 12 is not given for.
-fn tell_file(out: &mut [u8], b: &[u8], t: Trailer) -> usize
-    requires { GoodFile b.now t × (65536 ≤ count out.old) }
-    ensures { Laid 0 (told (job_of b.now)) out.old out.new result 65536 }
+fn tell_file(text: &mut Text, b: &[u8], t: Trailer)
+    requires good { GoodFile b.now t }
+    requires empty { text.old.bytes ≡ [] }
+    ensures { text.new.bytes ≡ told (job_of b.now) }
 {
-    let samples = file::area_of(t);
+    let samples = t.area();
     let blocks = t.blocks as usize;
     let source = file::read_samples(b, t.samples, samples);
-    let at = t.plan as usize;
-    let rows = file::read_twos(b, at, blocks);
-    let cols = file::read_twos(b, at + 2, blocks);
-    let sides = file::read_ones(b, at + 4, blocks);
-    let modes = file::read_ones(b, at + 5, blocks);
-    let mut work = blank_plane();
-    let mut residuals = blank_residuals();
-    let mut plane = blank_plane();
+    let plan = file::read_plan(b, t.plan, blocks);
+    let mut work = [0u16; 8192];
+    let mut residuals = [0i32; 8192];
+    let mut plane = [0u16; 8192];
+    let job = Job {
+        still: t.still(),
+        plan: &plan[..blocks],
+        source: &source[..samples],
+    };
     tell(
-        &mut *out,
-        still_in(t),
-        &rows[..blocks],
-        &cols[..blocks],
-        &sides[..blocks],
-        &modes[..blocks],
-        &source[..samples],
+        text,
+        &job,
         &mut work[..samples],
         &mut residuals[..samples],
         &mut plane[..samples],
-    )
+    );
 }
 
 // A text of its own for a file, or its refusal.
-fn lay_report(out: &mut [u8], input: &[u8]) -> usize
-    requires { 65536 ≤ count out.old }
-    ensures { Laid 0 (printed input.now) out.old out.new result 65536 }
+fn push_report(text: &mut Text, input: &[u8])
+    requires { text.old.bytes ≡ [] }
+    ensures { text.new.bytes ≡ printed input.now }
 {
-    if !file::file_ok(input) {
-        return text::lay_refusal(&mut *out, 12, 0);
+    match Trailer::read(input) {
+        Some(t) => tell_file(text, input, t),
+        None => text::push_refusal(text, Fault::from(Refusal::File)),
     }
-    let t = file::trailer_of(input);
-    tell_file(&mut *out, input, t)
 }
 
 // What intrawalk prints of its whole input.
 pub fn report(input: &[u8]) -> Printout
     ensures { result ≡ report_of input.now }
 {
-    let mut text = blank_text();
-    let length = lay_report(&mut text, input);
+    let mut written = Text::new();
+    push_report(&mut written, input);
+    let length = written.len();
+    let mut text = [0u8; 65536];
+    text[..length].copy_from_slice(written.as_str().as_bytes());
     Printout { text, length }
 }

@@ -1,67 +1,56 @@
-// The lines that intrawalk prints (document 01, 'The program'), laid over a lent buffer. Whoever calls knows that it has room for
-// them. Rests on the kit's contract for decimal numbers.
-ghost use Rattle.std.specs.Prelude.{◌+◌, ◌≤◌, length};
+// The lines that intrawalk prints (document 01, 'The program'), added to a text of fixed room. Whoever calls knows that it has room
+// for them. Rests on the kit's text of fixed room and its decimal numbers.
+ghost use Rattle.std.specs.Prelude.{◌≡◌, ◌+◌, ◌<◌, ◌≤◌, ◌++◌, length};
+ghost use Rattle.domain.specs.Refusal.{number as number_of};
 ghost use Rattle.report.specs.text.Text.{number, block_line, refusal, ending};
-ghost use Rattle.report.specs.text.Laws.{Laid};
 
-use plan::tiling::Block;
+use arrayvec::ArrayString;
+use itoa::Buffer;
+use plan::tiling::{Block, Fault};
 
-// Lays a text over a buffer from `at` on, and tells where it ends.
-fn lay(out: &mut [u8], at: usize, s: &[u8]) -> usize
-    requires { at + length s.now ≤ length out.old }
-    ensures { Laid at s.now out.old out.new result (length s.now) }
-{
-    let mut i = 0;
-    while i < s.len() {
-        out[at + i] = s[i];
-        i += 1;
-    }
-    at + i
-}
+// What is printed, at most 65,536 bytes.
+pub(crate) type Text = ArrayString<65536>;
 
 // A number in decimal, and the byte after it.
-fn lay_number(out: &mut [u8], at: usize, n: u64, after: u8) -> usize
-    requires { at + 21 ≤ length out.old }
-    ensures { Laid at (number n after) out.old out.new result 21 }
+fn push_number(text: &mut Text, n: u64, after: char)
+    requires room { length text.old.bytes + 21 ≤ 65536 }
+    requires ascii { after < 128 }
+    ensures bytes { text.new.bytes ≡ text.old.bytes ++ number n after }
+    ensures short { length text.new.bytes ≤ length text.old.bytes + 21 }
 {
-    let mut digits = [0u8; 20];
-    let k = io::decimal(n, &mut digits);
-    let next = lay(&mut *out, at, &digits[..k]);
-    let last = [after];
-    lay(&mut *out, next, &last)
+    text.push_str(Buffer::new().format(n));
+    text.push(after);
 }
 
-// A line for a block from `at` on. Each of these tells where its text ends.
-pub(crate) fn lay_line(out: &mut [u8], at: usize, b: Block, sum: u64) -> usize
-    requires { at + 105 ≤ length out.old }
-    ensures { Laid at (block_line b sum) out.old out.new result 105 }
+// A line for a block.
+pub(crate) fn push_line(text: &mut Text, b: Block, sum: u64)
+    requires { length text.old.bytes + 105 ≤ 65536 }
+    ensures bytes { text.new.bytes ≡ text.old.bytes ++ block_line b sum }
+    ensures short { length text.new.bytes ≤ length text.old.bytes + 105 }
 {
-    let row = lay_number(&mut *out, at, b.row as u64, b' ');
-    let col = lay_number(&mut *out, row, b.col as u64, b' ');
-    let side = lay_number(&mut *out, col, b.side as u64, b' ');
-    let mode = lay_number(&mut *out, side, b.mode as u64, b' ');
-    lay_number(&mut *out, mode, sum, b'\n')
+    push_number(text, u64::from(b.row), ' ');
+    push_number(text, u64::from(b.col), ' ');
+    push_number(text, u64::from(b.side), ' ');
+    push_number(text, u64::from(b.mode), ' ');
+    push_number(text, sum, '\n');
 }
 
-// `refused N B` at the front.
-pub(crate) fn lay_refusal(out: &mut [u8], number: u32, block: u32) -> usize
-    requires { 50 ≤ length out.old }
-    ensures { Laid 0 (refusal number block) out.old out.new result 50 }
+// `refused N B`
+pub(crate) fn push_refusal(text: &mut Text, fault: Fault)
+    requires { length text.old.bytes + 50 ≤ 65536 }
+    ensures { text.new.bytes ≡ text.old.bytes ++ refusal (number_of fault.why) fault.block }
 {
-    let word = lay(&mut *out, 0, b"refused ");
-    let next = lay_number(&mut *out, word, number as u64, b' ');
-    lay_number(&mut *out, next, block as u64, b'\n')
+    text.push_str("refused ");
+    push_number(text, u64::from(fault.why.number()), ' ');
+    push_number(text, u64::from(fault.block), '\n');
 }
 
-// `end COUNT same` or `end COUNT differs` from `at` on.
-pub(crate) fn lay_ending(out: &mut [u8], at: usize, blocks: usize, same: bool) -> usize
-    requires { at + 33 ≤ length out.old }
-    ensures { Laid at (ending blocks same) out.old out.new result 33 }
+// `end COUNT same` or `end COUNT differs`
+pub(crate) fn push_ending(text: &mut Text, blocks: usize, same: bool)
+    requires { length text.old.bytes + 33 ≤ 65536 }
+    ensures { text.new.bytes ≡ text.old.bytes ++ ending blocks same }
 {
-    let word = lay(&mut *out, at, b"end ");
-    let next = lay_number(&mut *out, word, blocks as u64, b' ');
-    if same {
-        return lay(&mut *out, next, b"same\n");
-    }
-    lay(&mut *out, next, b"differs\n")
+    text.push_str("end ");
+    push_number(text, blocks as u64, ' ');
+    text.push_str(if same { "same\n" } else { "differs\n" });
 }

@@ -1,9 +1,9 @@
 -- Residuals one after the other, and how the tests are taken apart. Assumes nothing.
-use Rattle.std.specs.Prelude.{◌≡◌, ℕ, zero, suc, ◌+◌, ◌*◌, ◌<◌, ◌≤◌, Bool, true, false, ◌&&◌, leb, List, [], ◌∷◌, length, get_or, replicate, ℤ, pos, ◌≢◌, bit_or, nat_le, slice_index_or, unsigned_abs, refl}
+use Rattle.std.specs.Prelude.{◌≡◌, ℕ, zero, suc, ◌+◌, ◌*◌, ◌<◌, ◌≤◌, Bool, true, false, ◌&&◌, leb, List, [], ◌∷◌, length, get_or, take, replicate, ℤ, pos, ◌≢◌, bit_or, nat_le, slice_index_or, unsigned_abs, refl}
 use Rattle.std.proofs.Common.{ap, ◌∙◌, ⊎_elim, not-suc-le-zero, eq-or-lt_of_le, le_of_suc-le-suc, add-one, arith, leb-true}
 use Rattle.std.specs.Int.Bits.{or_add_and}
 use Rattle.std.proofs.lemmas.Nat.{and_le_l, and_le_r}
-use Rattle.std.proofs.lemmas.List.{length-replicate}
+use Rattle.std.proofs.lemmas.List.{length-replicate, length-take-le, get_or-take}
 use Rattle.laws.specs.Fill.{fill, run}
 use Rattle.laws.specs.FillLaws.{fill_at, fill_run}
 use Rattle.laws.specs.Choose.{Check, ◌unless◌, first_fail, passed, both_true}
@@ -33,6 +33,17 @@ each_small rs (suc k) e i h =
     let o = both_true (all_in_range rs k) (residual_ok (slice_index_or rs k (pos 0))) e in
     ⊎_elim (λ q. rw q (leb-true (unsigned_abs (slice_index_or rs k (pos 0))) 65535 o.1)) (λ l. each_small rs k o.0 i l)
     (eq-or-lt_of_le (le_of_suc-le-suc h))
+
+-- the first k, lent as a list of their own
+in_taken : (rs : List ℤ) (k j : ℕ) → j ≤ k → all_in_range (take k rs) j ≡ all_in_range rs j
+unfolding all_in_range
+in_taken rs k zero h = refl
+in_taken rs k (suc j) h =
+    let e = get_or-take k rs j (pos 0) (omega arith) in
+    rw (in_taken rs k j (omega arith), e)
+
+pub first_in_range : (rs : List ℤ) (k : ℕ) → k ≤ length rs → all_in_range (take k rs) (length (take k rs)) ≡ all_in_range rs k
+first_in_range rs k h = rw (length-take-le k rs h) (in_taken rs k k (omega arith))
 
 -- three buffers hold so many runs of 16
 pub record RunsFit (runs a b c : ℕ) : Type 0 where

@@ -2,16 +2,17 @@
 // (deltas) and the helpers.
 #![tactic(auto)]
 
-ghost use Rattle.std.specs.Prelude.{◌≡◌, ℕ, ◌+◌, ◌*◌, ◌<◌, ◌≤◌, true, length, get_or, replicate, pos, ◌+ℤ◌, slice_index, slice_index_or, unsigned_abs};
-ghost use Rattle.laws.specs.Fill.{fill, run};
+ghost use Rattle.std.specs.Prelude.{◌≡◌, ℕ, ◌*◌, ◌<◌, ◌≤◌, true, length, pos, ◌+ℤ◌, slice_index_or, unsigned_abs};
+ghost use Rattle.laws.specs.Fill.{fill};
 ghost use Rattle.h265.specs.Notation.{clip_to};
 ghost use Rattle.domain.specs.Facts.{Size};
+ghost use Rattle.domain.specs.Refusal.{no_of};
 ghost use Rattle.residual.specs.Residual.{difference_at, rebuilt_to, all_in_range, residual_no, reconstruct_no, residuals_after};
 ghost use Rattle.residual.specs.Residual.{reconstructed};
-ghost use Rattle.residual.specs.Laws.{RunsFit};
 ghost use Rattle.residual.specs.Narrow.{high_part};
 
 use domain::helpers;
+use domain::refusal::Refusal;
 use fmt::depth;
 use samples::deltas;
 
@@ -36,173 +37,139 @@ fn rebuilt(p: u16, r: i32, largest: u16) -> u16
     helpers::clamp((p as i32) + r, largest)
 }
 
-// Number 2, then 5, of three block buffers with so many entries.
-fn residual_no(n: usize, orig: usize, pred: usize, residual: usize) -> u32
-    ensures { result ≡ residual_no n orig pred residual }
+// Whether three buffers with so many entries each hold a block of side n.
+#[tactic(auto, unfolding(crate::specs::Residual::residual_no))]
+fn check_block(n: usize, orig: usize, pred: usize, residual: usize) -> Result<(), Refusal>
+    ensures { no_of result ≡ residual_no n orig pred residual }
 {
     if !domain::size_ok(n) {
-        return 2;
+        return Err(Refusal::Size);
     }
     let k = runs_of(n) * 16;
-    let long = (orig >= k) & (pred >= k) & (residual >= k);
-    if !long {
-        return 5;
+    if !((orig >= k) & (pred >= k) & (residual >= k)) {
+        return Err(Refusal::Buffer);
     }
-    0
+    Ok(())
 }
 
-// A run of 16 residuals goes by way of an array of its own, so that every sample is read before the first is written.
-fn residual_run(orig: &[u16], pred: &[u16], at: usize) -> [i32; 16]
-    requires { (at + 16 ≤ length orig.now) × (at + 16 ≤ length pred.now) }
-    ensures { result ≡ fill (λ (j : ℕ). difference_at orig.now pred.now (at + j)) 16 (replicate
-        16 (pos 0)) }
-{
-    let mut to = [0i32; 16];
-    for j in 0..16 {
-        to[j] = deltas::less(orig[at + j], pred[at + j]);
-    }
-    to
-}
-
-fn store_residuals(from: [i32; 16], at: usize, residual: &mut [i32])
-    requires { at + 16 ≤ length residual.old }
-    ensures { residual.new ≡ run (λ (j : ℕ). get_or from j (pos 0)) at 16 residual.old }
-{
-    for j in 0..16 {
-        residual[at + j] = from[j];
-    }
-}
-
-fn residuals(orig: &[u16], pred: &[u16], runs: usize, residual: &mut [i32])
-    requires { RunsFit runs (length orig.now) (length pred.now) (length residual.old) }
-    ensures { residual.new ≡ fill (difference_at orig.now pred.now) (runs * 16) residual.old }
+// Writes entry(i) at each i of so many runs of 16. A run goes by way of an array of its own, so that all that it is worked out from is
+// read before the first of it is written.
+fn fill_runs<T: Copy, F: Fn(usize) -> T>(runs: usize, zero: T, entry: F, out: &mut [T])
+    requires fits { (runs ≤ 64) × (runs * 16 ≤ length out.old) }
+    requires callable { (i : ℕ) → i < runs * 16 → F.pre entry i }
+    ensures { (f : ℕ → T) → ((i : ℕ) (v : T) → i < runs * 16 → F.post entry i v → v ≡ f i) → out.new ≡ fill f (runs * 16) out.old }
 {
     for r in 0..runs {
-        let t = residual_run(orig, pred, r * 16);
-        store_residuals(t, r * 16, &mut *residual);
+        let mut run = [zero; 16];
+        for j in 0..16 {
+            run[j] = entry(r * 16 + j);
+        }
+        for j in 0..16 {
+            out[r * 16 + j] = run[j];
+        }
     }
 }
 
 // Original less prediction, into the first n×n entries.
-pub fn compute_residual_i32_into(orig: &[u16], pred: &[u16], n: usize, residual: &mut [i32]) -> u32
-    ensures { (result ≡ residual_no n (length orig.now) (length pred.now) (length residual.old)) × (residual.new ≡ residuals_after n orig.now pred.now residual.old) }
+pub fn compute_residual_i32_into(
+    orig: &[u16],
+    pred: &[u16],
+    n: usize,
+    residual: &mut [i32],
+) -> Result<(), Refusal>
+    ensures { (no_of result ≡ residual_no n (length orig.now) (length pred.now) (length residual.old))
+        × (residual.new ≡ residuals_after n orig.now pred.now residual.old) }
 {
-    let no = residual_no(n, orig.len(), pred.len(), residual.len());
-    if no != 0 {
-        return no;
-    }
-    residuals(orig, pred, runs_of(n), &mut *residual);
-    0
+    check_block(n, orig.len(), pred.len(), residual.len())?;
+    let entry = |i: usize|
+        requires { (i < length orig.now) × (i < length pred.now) }
+        ensures { result ≡ difference_at orig.entry.now pred.entry.now i }
+    { deltas::less(orig[i], pred[i]) };
+    fill_runs(runs_of(n), 0, entry, &mut *residual);
+    Ok(())
 }
 
-// Whether so many runs of residuals are in range; no early way out, so that many are tested at once.
-fn all_in_range(residual: &[i32], runs: usize) -> bool
-    requires { (runs * 16 ≤ length residual.now) × (runs ≤ 64) }
-    ensures { result ≡ all_in_range residual.now (runs * 16) }
+// Whether all residuals are in range; no early way out, so that many are tested at once.
+fn all_in_range(residual: &[i32]) -> bool
+    ensures { result ≡ all_in_range residual.now (length residual.now) }
 {
     let mut ok = true;
-    for i in 0..runs * 16 {
-        ok = ok & deltas::residual_ok(residual[i]);
+    for r in residual {
+        ok = ok & deltas::residual_ok(*r);
     }
     ok
 }
 
 // What r + 32768 has above its 16 low bits: 0 where r fits an i16, and then it is in range.
+#[tactic(auto, unfolding(crate::specs::Narrow::high_part))]
 fn high_part(r: i32) -> u16
     ensures { result ≡ high_part r }
 {
-    (std::num::wrapping_add_u32(deltas::raised(r), 2147516416) / 65536) as u16
+    (deltas::raised(r).wrapping_add(2147516416) / 65536) as u16
 }
 
-// The high parts of so many runs of residuals, one laid over the other.
-fn high_parts(residual: &[i32], runs: usize) -> u16
-    requires { (runs * 16 ≤ length residual.now) × (runs ≤ 64) }
-    ensures { result ≡ 0 → all_in_range residual.now (runs * 16) ≡ true }
+// The high parts of residuals, one laid over the other.
+fn high_parts(residual: &[i32]) -> u16
+    ensures { result ≡ 0 → all_in_range residual.now (length residual.now) ≡ true }
 {
     let mut parts = 0u16;
-    for i in 0..runs * 16 {
-        parts = parts | high_part(residual[i]);
+    for r in residual {
+        parts = parts | high_part(*r);
     }
     parts
 }
 
-// Whether so many runs of residuals are in range. Most often all fit an i16, which is sooner told.
-fn runs_in_range(residual: &[i32], runs: usize) -> bool
-    requires { (runs * 16 ≤ length residual.now) × (runs ≤ 64) }
-    ensures { result ≡ all_in_range residual.now (runs * 16) }
+// Whether the first so many residuals are in range. Most often all fit an i16, which is sooner told.
+#[tactic(auto, using(crate::specs::Laws::first_in_range))]
+fn first_in_range(residual: &[i32], count: usize) -> bool
+    requires { count ≤ length residual.now }
+    ensures { result ≡ all_in_range residual.now count }
 {
-    if high_parts(residual, runs) == 0 {
+    let first = &residual[..count];
+    if high_parts(first) == 0 {
         return true;
     }
-    all_in_range(residual, runs)
+    all_in_range(first)
 }
 
-// Number 1 before those of the buffers, and 8 after them.
-fn reconstruct_no(bits: u32, n: usize, pred: usize, residual: &[i32], out: usize) -> u32
-    ensures { result ≡ reconstruct_no bits n pred residual.now out }
+// The depth before the buffers, and the residuals' range after them.
+#[tactic(auto, unfolding(crate::specs::Residual::reconstruct_no, crate::specs::Residual::residual_no))]
+fn check_rebuilding(
+    bits: u32,
+    n: usize,
+    pred: usize,
+    residual: &[i32],
+    out: usize,
+) -> Result<(), Refusal>
+    ensures { no_of result ≡ reconstruct_no bits n pred residual.now out }
 {
     if !domain::depth_ok(bits) {
-        return 1;
+        return Err(Refusal::Depth);
     }
-    let no = residual_no(n, pred, residual.len(), out);
-    if no != 0 {
-        return no;
+    check_block(n, pred, residual.len(), out)?;
+    if !first_in_range(residual, runs_of(n) * 16) {
+        return Err(Refusal::Residual);
     }
-    if !runs_in_range(residual, runs_of(n)) {
-        return 8;
-    }
-    0
-}
-
-fn rebuilt_run(pred: &[u16], residual: &[i32], at: usize, largest: u16) -> [u16; 16]
-    requires { (at + 16 ≤ length pred.now) × ((at + 16 ≤ length residual.now) × ((i : ℕ) → i < at + 16 → unsigned_abs
-        (slice_index_or residual.now i (pos 0)) ≤ 65535)) }
-    ensures { result ≡ fill (λ (j : ℕ). rebuilt_to largest pred.now residual.now (at + j)) 16
-        (replicate 16 0) }
-{
-    let mut to = [0u16; 16];
-    for j in 0..16 {
-        to[j] = rebuilt(pred[at + j], residual[at + j], largest);
-    }
-    to
-}
-
-fn store_samples(from: [u16; 16], at: usize, out: &mut [u16])
-    requires { at + 16 ≤ length out.old }
-    ensures { out.new ≡ run (λ (j : ℕ). slice_index from j) at 16 out.old }
-{
-    for j in 0..16 {
-        out[at + j] = from[j];
-    }
-}
-
-fn rebuild(pred: &[u16], residual: &[i32], runs: usize, largest: u16, out: &mut [u16])
-    requires { RunsFit runs (length pred.now) (length residual.now) (length out.old)
-        × ((i : ℕ) → i < runs * 16 →
-        unsigned_abs (slice_index_or residual.now i (pos 0)) ≤ 65535) }
-    ensures { out.new ≡ fill (rebuilt_to largest pred.now residual.now) (runs *
-        16) out.old }
-{
-    for r in 0..runs {
-        let t = rebuilt_run(pred, residual, r * 16, largest);
-        store_samples(t, r * 16, &mut *out);
-    }
+    Ok(())
 }
 
 // Prediction plus residual, brought to the depth's samples, into the first n×n entries.
-pub fn reconstruct_into(pred: &[u16], residual: &[i32], n: usize, bits: u32, out: &mut [u16]) -> u32
-    ensures { (result ≡ reconstruct_no bits n (length pred.now) residual.now (length out.entry.now)) × (out.new ≡ reconstructed bits n pred.now residual.now out.entry.now) }
+pub fn reconstruct_into(
+    pred: &[u16],
+    residual: &[i32],
+    n: usize,
+    bits: u32,
+    out: &mut [u16],
+) -> Result<(), Refusal>
+    ensures { (no_of result ≡ reconstruct_no bits n (length pred.now) residual.now (length out.entry.now))
+        × (out.new ≡ reconstructed bits n pred.now residual.now out.entry.now) }
 {
-    let no = reconstruct_no(bits, n, pred.len(), residual, out.len());
-    if no != 0 {
-        return no;
-    }
-    rebuild(
-        pred,
-        residual,
-        runs_of(n),
-        depth::largest_of(bits),
-        &mut *out,
-    );
-    0
+    check_rebuilding(bits, n, pred.len(), residual, out.len())?;
+    let largest = depth::largest_of(bits);
+    let entry = |i: usize|
+        requires { (i < length pred.now) × (i < length residual.now) × (unsigned_abs (slice_index_or residual.now i (pos 0)) ≤ 65535) }
+        ensures { result ≡ rebuilt_to largest pred.entry.now residual.entry.now i }
+    { rebuilt(pred[i], residual[i], largest) };
+    fill_runs(runs_of(n), 0, entry, &mut *out);
+    Ok(())
 }

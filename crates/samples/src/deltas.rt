@@ -3,7 +3,6 @@
 ghost use Rattle.std.specs.Prelude.{◌≡◌, pos, ◌+ℤ◌, ◌-ℤ◌};
 ghost use Rattle.h265.specs.Notation.{clip_to};
 ghost use Rattle.samples.specs.deltas.Deltas.{residual_ok, residual_within};
-ghost use Rattle.samples.specs.deltas.Laws.{Brought};
 ghost use Rattle.samples.specs.deltas.Raised.{raise};
 
 use domain::helpers;
@@ -15,36 +14,25 @@ pub fn less(o: u16, p: u16) -> i32
     (o as i32) - (p as i32)
 }
 
-// A residual, but no more than 65535: its sum with a sample fits, and is clamped the same.
-fn brought(r: i32) -> i32
-    ensures { Brought r result }
-{
-    if r > 65535 {
-        return 65535;
-    }
-    r
-}
-
-// Prediction plus residual, clamped.
+// Prediction plus residual, clamped. Of a residual above 65535 the sum with 65535 is clamped the same, and fits.
 pub fn restored(p: u16, r: i32, largest: u16) -> u16
     ensures { result ≡ clip_to largest (pos p +ℤ r) }
 {
-    helpers::clamp((p as i32) + brought(r), largest)
+    helpers::clamp((p as i32) + r.min(65535), largest)
 }
 
 // A number raised by 2^31, after which it is not below 0.
 pub fn raised(r: i32) -> u32
     ensures { result ≡ raise r }
 {
-    ((r as i64) + 2147483648) as u32
+    r.cast_unsigned().wrapping_add(2147483648)
 }
 
-// Whether a residual's size is at most a limit: a sum that wraps and one test, so that many are tested at once.
+// Whether a residual's size is at most a limit, of any i32; one test, so that many are tested at once.
 pub fn residual_within(r: i32, limit: u16) -> bool
     ensures { result ≡ residual_within limit r }
 {
-    let most = limit as u32;
-    std::num::wrapping_add_u32(raised(r), 2147483648 + most) <= 2 * most
+    r.unsigned_abs() <= (limit as u32)
 }
 
 // Number 8: whether a residual is in its range.

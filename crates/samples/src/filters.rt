@@ -1,21 +1,18 @@
 // The arithmetic of one smoothed reference, H.265 8.4.4.2.3, and the two tests that choose how references are smoothed. Rests on
-// the standard's clause, the depths, the domain's tests and the helpers. Each is a door of its own, so that a wrong number in one
-// is found in seconds.
+// the standard's clause, the depths and the domain's tests. Each is a door of its own, so that a wrong number in one is found in
+// seconds.
 ghost use Rattle.std.specs.Prelude.{◌≡◌, ◌+◌, ◌*◌, ◌/◌, ◌%◌, ◌≤◌, ◌&&◌};
 ghost use Rattle.h265.specs.Filtering.{min_dist_ver_hor, dist_threshold, filter_flag, straight, strong_at};
 ghost use Rattle.domain.specs.Domain.{depth_ok};
 
-use domain::helpers;
 use fmt::depth;
 
 // The distance of a mode from pure vertical and pure horizontal.
 fn distance(mode: u8) -> u32
     ensures { result ≡ min_dist_ver_hor mode }
 {
-    helpers::min(
-        helpers::abs_diff(mode as u32, 26),
-        helpers::abs_diff(mode as u32, 10),
-    )
+    let mode = mode as u32;
+    mode.abs_diff(26).min(mode.abs_diff(10))
 }
 
 fn threshold(n: usize) -> u32
@@ -29,6 +26,7 @@ fn threshold(n: usize) -> u32
 }
 
 // Whether the references of a block of side n are smoothed for a mode.
+#[tactic(auto, unfolding(h265::specs::Filtering::filter_flag))]
 pub fn smooths(mode: u8, n: usize) -> bool
     ensures { result ≡ filter_flag n mode }
 {
@@ -53,6 +51,7 @@ fn mix(a: u32, x: u16, b: u32, y: u16) -> u32
 
 // One sample in the strong form, on the straight line from the corner to the far end. A row has entries below 64, so that taking x
 // by 64 changes nothing.
+#[tactic(auto, using(crate::specs::filters::Filters::ramp_is))]
 pub fn ramp(x: u32, corner: u16, far: u16) -> u16
     ensures { result ≡ strong_at corner far (x % 64) }
 {
@@ -61,10 +60,12 @@ pub fn ramp(x: u32, corner: u16, far: u16) -> u16
 }
 
 // Whether a row is nearly straight, by its corner, entry 31 and entry 63; at no depth but the three.
+#[tactic(auto, using(crate::specs::filters::Filters::straight_is))]
 pub fn is_straight(bits: u32, corner: u16, mid: u16, far: u16) -> bool
     ensures { result ≡ (depth_ok bits && straight bits corner mid far) }
 {
     // 2^(bits-5), and 0 where there is no such depth
     let limit = ((depth::largest_of(bits) as u32) + 1) / 32;
-    helpers::abs_diff((corner as u32) + (far as u32), 2 * (mid as u32)) < limit
+    let ends = (corner as u32) + (far as u32);
+    ends.abs_diff(2 * (mid as u32)) < limit
 }

@@ -4,5 +4,4 @@
 
 pub mod deltas;
 pub mod filters;
-pub mod ranges;
 pub mod taps;

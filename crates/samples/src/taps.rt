@@ -5,6 +5,7 @@ ghost use Rattle.std.specs.Prelude.{◌≡◌, ◌+◌, ◌-◌, ◌/◌, ◌%�
 ghost use Rattle.samples.specs.taps.Taps.{interp_of, mean_of, edge_of, blended, cornered};
 
 // Between two references: 32 - f parts of x and f of y. A fraction is below 32, so that taking it by 32 changes nothing.
+#[tactic(auto, unfolding(crate::specs::taps::Taps::interp_of))]
 pub fn interp(f: u32, x: u16, y: u16) -> u16
     ensures { result ≡ interp_of (f % 32) x y }
 {
@@ -14,6 +15,7 @@ pub fn interp(f: u32, x: u16, y: u16) -> u16
 
 // The mean of 2n samples by their sum, which planar and DC end with, and 0 where n is no side. Such a sum is below 2^22, so that
 // neither the wrap nor the remainder changes anything.
+#[tactic(auto, unfolding(crate::specs::taps::Taps::mean_of))]
 pub fn mean(all: u32, n: usize) -> u16
     ensures { result ≡ mean_of n all }
 {
@@ -21,7 +23,7 @@ pub fn mean(all: u32, n: usize) -> u16
         return 0;
     }
     let side = n as u32;
-    ((std::num::wrapping_add_u32(all, side) / (2 * side)) % 65536) as u16
+    (all.wrapping_add(side) / (2 * side) % 65536) as u16
 }
 
 // Half of l less c, rounded down. It stands 32768 higher, so that no number is below 0.
@@ -35,15 +37,8 @@ fn raised_half(l: u16, c: u16) -> u32
 pub fn edge(a: u16, l: u16, c: u16, max: u16) -> u16
     ensures { result ≡ edge_of max a l c }
 {
-    let half = raised_half(l, c);
-    let v = (a as u32) + half;
-    if v < 32768 {
-        return 0;
-    }
-    if v - 32768 < (max as u32) {
-        return (v - 32768) as u16;
-    }
-    max
+    let raised = (a as u32) + raised_half(l, c);
+    raised.saturating_sub(32768).min(max as u32) as u16
 }
 
 // The edge of DC: a neighbour and the value three to one, and at the corner both neighbours and the value twice.

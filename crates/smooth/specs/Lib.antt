@@ -1,3 +1,5 @@
+-- Answers: what the doors' answers say in document 01's terms.
+pub mod Answers
 -- Smoothing: what the calls give.
 pub mod Smoothing
 -- Forms: the two forms of the standard's filtering, row by row.

@@ -7,9 +7,7 @@ use Rattle.h265.specs.Filtering.{filter_flag, filtered}
 use Rattle.domain.specs.Domain.{depth_ok, size_ok, mode_ok, smoothing_row}
 use Rattle.domain.specs.declared.rows.Rows.{Rows}
 use Rattle.domain.specs.rows.Neighbours.{zero_rows}
-use Rattle.smooth.specs.declared.Rule.{Rule}
-use Rattle.smooth.specs.declared.FilteredRows.{FilteredRows}
-use Rattle.smooth.specs.declared.Smoothed.{Smoothed}
+use Rattle.smooth.specs.Answers.{Rule, FilteredRows, Smoothed}
 
 -- entry i of a row: the standard's pF up to 2n - 1; entry 2n as it came
 abbrev pub row_entry : ℕ → (ℕ → ℕ) → List ℕ → ℕ → ℕ

@@ -11,7 +11,7 @@ use Rattle.domain.specs.Facts.{Depth, Size, depth_of, size_of, size_small}
 use Rattle.h265.specs.Notation.{from_rows}
 use Rattle.h265.specs.Filtering.{bi_int_flag, strong_at, weak_at}
 use Rattle.domain.specs.declared.rows.Rows.{Rows}
-use Rattle.smooth.specs.declared.FilteredRows.{FilteredRows}
+use Rattle.smooth.specs.Answers.{FilteredRows}
 use Rattle.smooth.specs.Smoothing.{row_entry, row_of, smoothed, filter_no, filter_luma_no, filter_references}
 use Rattle.smooth.specs.Forms.{weak_row, strong_side, strong_is, weak_is, never_strong}
 

@@ -6,85 +6,70 @@ ghost use Rattle.std.specs.Prelude.{◌≡◌, true, ℕ, ◌≤◌, length, get
 ghost use Rattle.h265.specs.Notation.{from_rows};
 ghost use Rattle.h265.specs.Filtering.{bi_int_flag, strong_at};
 ghost use Rattle.domain.specs.Facts.{Depth};
+ghost use Rattle.domain.specs.Refusal.{no_of};
+ghost use Rattle.smooth.specs.Answers.{rule_given, rows_given, smoothed_given};
 ghost use Rattle.smooth.specs.Smoothing.{rule_no, filter_no, filter_luma_no, should_filter_refs, filter_references, filter_luma_refs};
 ghost use Rattle.smooth.specs.Smoothing.{row_of, smoothed};
 ghost use Rattle.smooth.specs.Forms.{weak_row};
 ghost use Rattle.smooth.specs.Steps.{SmoothReady};
 
+use domain::refusal::Refusal;
 use domain::rows;
 use samples::filters;
 
-// Whether a block's references are smoothed, or why the call is refused.
-#[derive(Clone, Copy)]
-pub struct Rule {
-    pub no: u32,
-    pub yes: bool,
-}
-
 // The two rows in the [1 2 1] form.
-#[derive(Drop)]
-pub struct FilteredRows {
-    pub no: u32,
+#[derive(Clone, Copy, Debug, PartialEq, Eq)]
+pub struct RowPair {
     pub above: [u16; 65],
     pub left: [u16; 65],
 }
 
-// The corner and the two rows.
-#[derive(Drop)]
-pub struct Smoothed {
-    pub no: u32,
-    pub rows: rows::Rows,
-}
-
-// Number 2, then 3.
-fn rule_no(mode: u8, n: usize) -> u32
-    ensures { result ≡ rule_no mode n }
+// The side, then the mode.
+#[tactic(auto, unfolding(crate::specs::Smoothing::rule_no))]
+fn check_rule(mode: u8, n: usize) -> Result<(), Refusal>
+    ensures { no_of result ≡ rule_no mode n }
 {
     if !domain::size_ok(n) {
-        return 2;
+        return Err(Refusal::Size);
     }
     if !domain::mode_ok(mode as u32) {
-        return 3;
+        return Err(Refusal::Mode);
     }
-    0
+    Ok(())
 }
 
 // Whether the references of a block of side n are smoothed for a mode.
-pub fn should_filter_refs(mode: u8, n: usize) -> Rule
-    ensures { result ≡ should_filter_refs mode n }
+#[tactic(auto, unfolding(crate::specs::Smoothing::should_filter_refs))]
+pub fn should_filter_refs(mode: u8, n: usize) -> Result<bool, Refusal>
+    ensures { rule_given result ≡ should_filter_refs mode n }
 {
-    let no = rule_no(mode, n);
-    if no == 0 {
-        return Rule {
-            no: 0,
-            yes: filters::smooths(mode, n),
-        };
-    }
-    Rule { no: no, yes: false }
+    check_rule(mode, n)?;
+    Ok(filters::smooths(mode, n))
 }
 
-// Number 2, then 5, of rows with so many entries.
-fn filter_no(n: usize, above: usize, left: usize) -> u32
-    ensures { result ≡ filter_no n above left }
+// The side, then rows with so many entries.
+#[tactic(auto, unfolding(crate::specs::Smoothing::filter_no))]
+fn check_rows(n: usize, above: usize, left: usize) -> Result<(), Refusal>
+    ensures { no_of result ≡ filter_no n above left }
 {
     if !domain::size_ok(n) {
-        return 2;
+        return Err(Refusal::Size);
     }
-    let long = (above >= 65) & (left >= 65);
-    if !long {
-        return 5;
+    if !((above >= 65) & (left >= 65)) {
+        return Err(Refusal::Buffer);
     }
-    0
+    Ok(())
 }
 
-// Number 1 before them.
-fn filter_luma_no(bits: u32, n: usize, above: usize, left: usize) -> u32
-    ensures { result ≡ filter_luma_no bits n above left }
+// The depth before them.
+#[tactic(auto, unfolding(crate::specs::Smoothing::filter_luma_no))]
+fn check_luma(bits: u32, n: usize, above: usize, left: usize) -> Result<(), Refusal>
+    ensures { no_of result ≡ filter_luma_no bits n above left }
 {
     if !domain::depth_ok(bits) {
-        return 1;
+        return Err(Refusal::Depth);
     }
-    filter_no(n, above, left)
+    check_rows(n, above, left)
 }
 
 // A row in the [1 2 1] form: entries 2n - 1 and 2n are copied.
@@ -161,39 +146,32 @@ fn smooth_rows(
 }
 
 // The two rows in the [1 2 1] form, whatever the depth.
-pub fn filter_references(corner: u16, above: &[u16], left: &[u16], n: usize) -> FilteredRows
-    ensures { result ≡ filter_references corner above.now left.now n }
+#[tactic(auto, unfolding(crate::specs::Smoothing::filter_references))]
+pub fn filter_references(
+    corner: u16,
+    above: &[u16],
+    left: &[u16],
+    n: usize,
+) -> Result<RowPair, Refusal>
+    ensures { rows_given result ≡ filter_references corner above.now left.now n }
 {
-    let no = filter_no(n, above.len(), left.len());
-    if no == 0 {
-        let a = weak_row(corner, above, n);
-        let l = weak_row(corner, left, n);
-        return FilteredRows {
-            no: 0,
-            above: a,
-            left: l,
-        };
-    }
-    FilteredRows {
-        no: no,
-        above: [0u16; 65],
-        left: [0u16; 65],
-    }
+    check_rows(n, above.len(), left.len())?;
+    let a = weak_row(corner, above, n);
+    let l = weak_row(corner, left, n);
+    Ok(RowPair { above: a, left: l })
 }
 
 // The corner and the two rows; at n = 32 in the strong form where both rows are nearly straight.
-pub fn filter_luma_refs(corner: u16, above: &[u16], left: &[u16], n: usize, bits: u32) -> Smoothed
-    ensures { result ≡ filter_luma_refs true corner above.now left.now n bits }
+#[tactic(auto, unfolding(crate::specs::Smoothing::filter_luma_refs))]
+pub fn filter_luma_refs(
+    corner: u16,
+    above: &[u16],
+    left: &[u16],
+    n: usize,
+    bits: u32,
+) -> Result<rows::Rows, Refusal>
+    ensures { smoothed_given result ≡ filter_luma_refs true corner above.now left.now n bits }
 {
-    let no = filter_luma_no(bits, n, above.len(), left.len());
-    if no == 0 {
-        return Smoothed {
-            no: 0,
-            rows: smooth_rows(true, corner, above, left, n, bits),
-        };
-    }
-    Smoothed {
-        no: no,
-        rows: rows::level_rows(0),
-    }
+    check_luma(bits, n, above.len(), left.len())?;
+    Ok(smooth_rows(true, corner, above, left, n, bits))
 }

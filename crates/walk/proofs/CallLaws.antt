@@ -6,11 +6,11 @@ use Rattle.std.proofs.Common.{◌∙◌, arith}
 use Rattle.std.proofs.Math.Decide.{ℕ_discrete}
 use Rattle.laws.specs.Chain.{units}
 use Rattle.laws.specs.Choose.{served, worked, unserved}
-use Rattle.plan.specs.declared.tiling.Verdict.{Verdict}
+use Rattle.plan.specs.Answers.{Verdict}
 use Rattle.plan.specs.tiling.Plan.{Plan}
 use Rattle.walk.specs.declared.checks.Still.{Still}
 use Rattle.walk.specs.checks.Checks.{Tables}
-use Rattle.walk.specs.declared.calls.Step.{Step}
+use Rattle.walk.specs.Answers.{Step}
 use Rattle.walk.specs.calls.Steps.{doing_of, step_of, granted_step}
 use Rattle.walk.specs.block.Rebuilt.{replay_unit}
 use Rattle.walk.specs.block.Walked.{World, walk_unit}

@@ -1,10 +1,10 @@
 -- What a call of walk or replay comes to: what its loop may ask, and what it gives and leaves. Rests on specs/Listed and on how far a call
 -- goes.
 use Rattle.std.specs.Prelude.{◌≡◌, List, ℕ, ◌-◌, length, ℤ}
-use Rattle.std.proofs.Math.Path.{ap}
+use Rattle.std.proofs.Math.Path.{sym, ap}
 use Rattle.std.proofs.Common.{◌∙◌}
 use Rattle.laws.specs.Chain.{units}
-use Rattle.plan.specs.declared.tiling.Verdict.{Verdict}
+use Rattle.plan.specs.Answers.{Verdict}
 use Rattle.plan.specs.tiling.Plan.{Plan}
 use Rattle.plan.specs.tiling.PlanCheck.{plan_verdict}
 use Rattle.walk.specs.declared.checks.Still.{Still}
@@ -15,10 +15,23 @@ use Rattle.walk.specs.calls.Door.{replay_verdict, replay_after, walk_verdict, wa
 use Rattle.walk.specs.calls.Ready.{ReplayReady, WalkReady}
 use Rattle.walk.specs.calls.Laws as calls
 use Rattle.walk.specs.declared.Progress.{Progress}
-use Rattle.walk.specs.declared.Call.{Call}
+use Rattle.walk.specs.Answers.{Call}
 use Rattle.walk.specs.Door.{stepped_by}
-use Rattle.walk.specs.Listed.{bare, call_of, answer_is, upto_is, refused_so}
+use Rattle.walk.specs.Answers.{Step}
+use Rattle.walk.specs.calls.Steps.{step_of, step_no}
+use Rattle.walk.specs.Listed.{bare, call_by, call_of, refused_call, granted_call, answer_is, upto_is, refused_so}
 use Rattle.walk.proofs.CallLaws as asked
+
+-- a call by its step: granted, or rejected with the record as given
+module _ (v : Verdict) (plan : Plan) (p : Progress) (grant : ℕ) (x : Step) (is : x ≡ step_of v plan.count p.done grant) where
+  number_is : x.no ≡ v.no
+  number_is = ap (λ (y : Step). y.no) is ∙ step_no v plan.count p.done grant
+
+  pub granted_is : x.no ≡ 0 → call_by x (record { done = x.upto }) ≡ call_of v plan p grant
+  granted_is z = granted_call v plan p grant x is (sym number_is ∙ z)
+
+  pub rejected_is : (x.no ≡ 0 → ⊥) → call_by x p ≡ call_of v plan p grant
+  rejected_is d = refused_call v plan p grant x is (λ z. d (number_is ∙ z))
 
 -- replay: what its loop may ask, and what the call gives and leaves
 module _ (s : Still) (plan : Plan) (t : Tables) (p : Progress) (grant : ℕ) (v : List ℤ) (d : List ℕ) (found : Verdict)

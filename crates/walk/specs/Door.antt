@@ -2,7 +2,7 @@
 use Rattle.std.specs.Prelude.{◌≡◌, List, ℕ, ◌+◌, ℤ, length}
 use Rattle.laws.specs.Choose.{served}
 use Rattle.predict.specs.Lent.{Slice, MutSlice, Untouched}
-use Rattle.plan.specs.declared.tiling.Verdict.{Verdict}
+use Rattle.plan.specs.Answers.{Verdict}
 use Rattle.plan.specs.tiling.Plan.{Plan}
 use Rattle.walk.specs.declared.checks.Still.{Still}
 use Rattle.walk.specs.checks.Checks.{Tables}
@@ -11,7 +11,7 @@ use Rattle.walk.specs.block.Walked.{World}
 use Rattle.walk.specs.Lent.{Residuals, MutResiduals, lent_tables, world_before, world_after}
 use Rattle.walk.specs.calls.Door.{replay_verdict, replay_after, walk_verdict, walk_after}
 use Rattle.walk.specs.declared.Progress.{Progress}
-use Rattle.walk.specs.declared.Stepped.{Stepped}
+use Rattle.walk.specs.Answers.{Stepped}
 
 -- the successor of the record, or the record as given
 abbrev pub stepped_by : Verdict → Plan → Progress → ℕ → Stepped

@@ -1,3 +1,5 @@
+-- Answers: what a call's answers say by numbers.
+pub mod Answers
 -- Door: what a call gives.
 pub mod Door
 -- Lent: what a call is lent, by name.

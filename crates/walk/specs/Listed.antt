@@ -4,14 +4,14 @@ use Rattle.std.proofs.Math.Path.{sym, ap, ap₂}
 use Rattle.std.proofs.Common.{◌∙◌}
 use Rattle.std.proofs.Math.Decide.{ℕ_discrete}
 use Rattle.laws.specs.Choose.{worked, unserved}
-use Rattle.plan.specs.declared.tiling.Verdict.{Verdict}
+use Rattle.plan.specs.Answers.{Verdict}
 use Rattle.plan.specs.tiling.Plan.{Plan, no_block}
-use Rattle.walk.specs.declared.calls.Step.{Step}
+use Rattle.walk.specs.Answers.{Step}
 use Rattle.walk.specs.calls.Steps.{step_of}
 use Rattle.walk.specs.calls.Laws as calls
 use Rattle.walk.specs.declared.Progress.{Progress}
-use Rattle.walk.specs.declared.Stepped.{Stepped}
-use Rattle.walk.specs.declared.Call.{Call}
+use Rattle.walk.specs.Answers.{Stepped}
+use Rattle.walk.specs.Answers.{Call}
 use Rattle.walk.specs.Door.{stepped_by}
 
 -- a plan of which only the count counts

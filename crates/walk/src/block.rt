@@ -43,7 +43,7 @@ pub fn base_of(s: Still, b: Block) -> usize
     (b.row as usize) * (s.frame.width as usize) + (b.col as usize)
 }
 
-// A block's prediction from a plane, in rows. The last three slices are scratch.
+// A block's prediction from a plane, in rows. Such a block's gather is never refused. The last three slices are scratch.
 pub(crate) fn predict_block(
     s: Still,
     b: Block,
@@ -57,17 +57,18 @@ pub(crate) fn predict_block(
         ≤ length pred.old) }
     ensures { pred.new ≡ block (predicted_at s b plane.now) b.side pred.old }
 {
-    let g = refs::get_reference_samples(plane, geometry(s, b));
-    predict::predict_luma_tb_slices(
-        b.mode as u8,
-        g.rows,
-        b.side as usize,
-        s.bits,
-        &mut *pred,
-        &mut *refs,
-        &mut *indices,
-        &mut *fractions,
-    );
+    if let Ok(rows) = refs::get_reference_samples(plane, geometry(s, b)) {
+        let _ = predict::predict_luma_tb_slices(
+            b.mode as u8,
+            rows,
+            b.side as usize,
+            s.bits,
+            &mut *pred,
+            &mut *refs,
+            &mut *indices,
+            &mut *fractions,
+        );
+    }
 }
 
 // Replay: a block's samples from its prediction and its residuals, which are in rows from `at` on. The last three slices are scratch.

@@ -10,6 +10,7 @@ ghost use Rattle.walk.specs.block_rows.Ready.{RowIn, RowsIn};
 use samples::deltas;
 
 // A row of the replay: n samples from base on, its predictions from `from` on, its residuals from `at` on.
+#[tactic(auto, using(crate::specs::block_rows::Laws::storing))]
 fn rebuild_row(
     plane: &mut [u16],
     pred: &[u16],
@@ -24,10 +25,8 @@ fn rebuild_row(
     ensures { plane.new ≡ run (λ (c : ℕ). clip_to largest (pos (get_or pred.now (from + c) 0)
         +ℤ get_or residuals.now (at + c) (pos 0))) base n plane.old }
 {
-    let mut c = 0;
-    while c < n {
+    for c in 0..n {
         plane[base + c] = deltas::restored(pred[from + c], residuals[at + c], largest);
-        c += 1;
     }
 }
 
@@ -45,8 +44,7 @@ pub(crate) fn rebuild_rows(
     requires { RowsIn (length plane.old) (length pred.now) (length residuals.now) n base width at }
     ensures { plane.new ≡ paint base width n (λ (r c : ℕ). clip_to largest (pos (get_or pred.entry.now (r * n + c) 0) +ℤ get_or residuals.now (at + r * n + c) (pos 0))) n plane.old }
 {
-    let mut r = 0;
-    while r < n {
+    for r in 0..n {
         rebuild_row(
             plane,
             pred,
@@ -57,11 +55,11 @@ pub(crate) fn rebuild_rows(
             at + r * n,
             largest,
         );
-        r += 1;
     }
 }
 
 // A row of the walk: residuals stored from `at` on, samples restored from base on.
+#[tactic(auto, using(crate::specs::block_rows::Laws::storing))]
 fn walk_row(
     work: &mut [u16],
     residuals: &mut [i32],
@@ -77,13 +75,11 @@ fn walk_row(
     ensures { (residuals.new ≡ run (λ (c : ℕ). less_at source.now pred.now (base +
         c) (from + c)) at n residuals.old) × (work.new ≡ run (λ (c : ℕ). back_at_block largest source.now pred.now (base + c) (from + c)) base n work.old) }
 {
-    let mut c = 0;
-    while c < n {
+    for c in 0..n {
         let p = pred[from + c];
         let d = deltas::less(source[base + c], p);
         residuals[at + c] = d;
         work[base + c] = deltas::restored(p, d, largest);
-        c += 1;
     }
 }
 
@@ -104,8 +100,7 @@ pub(crate) fn walk_rows(
     ensures { (residuals.new ≡ less_rows source.now pred.now n base width at residuals.old) × (work.new ≡ back_rows largest source.now pred.now n base
         width work.old) }
 {
-    let mut r = 0;
-    while r < n {
+    for r in 0..n {
         walk_row(
             work,
             residuals,
@@ -117,6 +112,5 @@ pub(crate) fn walk_rows(
             at + r * n,
             largest,
         );
-        r += 1;
     }
 }

@@ -1,19 +1,12 @@
-// What a call of walk or replay comes to before its first write, by numbers alone: how many blocks it does, and up to which it goes.
-// Rests on what a verdict is.
-ghost use Rattle.std.specs.Prelude.{◌≡◌, min, ◌-◌};
+// How far a call of walk or replay goes, by numbers alone: how many blocks it does, and how many are done after it. Rests on the kinds
+// of refusal.
+ghost use Rattle.std.specs.Prelude.{◌≡◌, min, ◌-◌, ◌≤◌, cond, leb};
 ghost use Rattle.walk.specs.calls.Steps.{doing_of, step_of};
+ghost use Rattle.walk.specs.Answers.{advance_of};
 
+use crate::{Advance, Progress};
 use domain::helpers;
-use plan::tiling::Verdict;
-
-// A call's number and the block that it is about, how many blocks it does, and the block that it goes up to; refused, it does none.
-#[derive(Clone, Copy)]
-pub struct Step {
-    pub no: u32,
-    pub block: u32,
-    pub did: u32,
-    pub upto: usize,
-}
+use domain::refusal::Refusal;
 
 // How many blocks remain, as far as a u32 can count them.
 fn rest_of(count: usize, done: u32) -> u32
@@ -37,23 +30,18 @@ pub fn doing_of(count: usize, done: u32, grant: u32) -> u32
     helpers::min(grant, rest_of(count, done))
 }
 
-// The step of a call, of which so many blocks are done and whose plan has `count`.
-pub(crate) fn step_of(done: u32, v: Verdict, count: usize, grant: u32) -> Step
-    ensures { result ≡ step_of v count done grant }
+// How far a call goes whose plan has `count` blocks. Number 11: no more of them are done than there are.
+pub(crate) fn advance(p: Progress, count: usize, grant: u32) -> Result<Advance, Refusal>
+    requires { count ≤ 16777216 }
+    ensures { advance_of result ≡ step_of (record { no = cond (leb p.done count) 0 11; block = 0 }) count p.done grant }
 {
-    if v.no != 0 {
-        return Step {
-            no: v.no,
-            block: v.block,
-            did: 0,
-            upto: 0,
-        };
+    if (p.done as usize) > count {
+        return Err(Refusal::Start);
     }
-    let did = doing_of(count, done, grant);
-    Step {
-        no: 0,
-        block: 0,
+    let did = doing_of(count, p.done, grant);
+    let done = p.done + did;
+    Ok(Advance {
         did,
-        upto: (done as usize) + (did as usize),
-    }
+        next: Progress { done },
+    })
 }

@@ -1,17 +1,20 @@
-// A still, and what a call on it checks before it looks at blocks: numbers 1, 4, 5, then 7, or 8 and 14; and how the plan's verdict
-// and number 11 follow. Rests on the domain's tests and on what a plan's verdict is.
+// A still, and what a call on it checks before it looks at blocks: numbers 1, 4, 5, then 7, or 8 and 14. Rests on the domain's tests
+// and on the kinds of refusal.
 ghost use Rattle.std.specs.Prelude.{◌≡◌};
+ghost use Rattle.domain.specs.Refusal.{no_of};
 ghost use Rattle.laws.specs.Choose.{first_fail};
 ghost use Rattle.laws.specs.Every.{every};
 ghost use Rattle.samples.specs.deltas.Deltas.{residual_within};
-ghost use Rattle.walk.specs.checks.Checks.{is_whole, is_roomy, opening_no, residual_checks, replay_no, walk_no, settle};
+ghost use Rattle.walk.specs.checks.Checks.{is_whole, is_roomy, opening_no, residual_checks, replay_no, walk_no};
 
+use domain::refusal::Refusal;
 use fmt::depth;
-use plan::tiling::{Frame, Verdict};
-use samples::{deltas, ranges};
+use octets::lent;
+use plan::tiling::Frame;
+use samples::deltas;
 
 // A still: its depth, its luma sides and its CTU.
-#[derive(Clone, Copy)]
+#[derive(Clone, Copy, Debug, PartialEq, Eq)]
 pub struct Still {
     pub bits: u32,
     pub frame: Frame,
@@ -32,51 +35,49 @@ pub(crate) fn is_roomy(refs: usize, indices: usize, fractions: usize) -> bool
 }
 
 // Numbers 1, 4, 5; fit says whether all that is lent is long enough.
-pub fn opening_no(s: Still, fit: bool) -> u32
-    ensures { result ≡ opening_no s fit }
+pub fn check_opening(s: Still, fit: bool) -> Result<(), Refusal>
+    ensures { no_of result ≡ opening_no s fit }
 {
     if !domain::depth_ok(s.bits) {
-        return 1;
+        return Err(Refusal::Depth);
     }
     if !domain::picture_ok(s.frame.width, s.frame.height, s.frame.ctu) {
-        return 4;
+        return Err(Refusal::Picture);
     }
     if !fit {
-        return 5;
+        return Err(Refusal::Buffer);
     }
-    0
+    Ok(())
 }
 
 // Whether no residual is larger than a limit.
+#[tactic(auto, using(crate::specs::checks::Laws::passing))]
 fn residuals_within(residuals: &[i32], limit: u16) -> bool
     ensures { result ≡ every (residual_within limit) residuals.now }
 {
-    let count = residuals.len();
     let mut ok = true;
-    let mut i = 0;
-    while i < count {
-        ok = ok & deltas::residual_within(residuals[i], limit);
-        i += 1;
+    for &residual in residuals {
+        ok = ok & deltas::residual_within(residual, limit);
     }
     ok
 }
 
 // Numbers 8 and 14 over all residuals. The tighter limit is asked first: where all keep it, each is looked at once.
-fn residuals_no(residuals: &[i32], largest: u16) -> u32
-    ensures { result ≡ first_fail (residual_checks largest residuals.now) }
+fn check_residuals(residuals: &[i32], largest: u16) -> Result<(), Refusal>
+    ensures { no_of result ≡ first_fail (residual_checks largest residuals.now) }
 {
     if residuals_within(residuals, largest) {
-        return 0;
+        return Ok(());
     }
     if residuals_within(residuals, 65535) {
-        14
+        Err(Refusal::Excess)
     } else {
-        8
+        Err(Refusal::Residual)
     }
 }
 
-// Replay: the number of the checks before the plan's, 1, 4, 5, 8, 14. `records` says whether the plan is of whole records.
-pub(crate) fn replay_no(
+// Replay: the checks before the plan's, 1, 4, 5, 8, 14. `records` says whether the plan is of whole records.
+pub(crate) fn check_replay(
     s: Still,
     records: bool,
     residuals: &[i32],
@@ -84,20 +85,17 @@ pub(crate) fn replay_no(
     refs: usize,
     indices: usize,
     fractions: usize,
-) -> u32
-    ensures { result ≡ replay_no s records (record { refs = refs; indices = indices; fractions = fractions }) plane
+) -> Result<(), Refusal>
+    ensures { no_of result ≡ replay_no s records (record { refs = refs; indices = indices; fractions = fractions }) plane
         residuals.now }
 {
     let fit = records & is_whole(s, plane) & is_whole(s, residuals.len());
-    let no = opening_no(s, fit & is_roomy(refs, indices, fractions));
-    if no != 0 {
-        return no;
-    }
-    residuals_no(residuals, depth::largest_of(s.bits))
+    check_opening(s, fit & is_roomy(refs, indices, fractions))?;
+    check_residuals(residuals, depth::largest_of(s.bits))
 }
 
-// Walk: the number of the checks before the plan's, 1, 4, 5, 7.
-pub(crate) fn walk_no(
+// Walk: the checks before the plan's, 1, 4, 5, 7.
+pub(crate) fn check_walk(
     s: Still,
     records: bool,
     source: &[u16],
@@ -106,34 +104,14 @@ pub(crate) fn walk_no(
     refs: usize,
     indices: usize,
     fractions: usize,
-) -> u32
-    ensures { result ≡ walk_no s records (record { refs = refs; indices = indices; fractions = fractions }) source.now work residuals }
+) -> Result<(), Refusal>
+    ensures { no_of result ≡ walk_no s records (record { refs = refs; indices = indices; fractions = fractions }) source.now work residuals }
 {
     let fit = records & is_whole(s, source.len()) & is_whole(s, work) & is_whole(s, residuals);
-    let no = opening_no(s, fit & is_roomy(refs, indices, fractions));
-    if no != 0 {
-        return no;
-    }
-    if ranges::samples_ok(source, depth::largest_of(s.bits)) {
-        0
+    check_opening(s, fit & is_roomy(refs, indices, fractions))?;
+    if lent::samples_ok(source, depth::largest_of(s.bits)) {
+        Ok(())
     } else {
-        7
+        Err(Refusal::Sample)
     }
-}
-
-// The number of the checks before the plan's, then the plan's verdict, then 11.
-pub fn settled(done: u32, count: usize, found: Verdict, early: u32) -> Verdict
-    ensures { result ≡ settle found count done early }
-{
-    if early != 0 {
-        return Verdict {
-            no: early,
-            block: 0,
-        };
-    }
-    if found.no != 0 {
-        return found;
-    }
-    let no = if (done as usize) <= count { 0 } else { 11 };
-    Verdict { no, block: 0 }
 }

@@ -8,8 +8,12 @@ pub mod calls;
 pub mod checks;
 
 ghost use Rattle.std.specs.Prelude.{◌≡◌, true, cond, ◌+◌, ◌*◌, ◌≤◌, leb, length};
-ghost use Rattle.plan.specs.tiling.Plan.{plan_of, listed};
-ghost use Rattle.walk.specs.checks.Checks.{replay_no, walk_no, settle};
+ghost use Rattle.domain.specs.Refusal.{no_of};
+ghost use Rattle.plan.specs.tiling.Plan.{listed};
+ghost use Rattle.plan.specs.tiling.PlanCheck.{plan_verdict};
+ghost use Rattle.walk.specs.checks.Checks.{settle};
+ghost use Rattle.walk.specs.calls.Steps.{step_of};
+ghost use Rattle.walk.specs.Answers.{step_in, stepped_of};
 ghost use Rattle.walk.specs.block.Rebuilt.{rebuilt};
 ghost use Rattle.walk.specs.block.Walked.{walked};
 ghost use Rattle.walk.specs.block.Ready.{Ready, Lies};
@@ -17,106 +21,31 @@ ghost use Rattle.walk.specs.calls.Ready.{ReplayReady, WalkReady, ReplayBlocks, W
 ghost use Rattle.walk.specs.Door.{ReplayGives, ReplayLent, WalkGives, WalkLent};
 ghost use Rattle.predict.specs.Lent.{Untouched};
 ghost use Rattle.walk.specs.Lent.{tables, scratch_tables, lent_plan, world, world_before, world_after};
-ghost use Rattle.walk.specs.Listed.{bare, call_by, call_of};
 
-use crate::calls::Step;
 use crate::checks::Still;
-use plan::tiling::{Block, Verdict};
+use domain::refusal::Refusal;
+use plan::blocks::{Blocks, Numbers};
+use plan::tiling::{Block, Fault, Frame};
 use predict::scratch::AngularScratch;
 
 // How many blocks of the plan are done; 0 when fresh.
-#[derive(Clone, Copy)]
+#[derive(Clone, Copy, Debug, PartialEq, Eq)]
 pub struct Progress {
     pub done: u32,
 }
 
-// What a call gives: its number and the block that it is about, how many blocks it did, and the next record.
-#[derive(Clone, Copy)]
-pub struct Stepped {
-    pub no: u32,
-    pub block: u32,
+// What a call did: how many blocks, and the next record.
+#[derive(Clone, Copy, Debug, PartialEq, Eq)]
+pub struct Advance {
     pub did: u32,
     pub next: Progress,
 }
 
-// What a call comes to, before the first write: its answer, and the block that it goes up to, 0 when refused.
-#[derive(Clone, Copy)]
-struct Call {
-    answer: Stepped,
-    upto: usize,
-}
-
-// A step's numbers with the record that the call hands back.
-fn call_by(t: Step, next: Progress) -> Call
-    ensures { result ≡ call_by t next }
-{
-    let answer = Stepped {
-        no: t.no,
-        block: t.block,
-        did: t.did,
-        next,
-    };
-    Call {
-        answer,
-        upto: t.upto,
-    }
-}
-
-// Refused, the record comes back as it was; served, its successor does.
-fn call_of(p: Progress, v: Verdict, count: usize, grant: u32) -> Call
-    requires { v.no ≡ 0 → (p.done ≤ count) × (count ≤ 16777216) }
-    ensures { result ≡ call_of v (bare count) p grant }
-{
-    let t = calls::step_of(p.done, v, count, grant);
-    if v.no != 0 {
-        return call_by(t, p);
-    }
-    let done = t.upto as u32;
-    call_by(t, Progress { done })
-}
-
-fn replay_call(
-    p: Progress,
-    s: Still,
-    residuals: &[i32],
-    plane: usize,
-    count: usize,
-    found: Verdict,
-    grant: u32,
-) -> Call
-    requires { found.no ≡ 0 → count ≤ 16777216 }
-    ensures { result ≡ call_of (settle found count p.done (replay_no s true scratch_tables plane residuals.entry.now)) (bare count) p grant }
-{
-    let early = checks::replay_no(s, true, residuals, plane, 193, 32, 32);
-    call_of(
-        p,
-        checks::settled(p.done, count, found, early),
-        count,
-        grant,
-    )
-}
-
-fn walk_call(
-    p: Progress,
-    s: Still,
-    source: &[u16],
-    work: usize,
-    residuals: usize,
-    count: usize,
-    found: Verdict,
-    grant: u32,
-) -> Call
-    requires { found.no ≡ 0 → count ≤ 16777216 }
-    ensures { result ≡ call_of (settle found count p.done (walk_no s true scratch_tables source.now work
-        residuals)) (bare count) p grant }
-{
-    let early = checks::walk_no(s, true, source, work, residuals, 193, 32, 32);
-    call_of(
-        p,
-        checks::settled(p.done, count, found, early),
-        count,
-        grant,
-    )
+// Why a call is refused, the block that this is about, and the record as it was given.
+#[derive(Clone, Copy, Debug, PartialEq, Eq)]
+pub struct Rejected {
+    pub fault: Fault,
+    pub progress: Progress,
 }
 
 // Block k, whose residuals begin at `at`: rebuilt unless it was done before. Gives the next block's place.
@@ -193,12 +122,9 @@ fn walk_turn(
 }
 
 // The blocks of a plan up to block `upto`: those from block `from` on are rebuilt.
-fn replay_blocks(
+fn replay_blocks<P: Blocks>(
     s: Still,
-    rows: &[u32],
-    cols: &[u32],
-    sides: &[u32],
-    modes: &[u32],
+    plan: P,
     residuals: &[i32],
     plane: &mut [u16],
     refs: &mut [u16],
@@ -207,15 +133,12 @@ fn replay_blocks(
     from: u32,
     upto: usize,
 )
-    requires { ReplayReady s (plan_of rows.now cols.now sides.now modes.now) (tables refs.old indices.old
-        fractions.old) (length plane.old) (length residuals.now) upto }
-    ensures { ReplayBlocks s (lent_plan rows cols sides modes) residuals.now from upto
-        plane.old plane.new (Untouched refs indices fractions) }
+    requires { ReplayReady s (P.plan plan) (tables refs.old indices.old fractions.old) (length plane.old) (length residuals.now) upto }
+    ensures { ReplayBlocks s (P.plan plan) residuals.now from upto plane.old plane.new (Untouched refs indices fractions) }
 {
     let mut at: usize = 0;
-    let mut k: usize = 0;
-    while k < upto {
-        let b = plan::block_at(rows, cols, sides, modes, k);
+    for k in 0..upto {
+        let b = plan.block(k);
         at = replay_turn(
             s,
             b,
@@ -228,17 +151,13 @@ fn replay_blocks(
             &mut *indices,
             &mut *fractions,
         );
-        k += 1;
     }
 }
 
 // The same of the walk.
-fn walk_blocks(
+fn walk_blocks<P: Blocks>(
     s: Still,
-    rows: &[u32],
-    cols: &[u32],
-    sides: &[u32],
-    modes: &[u32],
+    plan: P,
     source: &[u16],
     work: &mut [u16],
     residuals: &mut [i32],
@@ -248,15 +167,14 @@ fn walk_blocks(
     from: u32,
     upto: usize,
 )
-    requires { WalkReady s (plan_of rows.now cols.now sides.now modes.now) (tables refs.old indices.old
-        fractions.old) (length source.now) (length work.old) (length residuals.old) upto }
-    ensures { WalkBlocks s (lent_plan rows cols sides modes) source.now from upto
+    requires { WalkReady s (P.plan plan) (tables refs.old indices.old fractions.old) (length source.now) (length work.old) (length
+        residuals.old) upto }
+    ensures { WalkBlocks s (P.plan plan) source.now from upto
         (world_before work residuals) (world_after work residuals) (Untouched refs indices fractions) }
 {
     let mut at: usize = 0;
-    let mut k: usize = 0;
-    while k < upto {
-        let b = plan::block_at(rows, cols, sides, modes, k);
+    for k in 0..upto {
+        let b = plan.block(k);
         at = walk_turn(
             s,
             b,
@@ -270,77 +188,23 @@ fn walk_blocks(
             &mut *indices,
             &mut *fractions,
         );
-        k += 1;
     }
 }
 
-// The records of a plan up to block `upto`: those from block `from` on are rebuilt. Gives the place after the last.
-fn replay_listed(
-    s: Still,
-    plan: &[Block],
-    residuals: &[i32],
-    plane: &mut [u16],
-    scratch: &mut AngularScratch,
-    from: u32,
-    upto: usize,
-) -> usize
-    requires { ReplayReady s (listed plan.now) scratch_tables (length plane.old) (length residuals.now) upto }
-    ensures { ReplayBlocks s (listed plan.now) residuals.now from upto plane.entry.now plane.new (scratch.new ≡ scratch.old) }
+// How far a call goes, before its first write: the checks before the plan's, in hand, then the plan's, then number 11.
+pub fn granted<P: Blocks>(
+    p: Progress,
+    frame: Frame,
+    plan: P,
+    early: Result<(), Refusal>,
+    grant: u32,
+) -> Result<Advance, Fault>
+    ensures { step_in result ≡ step_of (settle (plan_verdict frame (P.plan plan)) (P.plan plan).count p.done (no_of early))
+        (P.plan plan).count p.done grant }
 {
-    let mut at: usize = 0;
-    let mut k: usize = 0;
-    while k < upto {
-        at = replay_turn(
-            s,
-            plan[k],
-            at,
-            k,
-            from,
-            residuals,
-            plane,
-            &mut scratch.refs,
-            &mut scratch.indices,
-            &mut scratch.fractions,
-        );
-        k += 1;
-    }
-    at
-}
-
-// The same of the walk.
-fn walk_listed(
-    s: Still,
-    plan: &[Block],
-    source: &[u16],
-    work: &mut [u16],
-    residuals: &mut [i32],
-    scratch: &mut AngularScratch,
-    from: u32,
-    upto: usize,
-) -> usize
-    requires { WalkReady s (listed plan.now) scratch_tables (length source.now) (length work.old) (length residuals.old) upto }
-    ensures { WalkBlocks s (listed plan.now) source.now from upto
-        (world_before work residuals) (world_after work residuals) (scratch.new ≡ scratch.old) }
-{
-    let mut at: usize = 0;
-    let mut k: usize = 0;
-    while k < upto {
-        at = walk_turn(
-            s,
-            plan[k],
-            at,
-            k,
-            from,
-            source,
-            work,
-            residuals,
-            &mut scratch.refs,
-            &mut scratch.indices,
-            &mut scratch.fractions,
-        );
-        k += 1;
-    }
-    at
+    early?;
+    plan::check(frame, plan)?;
+    Ok(calls::advance(p, plan.count(), grant)?)
 }
 
 impl Progress {
@@ -351,7 +215,104 @@ impl Progress {
         Progress { done: 0 }
     }
 
+    // What a refused call hands back: the record as it was given.
+    fn rejected(self, fault: Fault) -> Rejected
+        ensures { result ≡ record { fault = fault; progress = self } }
+    {
+        Rejected {
+            fault,
+            progress: self,
+        }
+    }
+
     // Decodes the next blocks of a plan from their residuals, as many as are granted.
+    fn replay_plan<P: Blocks>(
+        self,
+        still: Still,
+        plan: P,
+        residuals: &[i32],
+        plane: &mut [u16],
+        refs: &mut [u16],
+        indices: &mut [u32],
+        fractions: &mut [u32],
+        grant: u32,
+    ) -> Result<Advance, Rejected>
+        ensures { ReplayLent still (P.plan plan) self grant residuals plane refs indices fractions (stepped_of result) }
+    {
+        let early = checks::check_replay(
+            still,
+            plan.whole(),
+            residuals,
+            plane.len(),
+            refs.len(),
+            indices.len(),
+            fractions.len(),
+        );
+        match granted(self, still.frame, plan, early, grant) {
+            Err(fault) => Err(self.rejected(fault)),
+            Ok(advance) => {
+                replay_blocks(
+                    still,
+                    plan,
+                    residuals,
+                    &mut *plane,
+                    &mut *refs,
+                    &mut *indices,
+                    &mut *fractions,
+                    self.done,
+                    advance.next.done as usize,
+                );
+                Ok(advance)
+            }
+        }
+    }
+
+    // Stores the residuals of the next blocks of a plan, as many as are granted, and reconstructs them in the work plane.
+    fn walk_plan<P: Blocks>(
+        self,
+        still: Still,
+        plan: P,
+        source: &[u16],
+        work: &mut [u16],
+        residuals: &mut [i32],
+        refs: &mut [u16],
+        indices: &mut [u32],
+        fractions: &mut [u32],
+        grant: u32,
+    ) -> Result<Advance, Rejected>
+        ensures { WalkLent still (P.plan plan) self grant source work residuals refs indices fractions (stepped_of result) }
+    {
+        let early = checks::check_walk(
+            still,
+            plan.whole(),
+            source,
+            work.len(),
+            residuals.len(),
+            refs.len(),
+            indices.len(),
+            fractions.len(),
+        );
+        match granted(self, still.frame, plan, early, grant) {
+            Err(fault) => Err(self.rejected(fault)),
+            Ok(advance) => {
+                walk_blocks(
+                    still,
+                    plan,
+                    source,
+                    &mut *work,
+                    &mut *residuals,
+                    &mut *refs,
+                    &mut *indices,
+                    &mut *fractions,
+                    self.done,
+                    advance.next.done as usize,
+                );
+                Ok(advance)
+            }
+        }
+    }
+
+    // Decodes the next blocks of a plan of numbers from their residuals, as many as are granted.
     pub fn replay_numbers(
         self,
         still: Still,
@@ -365,40 +326,22 @@ impl Progress {
         indices: &mut [u32],
         fractions: &mut [u32],
         grant: u32,
-    ) -> Stepped
+    ) -> Result<Advance, Rejected>
         ensures { ReplayLent still (lent_plan rows cols sides modes) self grant residuals plane
-            refs indices fractions result }
+            refs indices fractions (stepped_of result) }
     {
-        let found = plan::check_plan_numbers(still.frame, rows, cols, sides, modes);
-        let early = checks::replay_no(
-            still,
-            plan::is_whole(rows, cols, sides, modes),
-            residuals,
-            plane.len(),
-            refs.len(),
-            indices.len(),
-            fractions.len(),
-        );
-        let v = checks::settled(self.done, rows.len(), found, early);
-        let call = call_of(self, v, rows.len(), grant);
-        replay_blocks(
-            still,
+        let plan = Numbers {
             rows,
             cols,
             sides,
             modes,
-            residuals,
-            &mut *plane,
-            &mut *refs,
-            &mut *indices,
-            &mut *fractions,
-            self.done,
-            call.upto,
-        );
-        call.answer
+        };
+        self.replay_plan(
+            still, plan, residuals, plane, refs, indices, fractions, grant,
+        )
     }
 
-    // Stores the residuals of the next blocks of a plan, as many as are granted, and reconstructs them in the work plane.
+    // Stores the residuals of the next blocks of a plan of numbers, as many as are granted, and reconstructs them in the work plane.
     pub fn walk_numbers(
         self,
         still: Still,
@@ -413,42 +356,22 @@ impl Progress {
         indices: &mut [u32],
         fractions: &mut [u32],
         grant: u32,
-    ) -> Stepped
+    ) -> Result<Advance, Rejected>
         ensures { WalkLent still (lent_plan rows cols sides modes) self grant source work residuals
-            refs indices fractions result }
+            refs indices fractions (stepped_of result) }
     {
-        let found = plan::check_plan_numbers(still.frame, rows, cols, sides, modes);
-        let early = checks::walk_no(
-            still,
-            plan::is_whole(rows, cols, sides, modes),
-            source,
-            work.len(),
-            residuals.len(),
-            refs.len(),
-            indices.len(),
-            fractions.len(),
-        );
-        let v = checks::settled(self.done, rows.len(), found, early);
-        let call = call_of(self, v, rows.len(), grant);
-        walk_blocks(
-            still,
+        let plan = Numbers {
             rows,
             cols,
             sides,
             modes,
-            source,
-            &mut *work,
-            &mut *residuals,
-            &mut *refs,
-            &mut *indices,
-            &mut *fractions,
-            self.done,
-            call.upto,
-        );
-        call.answer
+        };
+        self.walk_plan(
+            still, plan, source, work, residuals, refs, indices, fractions, grant,
+        )
     }
 
-    // Decodes the next blocks of a plan of records from their residuals, as many as are granted.
+    // The same of a plan of records, with the scratch as one struct.
     pub fn replay(
         self,
         still: Still,
@@ -457,24 +380,22 @@ impl Progress {
         plane: &mut [u16],
         scratch: &mut AngularScratch,
         grant: u32,
-    ) -> Stepped
-        ensures { ReplayGives still (listed plan.now) scratch_tables self grant residuals.entry.now plane.old plane.new result (scratch.new ≡ scratch.old) }
+    ) -> Result<Advance, Rejected>
+        ensures { ReplayGives still (listed plan.now) scratch_tables self grant residuals.now plane.old plane.new
+            (stepped_of result) (scratch.new ≡ scratch.old) }
     {
-        let found = plan::check_plan(still.frame, plan);
-        let call = replay_call(
-            self,
+        self.replay_plan(
             still,
+            plan,
             residuals,
-            plane.len(),
-            plan.len(),
-            found,
+            plane,
+            &mut scratch.refs,
+            &mut scratch.indices,
+            &mut scratch.fractions,
             grant,
-        );
-        replay_listed(still, plan, residuals, plane, scratch, self.done, call.upto);
-        call.answer
+        )
     }
 
-    // Stores the residuals of the next blocks of a plan of records, as many as are granted, and reconstructs them in the work plane.
     pub fn walk(
         self,
         still: Still,
@@ -484,24 +405,20 @@ impl Progress {
         residuals: &mut [i32],
         scratch: &mut AngularScratch,
         grant: u32,
-    ) -> Stepped
+    ) -> Result<Advance, Rejected>
         ensures { WalkGives still (listed plan.now) scratch_tables self grant source.now
-            (world_before work residuals) (world_after work residuals) result (scratch.new ≡ scratch.old) }
+            (world_before work residuals) (world_after work residuals) (stepped_of result) (scratch.new ≡ scratch.old) }
     {
-        let found = plan::check_plan(still.frame, plan);
-        let call = walk_call(
-            self,
+        self.walk_plan(
             still,
+            plan,
             source,
-            work.len(),
-            residuals.len(),
-            plan.len(),
-            found,
+            work,
+            residuals,
+            &mut scratch.refs,
+            &mut scratch.indices,
+            &mut scratch.fractions,
             grant,
-        );
-        walk_listed(
-            still, plan, source, work, residuals, scratch, self.done, call.upto,
-        );
-        call.answer
+        )
     }
 }

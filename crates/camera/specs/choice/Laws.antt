@@ -24,7 +24,7 @@ use Rattle.h265.specs.Notation.{from_rows}
 use Rattle.h265.specs.Setting.{luma_at, first_edition_strong}
 use Rattle.predict.specs.refusals.Refusals.{lengths, square}
 use Rattle.predict.specs.modes.Modes.{pred_alone}
-use Rattle.choose.specs.declared.Chosen.{Chosen}
+use Rattle.choose.specs.Answers.{Chosen}
 use Rattle.choose.specs.Choose.{apart, differences, mode_sum, choose_no, Chooses}
 use Rattle.camera.specs.Written.{wrote}
 use Rattle.camera.specs.replay.VerdictLaws.{put_word}

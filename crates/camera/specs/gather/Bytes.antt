@@ -7,6 +7,7 @@ use Rattle.laws.specs.Fill.{run}
 use Rattle.laws.specs.FillLaws.{run_none, run_more, run_same}
 use Rattle.laws.specs.Bytes.{byte_of, byte_at}
 use Rattle.octets.specs.Bytes.{byte1}
+use Rattle.octets.specs.Laws.{length_samples}
 use Rattle.domain.specs.declared.rows.Rows.{Rows}
 use Rattle.camera.specs.gather.Line.{sample_byte, in_line, rows_at}
 
@@ -33,6 +34,9 @@ run_run : (f g : ℕ → ℕ) (a k m : ℕ) (d : List ℕ) → ((j : ℕ) → j 
 unfolding run
 run_run f g a k zero d h = rw add-zero
 run_run f g a k (suc m) d h = rw (add-suc, run_run f g a k m d (λ j l. h j (omega arith)), h m (omega arith), add_assoc)
+
+-- what a loop that stores samples rests on: its start, its turns, and how many samples a plane's bytes spell
+pub ruleset storing = (run_none, sample_more, length_samples)
 
 -- samples that are the same, whatever tells them
 pub samples_same : (f g : ℕ → ℕ) (at count : ℕ) (d : List ℕ) → ((i : ℕ) → i < count → f i ≡ g i)

@@ -3,7 +3,7 @@
 use Rattle.std.specs.Prelude.{ℕ, ◌*◌, ◌&&◌, List, eqb, length}
 use Rattle.laws.specs.Choose.{served}
 use Rattle.octets.specs.Bytes.{samples_of}
-use Rattle.domain.specs.declared.rows.Gathered.{Gathered}
+use Rattle.refs.specs.Answers.{Gathered}
 use Rattle.domain.specs.rows.Neighbours.{level_rows}
 use Rattle.refs.specs.declared.LumaRefGeometry.{LumaRefGeometry}
 use Rattle.refs.specs.declared.ChromaRefGeometry.{ChromaRefGeometry}

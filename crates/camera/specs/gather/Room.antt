@@ -1,10 +1,12 @@
 -- A gather's number where its buffer may be short, and what one that is not refused rests on. Assumes nothing.
-use Rattle.std.specs.Prelude.{◌≡◌, refl, Bool, true, false, cond, ◌&&◌, ◌||◌, ℕ, ◌*◌, ◌≤◌}
-use Rattle.std.proofs.Math.Path.{sym, ap}
+use Rattle.std.specs.Prelude.{◌≡◌, refl, Bool, true, false, cond, ◌&&◌, ◌||◌, ℕ, ◌*◌, ◌≤◌, Result, Ok, IfOk}
+use Rattle.std.proofs.Math.Path.{sym, ap, subst}
 use Rattle.std.proofs.Common.{◌∙◌, true≢false, ⊎_elim, arith, leb-true}
 use Rattle.std.proofs.Math.Dec.{leb, eqb}
 use Rattle.laws.specs.Choose.{passed}
 use Rattle.domain.specs.Domain.{depth_ok, size_ok}
+use Rattle.domain.specs.declared.refusal.Refusal.{Refusal}
+use Rattle.order.specs.declared.Reach.{Reach}
 use Rattle.order.specs.Order.{picture_ok}
 use Rattle.order.specs.Reach.{luma_place_ok, chroma_place_ok}
 use Rattle.camera.specs.gather.Line.{room_no}
@@ -36,6 +38,11 @@ room_fine roomy k e =
   where
     stuck : (eqb k 0 || eqb k 6) ≡ false → k ≡ 0 → ⊥
     stuck t z = true≢false (ap (λ (v : ℕ). eqb v 0 || eqb v 6) (sym z) ∙ t)
+
+-- a reach that is given with the buffer's room is the one that was found
+pub own_reach : (found : Result Reach Refusal) {early : Result Reach Refusal} {r : Reach} → early ≡ Ok r
+    → IfOk early (λ q. found ≡ Ok q) → found ≡ Ok r
+own_reach found e h = subst (λ (s : Result Reach Refusal). IfOk s (λ q. found ≡ Ok q)) e h
 
 -- the luma gather's, from its number over the plane alone
 module _ (plane out : ℕ) (g : LumaRefGeometry) {j k : ℕ} (e : j ≡ luma_bytes_no plane g) (ek : k ≡ room_no (leb 262 out) j) where

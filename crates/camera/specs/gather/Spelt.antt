@@ -18,7 +18,6 @@ use Rattle.refs.specs.Door.{chroma_number, chroma_no, chroma_rows, get_reference
 use Rattle.camera.specs.gather.Door.{luma_bytes_no, luma_bytes_door, chroma_bytes_no}
 use Rattle.camera.specs.gather.Entry.{luma_entry, chroma_entry}
 use Rattle.refs.specs.substitution.Line.{told}
-use Rattle.refs.specs.substitution.Served.{gathered}
 use Rattle.refs.specs.Served.{gather_fine, luma-no, chroma-no}
 
 -- numbers are the same where their doubles are
@@ -42,7 +41,7 @@ module _ (b : List ℕ) (g : LumaRefGeometry) (m : ℕ) (even : length b ≡ 2 *
   -- whole samples: the luma gather answers as it does on the samples
   pub luma_spelt : luma_bytes_door b g ≡ get_reference_samples (samples_of b) g
   unfolding luma_bytes_door get_reference_samples
-  luma_spelt = ap (λ (k : ℕ). gathered k (served k (luma_rows (samples_of b) g) (level_rows 0))) same_no
+  luma_spelt = ap (λ (k : ℕ). record { no = k; rows = served k (luma_rows (samples_of b) g) (level_rows 0) }) same_no
 
 -- a call that is not refused has whole samples, and is not refused over these
 pub luma_spelt_fine : (b : List ℕ) (g : LumaRefGeometry) → luma_bytes_no (length b) g ≡ 0 → (length b ≡ 2 * luma_length g)

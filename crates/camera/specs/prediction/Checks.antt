@@ -43,3 +43,10 @@ mode_fit row bits n mode above left out taken long h e =
     let m = passed taken _ 3 (omega arith) s.1 in
     let t = passed (has_block_room row n above left out) 0 5 (omega arith) m.1 in
     (record { depth = d.0; size = s.0; inside = h m.0 }, (fit row n above left out (long (size_of n s.0)) t.0, m.0))
+
+-- a mode that was not refused is taken
+pub mode_taken : (row bits n : ℕ) (taken : Bool) (above left out : ℕ) → mode_entry_no row bits n taken above left out ≡ 0 → taken ≡ true
+unfolding mode_entry_no
+mode_taken row bits n taken above left out e =
+    let s = passed (size_ok n) _ 2 (omega arith) (passed (depth_ok bits) _ 1 (omega arith) e).1 in
+    (passed taken _ 3 (omega arith) s.1).0

@@ -9,12 +9,13 @@ use borrow.Author.Tests.{eq-eqb}
 use Rattle.laws.specs.Choose.{worked, unserved}
 use Rattle.laws.specs.Chain.{units}
 use Rattle.octets.specs.Bytes.{samples_of, bytes_of, residuals_of}
-use Rattle.octets.specs.Laws.{AreBytes, length_samples, length_residuals, bytes_back}
-use Rattle.plan.specs.declared.tiling.Verdict.{Verdict}
+use Rattle.octets.specs.Laws.{AreBytes, length_samples, length_residuals, samples_alike, bytes_back}
+use Rattle.plan.specs.Answers.{Verdict}
 use Rattle.plan.specs.RecordPlan.{records_of}
 use Rattle.walk.specs.declared.checks.Still.{Still}
 use Rattle.walk.specs.checks.Checks.{largest_in, call_no, residual_checks, replay_fits}
 use Rattle.walk.specs.checks.Laws.{good_call}
+use Rattle.walk.specs.block_rows.Laws.{storing}
 use Rattle.walk.specs.Lent.{scratch_tables}
 use Rattle.walk.specs.calls.Steps.{doing_of}
 use Rattle.walk.specs.block.Rebuilt.{replay_unit}
@@ -102,3 +103,6 @@ pub all_three : (s : Still) (done : ℕ) (plan residuals : List ℕ) (grant : �
     → record { number = k; plane = d; result = e } ≡ replayed s done plan residuals grant plane result
 unfolding replayed
 all_three s done plan residuals grant plane result a b c = λ i. record { number = a i; plane = b i; result = c i }
+
+-- what a loop that stores a row in bytes rests on: what one over samples does, and how many samples and residuals bytes spell
+pub ruleset storing_bytes = (storing, length_samples, length_residuals, samples_alike)

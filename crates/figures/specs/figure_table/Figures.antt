@@ -14,7 +14,7 @@ use Rattle.h265.specs.Dc.{sum_to, dc_val, dc}
 use Rattle.h265.specs.Angular.{intra_pred_angle, inv_angle, ref, project, angular}
 use Rattle.order.specs.declared.Picture.{Picture}
 use Rattle.order.specs.Order.{number_at, order_no, decode_order}
-use Rattle.smooth.specs.declared.Rule.{Rule}
+use Rattle.smooth.specs.Answers.{Rule}
 use Rattle.smooth.specs.Smoothing.{row_of, smoothed, should_filter_refs, filter_references, filter_luma_refs}
 use Rattle.predict.specs.refusals.Refusals.{flat_no, angular_no}
 use Rattle.residual.specs.Residual.{all_in_range, reconstruct_no, reconstructed}

@@ -1,9 +1,10 @@
 -- Document 01, module 1: depth. Assumes nothing.
-use Rattle.std.specs.Prelude.{ℕ, cond, eqb}
+use Rattle.std.specs.Prelude.{ℕ, cond, eqb, Result, Ok, Err}
+use Rattle.domain.specs.declared.refusal.Refusal.{Refusal}
+use Rattle.domain.specs.declared.refusal.Refusal.TheVariants.{Depth}
+use Rattle.domain.specs.Refusal.{no_of}
 use Rattle.fmt.specs.declared.depth.BitDepth.{BitDepth}
 use Rattle.fmt.specs.declared.depth.BitDepth.TheVariants.{Eight, Ten, Twelve}
-use Rattle.fmt.specs.declared.depth.DepthFrom.{DepthFrom}
-use Rattle.fmt.specs.declared.depth.DepthFrom.TheVariants.{Depth, Refused}
 
 -- depth 8, 10, 12
 abbrev pub bits_of : BitDepth → ℕ
@@ -23,18 +24,17 @@ neutral Ten = 512
 neutral Twelve = 2048
 
 -- the depth that a number of bits names
-abbrev pub depth_from : ℕ → DepthFrom
-depth_from bits = cond (eqb bits 8) (Depth Eight) (cond (eqb bits 10) (Depth Ten) (cond (eqb bits 12) (Depth Twelve) Refused))
+abbrev pub depth_from : ℕ → Result BitDepth Refusal
+depth_from bits = cond (eqb bits 8) (Ok Eight) (cond (eqb bits 10) (Ok Ten) (cond (eqb bits 12) (Ok Twelve) (Err Depth)))
 
 -- document 01's number for each case of the answer
-abbrev pub depth_number : DepthFrom → ℕ
-depth_number (Depth d) = 0
-depth_number Refused = 1
+abbrev pub depth_number : Result BitDepth Refusal → ℕ
+depth_number d = no_of d
 
 -- a depth's figure, 0 where there is no depth
-abbrev pub figure_in : (BitDepth → ℕ) → DepthFrom → ℕ
-figure_in figure (Depth d) = figure d
-figure_in figure Refused = 0
+abbrev pub figure_in : (BitDepth → ℕ) → Result BitDepth Refusal → ℕ
+figure_in figure (Ok d) = figure d
+figure_in figure (Err why) = 0
 
 -- the figures of a number of bits
 abbrev pub largest_of : ℕ → ℕ

@@ -3,7 +3,7 @@ use Rattle.std.specs.Prelude.{◌≡◌, refl, List, [], ◌∷◌, ℕ}
 use Rattle.h265.specs.Notation.{halvings}
 use Rattle.plan.specs.declared.tiling.Frame.{Frame}
 use Rattle.plan.specs.declared.tiling.Block.{Block}
-use Rattle.plan.specs.declared.tiling.Verdict.{Verdict}
+use Rattle.plan.specs.Answers.{Verdict}
 use Rattle.plan.specs.tiling.Plan.{plan_of, listed}
 use Rattle.plan.specs.tiling.Check.{ahead_by, ahead, block_number}
 use Rattle.plan.specs.tiling.PlanCheck.{verdict_from, plan_verdict}

@@ -10,7 +10,7 @@ use Rattle.domain.specs.Facts.{size_small}
 use Rattle.order.specs.Good.{Good}
 use Rattle.plan.specs.declared.tiling.Frame.{Frame}
 use Rattle.plan.specs.declared.tiling.Block.{Block}
-use Rattle.plan.specs.declared.tiling.Verdict.{Verdict}
+use Rattle.plan.specs.Answers.{Verdict}
 use Rattle.plan.specs.tiling.Tiling.{picture_of}
 use Rattle.plan.specs.tiling.Check.{block_number}
 use Rattle.plan.specs.tiling.PlanCheck.{verdict_from}

@@ -11,7 +11,7 @@ use Rattle.order.specs.Order.{picture_ok}
 use Rattle.order.specs.Good.{Good}
 use Rattle.plan.specs.declared.tiling.Frame.{Frame}
 use Rattle.plan.specs.declared.tiling.Block.{Block}
-use Rattle.plan.specs.declared.tiling.Verdict.{Verdict}
+use Rattle.plan.specs.Answers.{Verdict}
 use Rattle.plan.specs.tiling.Tiling.{picture_of, In, Covered, Placed, Next, GoodPlan, place}
 use Rattle.plan.specs.tiling.Plan.{Plan}
 use Rattle.plan.specs.tiling.Check.{ahead, block_number}

@@ -8,8 +8,8 @@ use Rattle.order.specs.Order.{picture_ok}
 use Rattle.order.specs.Good.{Good}
 use Rattle.plan.specs.declared.tiling.Frame.{Frame}
 use Rattle.plan.specs.declared.tiling.Block.{Block}
-use Rattle.plan.specs.declared.tiling.Verdict.{Verdict}
-use Rattle.plan.specs.declared.verdict.Checking.{Checking}
+use Rattle.plan.specs.Answers.{Verdict}
+use Rattle.plan.specs.Answers.{Checking}
 use Rattle.plan.specs.tiling.Tiling.{picture_of}
 use Rattle.plan.specs.tiling.Plan.{Plan}
 use Rattle.plan.specs.tiling.Check.{block_number}
@@ -107,3 +107,6 @@ standing_end {f} {plan} {i} {t} s l = go (ℕ_discrete t.no 0)
     go : Dec (t.no ≡ 0) → check_end f t ≡ plan_verdict f plan
     go (yes z) = rw (eq-eqb t.no 0 z) (running_end (s.runs z) l (eqb t.covered (f.height * f.width)) refl)
     go (no d) = rw (ne_eqb t.no 0 d) (s.told d)
+
+-- what a loop over the blocks rests on: its start, its turns and its end
+pub ruleset standing = (standing_none, standing_more, standing_end)

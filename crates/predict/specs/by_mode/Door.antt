@@ -1,10 +1,10 @@
 -- What a call with number 0 has, and what the work of each kind of mode asks of it. Rests on the domain and on the numbers.
-use Rattle.std.specs.Prelude.{◌≡◌, true, ℕ, ◌+◌, ◌*◌, ◌≤◌, ◌<◌, leb}
+use Rattle.std.specs.Prelude.{◌≡◌, true, ℕ, ◌+◌, ◌*◌, ◌≤◌, ◌<◌}
 use Rattle.std.proofs.Common.{arith, leb-true}
-use Rattle.laws.specs.Choose.{passed, both_true}
-use Rattle.domain.specs.Domain.{depth_ok, size_ok, mode_ok, predictor_row}
+use Rattle.domain.specs.Domain.{depth_ok, size_ok, mode_ok}
 use Rattle.domain.specs.Facts.{Depth, Size, depth_of, size_of, size_small}
-use Rattle.predict.specs.refusals.Refusals.{Lengths, is_enough, predict_no}
+use Rattle.predict.specs.declared.refusals.Lent.{Lent}
+use Rattle.predict.specs.refusals.Refusals.{Lengths, lengths_of, predict_no, told}
 use Rattle.predict.specs.planar_dc.Flat.{FlatReady}
 
 -- the tests of a block that hold where a call is served
@@ -30,22 +30,18 @@ pub record ModeReady (bits n mode above left pred refs : ℕ) : Type 0 where
 
 pub given : (bits n mode : ℕ) (l : Lengths) → predict_no bits n mode l ≡ 0 → ModeReady bits n mode l.above l.left l.pred l.refs
 given bits n mode l e =
-    let p = passed (depth_ok bits) _ 1 (omega arith) e in
-    let q = passed (size_ok n) _ 2 (omega arith) p.1 in
-    let r = passed (mode_ok mode) _ 3 (omega arith) q.1 in
-    let s = passed (is_enough n l) _ 5 (omega arith) r.1 in
-    let a = both_true _ (leb 32 l.fractions) s.0 in
-    let b = both_true _ (leb 32 l.indices) a.0 in
-    let c = both_true _ (leb 193 l.refs) b.0 in
-    let d = both_true _ (leb (n * n) l.pred) c.0 in
-    let f = both_true (leb (predictor_row n) l.above) (leb (predictor_row n) l.left) d.0 in
+    let t = told bits n (mode_ok mode) l e in
     record {
-      block = record { depth = p.0; size = q.0; inside = r.0 };
-      above_long = leb-true _ _ f.0;
-      left_long = leb-true _ _ f.1;
-      room = leb-true _ _ d.1;
-      refs_long = leb-true _ _ c.1;
+      block = record { depth = t.depth; size = t.size; inside = t.mode };
+      above_long = t.above;
+      left_long = t.left;
+      room = t.pred;
+      refs_long = t.refs;
     }
+
+pub given_lent : (bits n mode : ℕ) (l : Lent) → predict_no bits n mode (lengths_of l) ≡ 0
+    → ModeReady bits n mode l.above l.left l.pred l.refs
+given_lent bits n mode l e = given bits n mode (lengths_of l) e
 
 module _ {bits n mode above left pred refs : ℕ} (g : ModeReady bits n mode above left pred refs) where
   pub flat_ready : FlatReady n above left × (n * n ≤ pred)

@@ -1,7 +1,7 @@
 -- What the entry for the error report hands over, from the definition of the door behind it. Assumes nothing.
 use Rattle.std.specs.Prelude.{ℕ, List}
 use Rattle.errors.specs.declared.Report.{Report}
-use Rattle.errors.specs.declared.Counted.{Counted}
+use Rattle.errors.specs.Answers.{Counted}
 use Rattle.probes.specs.declared.error_probes.CountAnswer.{CountAnswer}
 
 -- a report of bare numbers

@@ -1,6 +1,6 @@
 -- What each entry hands over, from the definition of the door behind it. Assumes nothing.
 use Rattle.std.specs.Prelude.{ℕ, ◌≡◌, List, ℤ, length}
-use Rattle.plan.specs.declared.tiling.Verdict.{Verdict}
+use Rattle.plan.specs.Answers.{Verdict}
 use Rattle.plan.specs.tiling.Plan.{Plan}
 use Rattle.plan.specs.tiling.PlanCheck.{plan_verdict}
 use Rattle.walk.specs.declared.checks.Still.{Still}
@@ -8,7 +8,7 @@ use Rattle.walk.specs.checks.Checks.{Tables}
 use Rattle.walk.specs.block.Walked.{World}
 use Rattle.walk.specs.calls.Door.{walk_verdict, walk_after, replay_verdict, replay_after}
 use Rattle.walk.specs.declared.Progress.{Progress}
-use Rattle.walk.specs.declared.Stepped.{Stepped}
+use Rattle.walk.specs.Answers.{Stepped}
 use Rattle.predict.specs.Lent.{Slice, MutSlice, Untouched}
 use Rattle.walk.specs.Lent.{Residuals, MutResiduals, lent_tables, world_before, world_after}
 use Rattle.walk.specs.Door.{stepped_by}

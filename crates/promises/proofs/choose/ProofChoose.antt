@@ -1,5 +1,5 @@
 -- The page Choose, proved. Rests on the contract, and on demand 2 for the rows of a gather.
-use Rattle.std.specs.Prelude.{◌≡◌, refl, List, ℕ, ◌≤◌}
+use Rattle.std.specs.Prelude.{◌≡◌, refl, List, ℕ, ◌≤◌, Ok}
 use Rattle.std.proofs.Common.{sym, ap, ◌∙◌, arith}
 use Rattle.laws.specs.Least.{FirstLeast}
 use Rattle.h265.specs.Notation.{Neighbours}
@@ -8,10 +8,11 @@ use Rattle.h265.specs.Prediction.{predicted}
 use Rattle.h265.specs.Mean.{Agree}
 use Rattle.domain.specs.Facts.{Size}
 use Rattle.refs.specs.declared.LumaRefGeometry.{LumaRefGeometry}
+use Rattle.refs.specs.Answers.{gathered}
 use Rattle.predict.specs.modes.Modes.{pred_alone}
 use Rattle.choose.specs.Choose.{differences, source_at, mode_sum, Chooses}
 use Rattle.choose.specs.Sums.{same_sum}
-use Rattle.choose.specs.declared.Chosen.{Chosen}
+use Rattle.choose.specs.Answers.{Chosen, chosen_of}
 use Rattle.octets.specs.Bytes.{samples_of, pair_into}
 use Rattle.camera.specs.Written.{wrote}
 use Rattle.camera.specs.choice.Entry.{choice_sums, ChoosesInto}
@@ -65,7 +66,7 @@ choice_settled =
     record {
       a_mode = λ κs a pred pred' tables tables' r p z.
           let f = served_choice p.0 z in
-          (omega (arith, f.inside), f.is ∙ same a r.mode);
+          (omega (arith, f.inside), f.is ∙ same a (chosen_of r).mode);
       none_better = λ κs a pred pred' tables tables' r p z mode h.
           rw (sym (same a mode)) ((served_choice p.0 z).least mode (omega arith));
       lower_worse = λ κs a pred pred' tables tables' r p z mode h.
@@ -73,9 +74,9 @@ choice_settled =
       refused = λ κs a pred pred' tables tables' r p z.
           let zero = p.0.nothing (λ e. z (p.0.number ∙ e)) in
           (zero.0, (zero.1, p.1 z));
-      over_gathered = λ κ plane geo g m above left source e f mode h.
-          from_standard plane.now geo (in_rows g.rows.corner above left) source.now mode
-          (luma_size _ geo (no_is plane.now geo g m.0 m.1)) h
-          (rw (e, f) (demand_2.get-reference-samples κ plane geo g m));
+      over_gathered = λ κ plane geo rows m above left source e f mode h.
+          from_standard plane.now geo (in_rows rows.corner above left) source.now mode
+          (luma_size _ geo (no_is plane.now geo (gathered (Ok rows)) m refl)) h
+          (rw (e, f) (demand_2.get-reference-samples κ plane geo rows m));
       salvrunde_choose = λ κs bits n corner above left source out out' number p z. in_bytes (same_in bits n corner above left source) p z;
     }

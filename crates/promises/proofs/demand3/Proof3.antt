@@ -9,6 +9,7 @@ use Rattle.domain.specs.Facts.{Depth, at_depth, size_small}
 use Rattle.plan.specs.tiling.Tiling.{Covered, place}
 use Rattle.plan.specs.tiling.Cover.{area}
 use Rattle.plan.specs.tiling.Verdict.{Accepted}
+use Rattle.walk.specs.Answers.{stepped_of}
 use Rattle.walk.specs.declared.checks.Still.{Still}
 use Rattle.samples.specs.deltas.Deltas.{residual_ok, residual_within}
 use Rattle.walk.specs.checks.Checks.{Tables, largest_in, residual_checks}
@@ -247,14 +248,14 @@ demand_3 = record {
         subst (ReplayDoes j residuals x _)
             (sym (all_done (replay_steps j residuals) x asks f room)) (replay_done j residuals x (granted asks) f),
       );
-  by_walk_numbers = λ κs self still rows cols sides modes source work residuals refs indices fractions grant r e p. walk_gave _ _ _ _ r _
+  by_walk_numbers = λ κs self still rows cols sides modes source work residuals refs indices fractions grant a e p. walk_gave _ _ _ _ (stepped_of a) _
       p.0 p.1.0;
-  by_replay_numbers = λ κs self still rows cols sides modes residuals plane refs indices fractions grant r e p. replay_gave _ _ _ _ r _
+  by_replay_numbers = λ κs self still rows cols sides modes residuals plane refs indices fractions grant a e p. replay_gave _ _ _ _ (stepped_of a) _
       p.0 p.1.0;
-  by_walk = λ {𝓤 = 𝓤} 𝓛 mem run κs self still plan source work residuals scratch grant r e. fact_mono 𝓤 _ _
-      (λ p. walk_gave _ _ _ _ r _ p.0 p.1.0);
-  by_replay = λ {𝓤 = 𝓤} 𝓛 mem run κs self still plan residuals plane scratch grant r e. fact_mono 𝓤 _ _
-      (λ p. replay_gave _ _ _ _ r _ p.0 p.1.0);
+  by_walk = λ {𝓤 = 𝓤} 𝓛 mem run κs self still plan source work residuals scratch grant a e. fact_mono 𝓤 _ _
+      (λ p. walk_gave _ _ _ _ (stepped_of a) _ p.0 p.1.0);
+  by_replay = λ {𝓤 = 𝓤} 𝓛 mem run κs self still plan residuals plane scratch grant a e. fact_mono 𝓤 _ _
+      (λ p. replay_gave _ _ _ _ (stepped_of a) _ p.0 p.1.0);
   one_plan = numbers_listed;
   walk_made = λ j source x asks y m. made_calls (λ x a y g. g.1.left) x asks y m;
   replay_made = λ j residuals x asks y m. made_calls (λ x a y g. g.1.left) x asks y m;

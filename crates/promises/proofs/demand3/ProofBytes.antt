@@ -9,10 +9,10 @@ use Rattle.laws.specs.Choose.{passed, worked, unserved, both_same, both_true}
 use Rattle.laws.specs.Every.{every}
 use Rattle.octets.specs.Bytes.{samples_of, bytes_of, residuals_of}
 use Rattle.octets.specs.Laws.{length_samples, length_bytes, bytes_back}
-use Rattle.plan.specs.declared.tiling.Verdict.{Verdict}
+use Rattle.plan.specs.Answers.{Verdict}
 use Rattle.plan.specs.RecordPlan.{records_of}
 use Rattle.walk.specs.declared.Progress.{Progress}
-use Rattle.walk.specs.declared.Stepped.{Stepped}
+use Rattle.walk.specs.Answers.{Stepped}
 use Rattle.samples.specs.deltas.Deltas.{residual_ok}
 use Rattle.walk.specs.block.Predicted.{sample_at}
 use Rattle.walk.specs.block.Walked.{World}

@@ -12,7 +12,7 @@ use Rattle.predict.specs.Lent.{zero_scratch}
 use Rattle.plan.specs.tiling.Plan.{Plan}
 use Rattle.plan.specs.tiling.Tiling.{Covered}
 use Rattle.walk.specs.declared.checks.Still.{Still}
-use Rattle.walk.specs.declared.Stepped.{Stepped}
+use Rattle.walk.specs.Answers.{Stepped}
 use Rattle.walk.specs.checks.Checks.{Tables, is_roomy}
 use Rattle.walk.specs.block.Walked.{World}
 use Rattle.walk.specs.calls.Laws.{walk_sound, replay_sound}

@@ -7,7 +7,7 @@ use mathlib.Core.List.{List, [], ◌∷◌}
 use Rattle.laws.specs.Every.{every}
 use Rattle.predict.specs.declared.scratch.AngularScratch.{AngularScratch}
 use Rattle.walk.specs.declared.checks.Still.{Still}
-use Rattle.walk.specs.declared.Stepped.{Stepped}
+use Rattle.walk.specs.Answers.{Stepped}
 use Rattle.walk.specs.checks.Checks.{settle}
 use Rattle.walk.specs.calls.Door.{verdict_of, walk_verdict}
 use Rattle.walk.specs.Lent.{scratch_tables}

@@ -11,8 +11,8 @@ use Rattle.laws.specs.Bytes.{le_at}
 use Rattle.laws.specs.FillLaws.{length_fill, fill_at}
 use Rattle.plan.specs.declared.tiling.Frame.{Frame}
 use Rattle.plan.specs.declared.tiling.Block.{Block}
-use Rattle.plan.specs.declared.tiling.Verdict.{Verdict}
-use Rattle.walk.specs.declared.Stepped.{Stepped}
+use Rattle.plan.specs.Answers.{Verdict}
+use Rattle.walk.specs.Answers.{Stepped}
 use Rattle.walk.specs.checks.Checks.{largest_in}
 use Rattle.walk.specs.Door.{stepped_by}
 use Rattle.report.specs.file.File.{trailer_of, area_of, file_ok, tabulated, source_of, plan_in}

@@ -10,7 +10,7 @@ use Rattle.domain.specs.Facts.{Depth}
 use Rattle.order.specs.Order.{picture_ok}
 use Rattle.plan.specs.declared.tiling.Frame.{Frame}
 use Rattle.plan.specs.declared.tiling.Block.{Block}
-use Rattle.plan.specs.declared.tiling.Verdict.{Verdict}
+use Rattle.plan.specs.Answers.{Verdict}
 use Rattle.plan.specs.tiling.Tiling.{picture_of, Placed, Next}
 use Rattle.plan.specs.tiling.Plan.{Plan, plan_of}
 use Rattle.plan.specs.tiling.Check.{placed_ok}

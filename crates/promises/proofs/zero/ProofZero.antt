@@ -1,7 +1,7 @@
 -- The page Zero, proved. Rests on what refs says of available and missing neighbours (Missing), on the law of H.265's neighbours
 -- (Locality), on demand 2, by which the doors' blocks are the standard's, and on the clauses reading the corner and entries 0 .. 2n − 1
 -- alone.
-use Rattle.std.specs.Prelude.{◌≡◌, refl, Bool, false, true, List, ℕ, ◌+◌, ◌*◌, ◌<◌, length, get_or}
+use Rattle.std.specs.Prelude.{◌≡◌, refl, Bool, false, true, List, ℕ, ◌+◌, ◌*◌, ◌<◌, length, get_or, Ok}
 use Rattle.std.proofs.Common.{sym, ◌∙◌, ⊎_elim}
 use Rattle.std.proofs.Math.Path.{ap}
 use native.Mathlib.Omega.{arith}
@@ -25,14 +25,13 @@ use Rattle.h265.proofs.Locality.{neighbours_agree}
 use Rattle.domain.specs.Domain.{size_ok}
 use Rattle.domain.specs.Facts.{size_of, size_small}
 use Rattle.domain.specs.declared.rows.Rows.{Rows}
-use Rattle.domain.specs.declared.rows.Gathered.{Gathered}
 use Rattle.domain.specs.rows.Neighbours.{neighbours_of}
 use Rattle.order.specs.Order.{grid_of}
 use Rattle.refs.specs.declared.LumaRefGeometry.{LumaRefGeometry}
+use Rattle.refs.specs.Answers.{Gathered, gathered}
 use Rattle.refs.specs.Door.{luma_rows, luma_no, get_reference_samples}
 use Rattle.refs.specs.standard.Missing.{present, before_first, later_gap, none_there, luma_available, luma_past_end}
-use Rattle.smooth.specs.declared.FilteredRows.{FilteredRows}
-use Rattle.smooth.specs.declared.Smoothed.{Smoothed}
+use Rattle.smooth.specs.Answers.{FilteredRows, Smoothed, rows_given, smoothed_given}
 use Rattle.smooth.specs.Smoothing.{filter_no, filter_references, filter_luma_no, filter_luma_refs}
 use Rattle.smooth.specs.Standard.{filtered_agrees}
 use Rattle.smooth.specs.Steps.{luma_ready}
@@ -73,29 +72,29 @@ module _ (plane other : LentSlice) (geo : LumaRefGeometry) where
       (omega arith) (omega arith) same
 
   -- past entry 2n
-  past : (g h : Gathered) → g.rows ≡ luma_rows plane.now geo → h.rows ≡ luma_rows other.now geo → (i : ℕ) → 2 * geo.n < i
-      → (get_or g.rows.above i 0 ≡ get_or h.rows.above i 0) × (get_or g.rows.left i 0 ≡ get_or h.rows.left i 0)
-  past g h e f i l = rw (e, f) (luma_past_end geo plane.now other.now i l)
+  past : (rows rows₂ : Rows) → rows ≡ luma_rows plane.now geo → rows₂ ≡ luma_rows other.now geo → (i : ℕ) → 2 * geo.n < i
+      → (get_or rows.above i 0 ≡ get_or rows₂.above i 0) × (get_or rows.left i 0 ≡ get_or rows₂.left i 0)
+  past rows rows₂ e f i l = rw (e, f) (luma_past_end geo plane.now other.now i l)
 
-  all_but : (g h : Gathered) → Agree geo.n (neighbours_of g.rows) (neighbours_of h.rows)
-      → g.rows ≡ luma_rows plane.now geo → h.rows ≡ luma_rows other.now geo → SameButEntry2n geo.n g.rows h.rows
-  all_but g h a e f =
+  all_but : (rows rows₂ : Rows) → Agree geo.n (neighbours_of rows) (neighbours_of rows₂)
+      → rows ≡ luma_rows plane.now geo → rows₂ ≡ luma_rows other.now geo → SameButEntry2n geo.n rows rows₂
+  all_but rows rows₂ a e f =
       record {
         corner = a.corner;
-        above = λ i apart. ⊎_elim (λ l. a.above i l) (λ l. (past g h e f i (omega (arith, apart))).0) (order i (2 * geo.n));
-        left = λ i apart. ⊎_elim (λ l. a.left i l) (λ l. (past g h e f i (omega (arith, apart))).1) (order i (2 * geo.n));
+        above = λ i apart. ⊎_elim (λ l. a.above i l) (λ l. (past rows rows₂ e f i (omega (arith, apart))).0) (order i (2 * geo.n));
+        left = λ i apart. ⊎_elim (λ l. a.left i l) (λ l. (past rows rows₂ e f i (omega (arith, apart))).1) (order i (2 * geo.n));
       }
 
-gathered_agree : (κ κ₂ : Lfts 1) (plane other : LentSlice) (geo : LumaRefGeometry) (g h : Gathered) → Gathers κ plane geo g
-    → Gathers κ₂ other geo h → AgreeWhereAvailable (2 * geo.n) geo plane other
-    → Agree geo.n (neighbours_of g.rows) (neighbours_of h.rows)
-gathered_agree κ κ₂ plane other geo g h p q same =
-    joined geo.n _ _ _ _ (demand_2.get-reference-samples κ plane geo g p) (standard_same plane other geo same)
-    (demand_2.get-reference-samples κ₂ other geo h q)
+gathered_agree : (κ κ₂ : Lfts 1) (plane other : LentSlice) (geo : LumaRefGeometry) (rows rows₂ : Rows) → Gathers κ plane geo rows
+    → Gathers κ₂ other geo rows₂ → AgreeWhereAvailable (2 * geo.n) geo plane other
+    → Agree geo.n (neighbours_of rows) (neighbours_of rows₂)
+gathered_agree κ κ₂ plane other geo rows rows₂ p q same =
+    joined geo.n _ _ _ _ (demand_2.get-reference-samples κ plane geo rows p) (standard_same plane other geo same)
+    (demand_2.get-reference-samples κ₂ other geo rows₂ q)
 
-missing : (plane : LentSlice) (geo : LumaRefGeometry) (g : Gathered) → luma_no (length plane.now) geo ≡ 0
-    → g.rows ≡ luma_rows plane.now geo → Substituted plane geo g
-missing plane geo g served e =
+missing : (plane : LentSlice) (geo : LumaRefGeometry) (rows : Rows) → luma_no (length plane.now) geo ≡ 0
+    → rows ≡ luma_rows plane.now geo → Substituted plane geo rows
+missing plane geo rows served e =
     rw e
     (record {
       available = present plane.now geo served;
@@ -136,81 +135,81 @@ module _ (n corner corner₂ : ℕ) (above left above₂ left₂ : LentSlice) wh
   module _ (a : Agree n one two) where
     same_blocks : SameBlocks n corner corner₂ above left above₂ left₂
     same_blocks = record {
-      by_planar = λ κs κt pred pred' last last' number p e buf buf' more more' number₂ q f.
+      by_planar = λ κs κt pred pred' last last' p buf buf' more more' q.
           same_at n pred' buf' (planar n (in_rows 0 above left)) (planar n (in_rows 0 above₂ left₂))
-          (demand_2.predict_planar_into κs above left n pred pred' last last' number p e)
-          (demand_2.predict_planar_into κt above₂ left₂ n buf buf' more more' number₂ q f)
+          (demand_2.predict_planar_into κs above left n pred pred' last last' p)
+          (demand_2.predict_planar_into κt above₂ left₂ n buf buf' more more' q)
           (λ x y hx hy.
-          planar_alone n x y (ready n (entries_in above) (entries_in left) (mut_entries_in pred) (sym p.0 ∙ e)).0.size hx hy _ _ a.above a.left);
-      by_dc = λ κs κt edge pred pred' last last' number p e buf buf' more more' number₂ q f.
+          planar_alone n x y (ready n (entries_in above) (entries_in left) (mut_entries_in pred) (sym p.0)).0.size hx hy _ _ a.above a.left);
+      by_dc = λ κs κt edge pred pred' last last' p buf buf' more more' q.
           same_at n pred' buf' (dc edge n (in_rows 0 above left)) (dc edge n (in_rows 0 above₂ left₂))
-          (demand_2.predict_dc_into κs above left n edge pred pred' last last' number p e)
-          (demand_2.predict_dc_into κt above₂ left₂ n edge buf buf' more more' number₂ q f)
+          (demand_2.predict_dc_into κs above left n edge pred pred' last last' p)
+          (demand_2.predict_dc_into κt above₂ left₂ n edge buf buf' more more' q)
           (λ x y hx hy.
-          dc_alone n x y (ready n (entries_in above) (entries_in left) (mut_entries_in pred) (sym p.0 ∙ e)).0.size hx hy _ _ a.above a.left edge);
-      by_angular_slices = λ κs κt mode edge bits pred pred' last last' number p e buf buf' more more' number₂ q f.
+          dc_alone n x y (ready n (entries_in above) (entries_in left) (mut_entries_in pred) (sym p.0)).0.size hx hy _ _ a.above a.left edge);
+      by_angular_slices = λ κs κt mode edge bits pred pred' last last' p buf buf' more more' q.
           same_at n pred' buf' (angular bits edge n mode one) (angular bits edge n mode two)
-          (demand_2.predict_angular_slices κs corner above left n mode edge bits pred pred' last last' number p e)
-          (demand_2.predict_angular_slices κt corner₂ above₂ left₂ n mode edge bits buf buf' more more' number₂ q f)
+          (demand_2.predict_angular_slices κs corner above left n mode edge bits pred pred' last last' p)
+          (demand_2.predict_angular_slices κt corner₂ above₂ left₂ n mode edge bits buf buf' more more' q)
           (λ x y hx hy.
-          angled_alike n one two a x y hx hy bits mode edge (with_lent_tables (entries_in above) (entries_in left) (mut_entries_in pred) last) (sym p.0 ∙ e));
-      by_angular_fresh = λ κs κt mode edge bits pred pred' last last' number p e buf buf' more more' number₂ q f.
+          angled_alike n one two a x y hx hy bits mode edge (with_lent_tables (entries_in above) (entries_in left) (mut_entries_in pred) last) (sym p.0));
+      by_angular_fresh = λ κs κt mode edge bits pred pred' last last' p buf buf' more more' q.
           same_at n pred' buf' (angular bits edge n mode one) (angular bits edge n mode two)
-          (demand_2.predict_angular_fresh κs corner above left n mode edge bits pred pred' last last' number p e)
-          (demand_2.predict_angular_fresh κt corner₂ above₂ left₂ n mode edge bits buf buf' more more' number₂ q f)
+          (demand_2.predict_angular_fresh κs corner above left n mode edge bits pred pred' last last' p)
+          (demand_2.predict_angular_fresh κt corner₂ above₂ left₂ n mode edge bits buf buf' more more' q)
           (λ x y hx hy.
-          angled_alike n one two a x y hx hy bits mode edge (with_scratch (entries_in above) (entries_in left) (mut_entries_in pred)) (sym p.0 ∙ e));
-      by_chroma_slices = λ κs κt mode bits pred pred' last last' number p e buf buf' more more' number₂ q f.
+          angled_alike n one two a x y hx hy bits mode edge (with_scratch (entries_in above) (entries_in left) (mut_entries_in pred)) (sym p.0));
+      by_chroma_slices = λ κs κt mode bits pred pred' last last' p buf buf' more more' q.
           same_at n pred' buf' (chroma_samples bits n mode one) (chroma_samples bits n mode two)
-          (demand_2.predict_chroma_tb_slices κs mode corner above left n bits pred pred' last last' number p e)
-          (demand_2.predict_chroma_tb_slices κt mode corner₂ above₂ left₂ n bits buf buf' more more' number₂ q f)
+          (demand_2.predict_chroma_tb_slices κs mode corner above left n bits pred pred' last last' p)
+          (demand_2.predict_chroma_tb_slices κt mode corner₂ above₂ left₂ n bits buf buf' more more' q)
           (λ x y hx hy.
-          moded_alike n one two a x y hx hy (chroma_at bits) bits mode (with_lent_tables (entries_in above) (entries_in left) (mut_entries_in pred) last) (sym p.0 ∙ e));
-      by_chroma_fresh = λ κs κt mode bits pred pred' last last' number p e buf buf' more more' number₂ q f.
+          moded_alike n one two a x y hx hy (chroma_at bits) bits mode (with_lent_tables (entries_in above) (entries_in left) (mut_entries_in pred) last) (sym p.0));
+      by_chroma_fresh = λ κs κt mode bits pred pred' last last' p buf buf' more more' q.
           same_at n pred' buf' (chroma_samples bits n mode one) (chroma_samples bits n mode two)
-          (demand_2.predict_chroma_tb_fresh κs mode corner above left n bits pred pred' last last' number p e)
-          (demand_2.predict_chroma_tb_fresh κt mode corner₂ above₂ left₂ n bits buf buf' more more' number₂ q f)
+          (demand_2.predict_chroma_tb_fresh κs mode corner above left n bits pred pred' last last' p)
+          (demand_2.predict_chroma_tb_fresh κt mode corner₂ above₂ left₂ n bits buf buf' more more' q)
           (λ x y hx hy.
-          moded_alike n one two a x y hx hy (chroma_at bits) bits mode (with_scratch (entries_in above) (entries_in left) (mut_entries_in pred)) (sym p.0 ∙ e));
+          moded_alike n one two a x y hx hy (chroma_at bits) bits mode (with_scratch (entries_in above) (entries_in left) (mut_entries_in pred)) (sym p.0));
     }
 
 -- those that take gathered rows
 same_luma : (n : ℕ) (rows rows₂ : Rows) → Agree n (neighbours_of rows) (neighbours_of rows₂) → SameLumaBlocks n rows rows₂
 same_luma n rows rows₂ a = record {
-  by_luma_slices = λ κs κt mode bits pred pred' last last' number p e buf buf' more more' number₂ q f.
+  by_luma_slices = λ κs κt mode bits pred pred' last last' p buf buf' more more' q.
       same_at n pred' buf' (luma_samples bits n mode (neighbours_of rows)) (luma_samples bits n mode (neighbours_of rows₂))
-      (demand_2.predict_luma_tb_slices κs mode rows n bits pred pred' last last' number p e)
-      (demand_2.predict_luma_tb_slices κt mode rows₂ n bits buf buf' more more' number₂ q f)
-      (λ x y hx hy. moded_alike n _ _ a x y hx hy (luma_at bits) bits mode (with_lent_tables 65 65 (mut_entries_in pred) last) (sym p.0 ∙ e));
-  by_luma_fresh = λ κs κt mode bits pred pred' last last' number p e buf buf' more more' number₂ q f.
+      (demand_2.predict_luma_tb_slices κs mode rows n bits pred pred' last last' p)
+      (demand_2.predict_luma_tb_slices κt mode rows₂ n bits buf buf' more more' q)
+      (λ x y hx hy. moded_alike n _ _ a x y hx hy (luma_at bits) bits mode (with_lent_tables 65 65 (mut_entries_in pred) last) (sym p.0));
+  by_luma_fresh = λ κs κt mode bits pred pred' last last' p buf buf' more more' q.
       same_at n pred' buf' (luma_samples bits n mode (neighbours_of rows)) (luma_samples bits n mode (neighbours_of rows₂))
-      (demand_2.predict_luma_tb_fresh κs mode rows n bits pred pred' last last' number p e)
-      (demand_2.predict_luma_tb_fresh κt mode rows₂ n bits buf buf' more more' number₂ q f)
-      (λ x y hx hy. moded_alike n _ _ a x y hx hy (luma_at bits) bits mode (with_scratch 65 65 (mut_entries_in pred)) (sym p.0 ∙ e));
+      (demand_2.predict_luma_tb_fresh κs mode rows n bits pred pred' last last' p)
+      (demand_2.predict_luma_tb_fresh κt mode rows₂ n bits buf buf' more more' q)
+      (λ x y hx hy. moded_alike n _ _ a x y hx hy (luma_at bits) bits mode (with_scratch 65 65 (mut_entries_in pred)) (sym p.0));
 }
 
 -- those with the scratch as a struct
 module _ {M : Type 1} {𝓤 : Ura M} (𝓛 : Logic 𝓤) (mem : Memory → SProp 𝓤) (run : Routine → Fun 𝓤) where
   same_held : SameWithScratch 𝓛 mem run
   same_held = record {
-    angular_held = λ n corner corner₂ above left above₂ left₂ a κs mode edge bits pred pred' last last' number zero.
+    angular_held = λ n corner corner₂ above left above₂ left₂ a κs mode edge bits pred pred' last last'.
         fact_mono 𝓤 _ _
         (λ p x y hx hy.
         let lent = with_scratch (entries_in above) (entries_in left) (mut_entries_in pred) in
-        angled (angular bits edge n mode (in_rows corner above left)) n number pred pred' zero p.1.0 bits mode lent refl p.0 x y hx hy
-        ∙ angled_alike n _ _ a x y hx hy bits mode edge lent (sym p.0 ∙ zero));
-    chroma_held = λ n corner corner₂ above left above₂ left₂ a κs mode bits pred pred' last last' number zero.
+        angled (angular bits edge n mode (in_rows corner above left)) n 0 pred pred' refl p.1.0 bits mode lent refl p.0 x y hx hy
+        ∙ angled_alike n _ _ a x y hx hy bits mode edge lent (sym p.0));
+    chroma_held = λ n corner corner₂ above left above₂ left₂ a κs mode bits pred pred' last last'.
         fact_mono 𝓤 _ _
         (λ p x y hx hy.
         let lent = with_scratch (entries_in above) (entries_in left) (mut_entries_in pred) in
-        moded (chroma_samples bits n mode (in_rows corner above left)) n number pred pred' zero p.1.0 bits mode lent refl p.0 x y hx hy
-        ∙ moded_alike n _ _ a x y hx hy (chroma_at bits) bits mode lent (sym p.0 ∙ zero));
-    luma_held = λ n rows rows₂ a κs mode bits pred pred' last last' number zero.
+        moded (chroma_samples bits n mode (in_rows corner above left)) n 0 pred pred' refl p.1.0 bits mode lent refl p.0 x y hx hy
+        ∙ moded_alike n _ _ a x y hx hy (chroma_at bits) bits mode lent (sym p.0));
+    luma_held = λ n rows rows₂ a κs mode bits pred pred' last last'.
         fact_mono 𝓤 _ _
         (λ p x y hx hy.
         let lent = with_scratch 65 65 (mut_entries_in pred) in
-        moded (luma_samples bits n mode (neighbours_of rows)) n number pred pred' zero p.1.0 bits mode lent refl p.0 x y hx hy
-        ∙ moded_alike n _ _ a x y hx hy (luma_at bits) bits mode lent (sym p.0 ∙ zero));
+        moded (luma_samples bits n mode (neighbours_of rows)) n 0 pred pred' refl p.1.0 bits mode lent refl p.0 x y hx hy
+        ∙ moded_alike n _ _ a x y hx hy (luma_at bits) bits mode lent (sym p.0));
   }
 
 -- rows that were smoothed, as they are lent to a predictor
@@ -236,24 +235,25 @@ module _ (n : ℕ) where
 
 pub zero_settled : Zero
 zero_settled = record {
-  value_never_tells = λ κ κ₂ plane other geo g h p q same.
-      rows_are plane.now geo g p.0 p.1 ∙ luma_available geo plane.now other.now same
-      ∙ sym (rows_are other.now geo h q.0 q.1);
-  all_but_entry_2n = λ κ κ₂ plane other geo g h p q same.
-      all_but plane other geo g h (gathered_agree κ κ₂ plane other geo g h p q same) (rows_are plane.now geo g p.0 p.1)
-      (rows_are other.now geo h q.0 q.1);
+  value_never_tells = λ κ κ₂ plane other geo rows rows₂ p q same.
+      rows_are plane.now geo (gathered (Ok rows)) p refl ∙ luma_available geo plane.now other.now same
+      ∙ sym (rows_are other.now geo (gathered (Ok rows₂)) q refl);
+  all_but_entry_2n = λ κ κ₂ plane other geo rows rows₂ p q same.
+      all_but plane other geo rows rows₂ (gathered_agree κ κ₂ plane other geo rows rows₂ p q same)
+      (rows_are plane.now geo (gathered (Ok rows)) p refl)
+      (rows_are other.now geo (gathered (Ok rows₂)) q refl);
   standard_never_tells = standard_same;
-  blocks_never_tell = λ κ κ₂ plane other geo g h p q same.
-      same_luma geo.n g.rows h.rows (gathered_agree κ κ₂ plane other geo g h p q same);
-  missing_takes = λ κ plane geo g p.
-      missing plane geo g (no_is plane.now geo g p.0 p.1) (rows_are plane.now geo g p.0 p.1);
+  blocks_never_tell = λ κ κ₂ plane other geo rows rows₂ p q same.
+      same_luma geo.n rows rows₂ (gathered_agree κ κ₂ plane other geo rows rows₂ p q same);
+  missing_takes = λ κ plane geo rows p.
+      missing plane geo rows (no_is plane.now geo (gathered (Ok rows)) p refl) (rows_are plane.now geo (gathered (Ok rows)) p refl);
   past_2n_unread = same_blocks;
   past_2n_unread_luma = same_luma;
   past_2n_unread_held = same_held;
-  past_2n_unread_filtered = λ n corner corner₂ above left above₂ left₂ same κs κt r s p e q f a l a₂ l₂ ea el ea₂ el₂ c.
-      let one = demand_2.filter-references κs corner above left n r p e 0 in
-      let two = demand_2.filter-references κt corner₂ above₂ left₂ n s q f 0 in
-      let pF = filtered_agrees n _ _ same false 0 (filter_some n corner above.now left.now r p e) in
+  past_2n_unread_filtered = λ n corner corner₂ above left above₂ left₂ same κs κt r s p q a l a₂ l₂ ea el ea₂ el₂ c.
+      let one = demand_2.filter-references κs corner above left n r p 0 in
+      let two = demand_2.filter-references κt corner₂ above₂ left₂ n s q 0 in
+      let pF = filtered_agrees n _ _ same false 0 (filter_some n corner above.now left.now (rows_given (Ok r)) p refl) in
       let agree =
       lent_agree n c c a l a₂ l₂ r.above r.left s.above s.left ea el ea₂ el₂
       (record {
@@ -262,14 +262,14 @@ zero_settled = record {
         left = λ i h. (one i h).1 ∙ pF.left i h ∙ sym (two i h).1;
       }) in
       (agree, same_blocks n c c a l a₂ l₂ agree);
-  past_2n_unread_smoothed = λ n corner corner₂ above left above₂ left₂ same κs κt bits r s p e q f a l a₂ l₂ ea el ea₂ el₂.
+  past_2n_unread_smoothed = λ n corner corner₂ above left above₂ left₂ same κs κt bits r s p q a l a₂ l₂ ea el ea₂ el₂.
       let rows_agree =
-      joined n _ _ _ _ (demand_2.filter-luma-refs κs corner above left n bits r p e)
-      (filtered_agrees n _ _ same true bits (smooth_some n corner above.now left.now bits r p e))
-      (demand_2.filter-luma-refs κt corner₂ above₂ left₂ n bits s q f) in (
+      joined n _ _ _ _ (demand_2.filter-luma-refs κs corner above left n bits r p)
+      (filtered_agrees n _ _ same true bits (smooth_some n corner above.now left.now bits (smoothed_given (Ok r)) p refl))
+      (demand_2.filter-luma-refs κt corner₂ above₂ left₂ n bits s q) in (
         rows_agree,
-        same_blocks n r.rows.corner s.rows.corner a l a₂ l₂
-            (lent_agree n _ _ a l a₂ l₂ r.rows.above r.rows.left s.rows.above s.rows.left ea el ea₂ el₂ rows_agree),
-        same_luma n r.rows s.rows rows_agree,
+        same_blocks n r.corner s.corner a l a₂ l₂
+            (lent_agree n _ _ a l a₂ l₂ r.above r.left s.above s.left ea el ea₂ el₂ rows_agree),
+        same_luma n r s rows_agree,
       );
 }

@@ -6,7 +6,7 @@ use Rattle.laws.specs.Choose.{worked}
 use Rattle.h265.specs.Checksum.{sum_of_rows}
 use Rattle.octets.specs.Bytes.{samples_of}
 use Rattle.checksum.specs.declared.RowRange.{RowRange}
-use Rattle.checksum.specs.declared.Summed.{Summed}
+use Rattle.checksum.specs.Answers.{Summed, answered}
 use Rattle.checksum.specs.Checksum.{row_range, sample_in_plane, checksum_no, summed_by}
 use Rattle.checksum.specs.Served.{fine, sum_is}
 use Rattle.checksum.specs.Laws.{rows_add, range_split}
@@ -67,16 +67,17 @@ entry_bytes r sum plane out after number p z =
 
 pub checksum_settled : ChecksumPromise
 checksum_settled = record {
-  standard = λ κ plane bits width height v p. from_row_0 (fits plane width height) plane.now bits width height v p;
+  standard = λ κ plane bits width height v p. from_row_0 (fits plane width height) plane.now bits width height (answered v) p;
   modulo = λ κ plane bits width height first end sum v small p.
-      the_sum (fits plane width height) plane.now (row_range bits width height first end) sum v p
+      the_sum (fits plane width height) plane.now (row_range bits width height first end) sum (answered v) p
       ∙ rows_add bits (sample_in_plane plane.now width) width first (end - first) sum small;
   split = λ κ λ' μ plane bits width height a b c sum upper lower whole p q s.
-      joined (fits plane width height) plane.now bits width height a b c sum upper lower whole p q s;
+      joined (fits plane width height) plane.now bits width height a b c sum (answered upper) (answered lower) (answered whole) p q s;
   standard_bytes = λ κ plane bits width height roomy v p.
-      from_row_0 (fits_bytes roomy plane width height) (samples_of plane.now) bits width height v p;
+      from_row_0 (fits_bytes roomy plane width height) (samples_of plane.now) bits width height (answered v) p;
   split_bytes = λ κ λ' μ plane bits width height a b c sum roomy upper lower whole p q s.
-      joined (fits_bytes roomy plane width height) (samples_of plane.now) bits width height a b c sum upper lower whole p q s;
+      joined (fits_bytes roomy plane width height) (samples_of plane.now) bits width height a b c sum (answered upper) (answered lower)
+      (answered whole) p q s;
   in_c = λ κs bits width height first end sum number plane out out' p z.
       entry_bytes (row_range bits width height first end) sum plane.now out.now out'.now number p z;
 }

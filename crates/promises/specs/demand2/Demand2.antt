@@ -1,7 +1,7 @@
 -- Demand 2 on one page: 'Luma gathering, smoothing, planar, DC and angular prediction are proved equal to ITU-T H.265', and chroma
 -- gathering at a block's own place. For each door: what meets its contract, as the prover reads it, with the number 0, has the samples of
 -- the standard (crates/h265). Proof2 proves it.
-use Rattle.std.specs.Prelude.{◌≡◌, Bool, true, false, not, List, ℕ, ◌+◌, ◌*◌, ◌<◌, eqb, get_or}
+use Rattle.std.specs.Prelude.{◌≡◌, Bool, true, false, not, List, ℕ, ◌+◌, ◌*◌, ◌<◌, eqb, get_or, Ok, Result, ⊤}
 use seplogic.Ra.Ura.{Ura}
 use base.Logic.{SProp, ent}
 use prog.Memory.{Memory}
@@ -23,18 +23,15 @@ use Rattle.octets.specs.Bytes.{samples_of}
 use Rattle.octets.specs.Laws.{AreBytes}
 use Rattle.order.specs.Order.{grid_of}
 use Rattle.order.specs.Reach.{chroma_width}
+use Rattle.domain.specs.declared.refusal.Refusal.{Refusal}
 use Rattle.domain.specs.declared.rows.Rows.{Rows}
-use Rattle.domain.specs.declared.rows.Gathered.{Gathered}
 use Rattle.domain.specs.rows.Neighbours.{neighbours_of, zero_rows}
-use Rattle.refs.specs.declared.GatheredPair.{GatheredPair}
 use Rattle.refs.specs.declared.LumaRefGeometry.{LumaRefGeometry}
 use Rattle.refs.specs.declared.ChromaRefGeometry.{ChromaRefGeometry}
 use Rattle.refs.specs.Gather.{sample_of}
 use Rattle.refs.specs.Door.{luma_geometry, format_of, chroma_geometry, chroma_picture, chroma_block}
 use Rattle.refs.specs.Component.{component_of, OwnPlace}
-use Rattle.smooth.specs.declared.Rule.{Rule}
-use Rattle.smooth.specs.declared.FilteredRows.{FilteredRows}
-use Rattle.smooth.specs.declared.Smoothed.{Smoothed}
+use Rattle.smooth.specs.declared.RowPair.{RowPair}
 use Rattle.predict.specs.Contents.{chroma_at}
 use Rattle.predict.specs.declared.scratch.AngularScratch.{AngularScratch}
 use Rattle.refs.proofs.get_reference_samples.Reads as gather
@@ -127,31 +124,31 @@ AreChroma plane g nb = Agree g.n nb (standard_chroma plane g)
 abbrev pub Holds : ℕ → (ℕ → ℕ → ℕ) → List ℕ → Type 0
 Holds n clause block = (x y : ℕ) → x < n → y < n → get_or block (y * n + x) 0 ≡ clause x y
 
--- A door that writes a block into `pred`: `post` is its contract, over the parameters at entry, the number, and the parameters at exit.
--- `last` is its scratch, of which nothing is said. What meets the contract with the number 0 has the clause's samples in `pred` at exit.
-abbrev pub Writes : {A Last : Type 0} → (A → ℕ → A → Type 0) → (LentMutSlice → Last → A) → ℕ → (ℕ → ℕ → ℕ) → Type 0
+-- A door that writes a block into `pred`: `post` is its contract, over the parameters at entry, the answer, and the parameters at exit.
+-- `last` is its scratch, of which nothing is said. What meets the contract and is not refused has the clause's samples in `pred` at exit.
+abbrev pub Writes : {A Last : Type 0} → (A → Result ⊤ Refusal → A → Type 0) → (LentMutSlice → Last → A) → ℕ → (ℕ → ℕ → ℕ) → Type 0
 Writes {A} {Last} post call n clause =
-    (pred pred' : LentMutSlice) (last last' : Last) (number : ℕ) → post (call pred last) number (call pred' last') → number ≡ 0
-    → Holds n clause pred'.now
+    (pred pred' : LentMutSlice) (last last' : Last) → post (call pred last) (Ok tt) (call pred' last') → Holds n clause pred'.now
 
 -- The same of a door's clauses: they are an assertion of any model, from which the fact follows.
-abbrev pub WritesHeld : {M : Type 1} (𝓤 : Ura M) {A : Type 0} → (A → ℕ → A → SProp 𝓤) → (LentMutSlice → Scratch → A) → ℕ → (ℕ → ℕ → ℕ) → Type 1
+abbrev pub WritesHeld : {M : Type 1} (𝓤 : Ura M) {A : Type 0} → (A → Result ⊤ Refusal → A → SProp 𝓤) → (LentMutSlice → Scratch → A) → ℕ
+    → (ℕ → ℕ → ℕ) → Type 1
 WritesHeld 𝓤 {A} ensures call n clause =
-    (pred pred' : LentMutSlice) (last last' : Scratch) (number : ℕ) → number ≡ 0
-    → ent 𝓤 (ensures (call pred last) number (call pred' last')) (fact 𝓤 (Holds n clause pred'.now))
+    (pred pred' : LentMutSlice) (last last' : Scratch)
+    → ent 𝓤 (ensures (call pred last) (Ok tt) (call pred' last')) (fact 𝓤 (Holds n clause pred'.now))
 
 -- An entry for C, and what is said of the samples that `out` spells at exit.
 abbrev pub Spells : {A : Type 0} → (A → ℕ → A → Type 0) → (LentMutSlice → A) → (List ℕ → Type 0) → Type 0
 Spells {A} post call says =
     (out out' : LentMutSlice) (number : ℕ) → post (call out) number (call out') → number ≡ 0 → says (samples_of out'.now)
 
--- what meets the contract of the luma gather with the number 0
-abbrev pub Gathers : Lfts 1 → LentSlice → LumaRefGeometry → Gathered → Type 0
-Gathers κ plane geo g = gather.Post κ (plane and geo and none) g (plane and geo and none) × (g.no ≡ 0)
+-- rows whose answer, that of a call which is not refused, meets the contract of the luma gather
+abbrev pub Gathers : Lfts 1 → LentSlice → LumaRefGeometry → Rows → Type 0
+Gathers κ plane geo rows = gather.Post κ (plane and geo and none) (Ok rows) (plane and geo and none)
 
 -- and that of the chroma pair gather
-abbrev pub GathersPair : Lfts 2 → LentSlice → LentSlice → ChromaRefGeometry → GatheredPair → Type 0
-GathersPair κs cb cr geo g = pair-gather.Post κs (cb and cr and geo and none) g (cb and cr and geo and none) × (g.no ≡ 0)
+abbrev pub GathersPair : Lfts 2 → LentSlice → LentSlice → ChromaRefGeometry → List Rows → Type 0
+GathersPair κs cb cr geo planes = pair-gather.Post κs (cb and cr and geo and none) (Ok planes) (cb and cr and geo and none)
 
 -- predict's doors with the scratch as a struct, said of their clauses
 module _ {M : Type 1} {𝓤 : Ura M} (𝓛 : Logic 𝓤) (mem : Memory → SProp 𝓤) (run : Routine → Fun 𝓤) where
@@ -167,30 +164,30 @@ module _ {M : Type 1} {𝓤 : Ura M} (𝓛 : Logic 𝓤) (mem : Memory → SProp
     pub predict_luma_tb_into : (κs : Lfts 2) (mode : ℕ) (rows : Rows) (n bits : ℕ)
         → WritesHeld 𝓤 (λ a r z. (luma-into.clauses 𝓛 mem run κs a).ensures none r z)
         (λ pred last. mode and rows and n and bits and pred and last) n (luma_samples bits n mode (neighbours_of rows))
-    pub gathered_luma_into : (κ : Lfts 1) (plane : LentSlice) (geo : LumaRefGeometry) (g : Gathered) → Gathers κ plane geo g
+    pub gathered_luma_into : (κ : Lfts 1) (plane : LentSlice) (geo : LumaRefGeometry) (rows : Rows) → Gathers κ plane geo rows
         → (κs : Lfts 2) (mode : ℕ) → WritesHeld 𝓤 (λ a r z. (luma-into.clauses 𝓛 mem run κs a).ensures none r z)
-        (λ pred last. mode and g.rows and geo.n and geo.bits and pred and last) geo.n (standard_block plane.now geo mode)
+        (λ pred last. mode and rows and geo.n and geo.bits and pred and last) geo.n (standard_block plane.now geo mode)
 
 pub record Demand2 : Type 2 where
   -- refs, 6.4.1 and 8.4.4.2.2: the corner, and entries 0 .. 2n - 1 above and left
-  pub get-reference-samples : (κ : Lfts 1) (plane : LentSlice) (geo : LumaRefGeometry) (g : Gathered) → Gathers κ plane geo g
-      → Agree geo.n (neighbours_of g.rows) (standard_neighbours plane.now geo)
+  pub get-reference-samples : (κ : Lfts 1) (plane : LentSlice) (geo : LumaRefGeometry) (rows : Rows) → Gathers κ plane geo rows
+      → Agree geo.n (neighbours_of rows) (standard_neighbours plane.now geo)
   -- the same of Cb and of Cr, in every format and at every CTU, where the current luma place is the block's own and the least unit no wider
   -- than the block in luma samples
-  pub get-reference-samples-chroma-pair : (κs : Lfts 2) (cb cr : LentSlice) (geo : ChromaRefGeometry) (g : GatheredPair)
-      → GathersPair κs cb cr geo g → OwnPlace geo
-      → AreChroma cb.now geo (neighbours_of (get_or g.planes 0 zero_rows))
-      × AreChroma cr.now geo (neighbours_of (get_or g.planes 1 zero_rows))
+  pub get-reference-samples-chroma-pair : (κs : Lfts 2) (cb cr : LentSlice) (geo : ChromaRefGeometry) (planes : List Rows)
+      → GathersPair κs cb cr geo planes → OwnPlace geo
+      → AreChroma cb.now geo (neighbours_of (get_or planes 0 zero_rows))
+      × AreChroma cr.now geo (neighbours_of (get_or planes 1 zero_rows))
   -- smooth, 8.4.4.2.3: the rule; both rows in the [1 2 1] form, which no depth plays a part in; corner and rows in either form
-  pub should-filter-refs : (mode n : ℕ) (r : Rule) → rule.Post none (mode and n and none) r (mode and n and none) → r.no ≡ 0
-      → r.yes ≡ filter_flag n mode
-  pub filter-references : (κs : Lfts 2) (corner : ℕ) (above left : LentSlice) (n : ℕ) (r : FilteredRows)
-      → weak-filter.Post κs (corner and above and left and n and none) r (corner and above and left and n and none) → r.no ≡ 0
+  pub should-filter-refs : (mode n : ℕ) (yes : Bool) → rule.Post none (mode and n and none) (Ok yes) (mode and n and none)
+      → yes ≡ filter_flag n mode
+  pub filter-references : (κs : Lfts 2) (corner : ℕ) (above left : LentSlice) (n : ℕ) (rows : RowPair)
+      → weak-filter.Post κs (corner and above and left and n and none) (Ok rows) (corner and above and left and n and none)
       → (bits i : ℕ) → i < 2 * n → let pF = filtered false bits n (in_rows corner above left) in
-      (get_or r.above i 0 ≡ pF.above i) × (get_or r.left i 0 ≡ pF.left i)
-  pub filter-luma-refs : (κs : Lfts 2) (corner : ℕ) (above left : LentSlice) (n bits : ℕ) (r : Smoothed)
-      → luma-filter.Post κs (corner and above and left and n and bits and none) r (corner and above and left and n and bits and none)
-      → r.no ≡ 0 → Agree n (neighbours_of r.rows) (filtered true bits n (in_rows corner above left))
+      (get_or rows.above i 0 ≡ pF.above i) × (get_or rows.left i 0 ≡ pF.left i)
+  pub filter-luma-refs : (κs : Lfts 2) (corner : ℕ) (above left : LentSlice) (n bits : ℕ) (rows : Rows)
+      → luma-filter.Post κs (corner and above and left and n and bits and none) (Ok rows) (corner and above and left and n and bits and none)
+      → Agree n (neighbours_of rows) (filtered true bits n (in_rows corner above left))
   -- predict: planar, DC and angular, 8.4.4.2.4 to 8.4.4.2.6
   pub predict_planar_into : (κs : Lfts 3) (above left : LentSlice) (n : ℕ)
       → Writes (planar-into.Post κs) (λ pred last. above and left and n and pred and last) n (planar n (in_rows 0 above left))
@@ -218,12 +215,12 @@ pub record Demand2 : Type 2 where
       → Writes (luma-fresh.Post κs) (λ pred last. mode and rows and n and bits and pred and last)
       n (luma_samples bits n mode (neighbours_of rows))
   -- the luma gather, then a luma block over the rows that it gave: 8.4.4.2 whole
-  pub gathered_luma_slices : (κ : Lfts 1) (plane : LentSlice) (geo : LumaRefGeometry) (g : Gathered) → Gathers κ plane geo g
+  pub gathered_luma_slices : (κ : Lfts 1) (plane : LentSlice) (geo : LumaRefGeometry) (rows : Rows) → Gathers κ plane geo rows
       → (κs : Lfts 4) (mode : ℕ) → Writes {Last = LentTables} (luma-slices.Post κs)
-      (λ pred last. mode and g.rows and geo.n and geo.bits and pred and last) geo.n (standard_block plane.now geo mode)
-  pub gathered_luma_fresh : (κ : Lfts 1) (plane : LentSlice) (geo : LumaRefGeometry) (g : Gathered) → Gathers κ plane geo g
+      (λ pred last. mode and rows and geo.n and geo.bits and pred and last) geo.n (standard_block plane.now geo mode)
+  pub gathered_luma_fresh : (κ : Lfts 1) (plane : LentSlice) (geo : LumaRefGeometry) (rows : Rows) → Gathers κ plane geo rows
       → (κs : Lfts 1) (mode : ℕ) → Writes (luma-fresh.Post κs)
-      (λ pred last. mode and g.rows and geo.n and geo.bits and pred and last) geo.n (standard_block plane.now geo mode)
+      (λ pred last. mode and rows and geo.n and geo.bits and pred and last) geo.n (standard_block plane.now geo mode)
   -- predict_angular_into, predict_chroma_tb_into, predict_luma_tb_into
   pub with-scratch : {M : Type 1} {𝓤 : Ura M} (𝓛 : Logic 𝓤) (mem : Memory → SProp 𝓤) (run : Routine → Fun 𝓤)
       → WithScratch 𝓛 mem run

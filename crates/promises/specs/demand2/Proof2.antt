@@ -1,6 +1,6 @@
 -- Demand 2, proved: of each door, what its contract says where the number is 0. Rests on the bridges of refs, smooth and predict, and on
 -- what the camera's bytes spell (Spelt2).
-use Rattle.std.specs.Prelude.{◌≡◌, refl, List, ℕ, ◌+◌, ◌*◌, ◌≤◌, ◌<◌, length, get_or}
+use Rattle.std.specs.Prelude.{◌≡◌, refl, List, ℕ, ◌+◌, ◌*◌, ◌≤◌, ◌<◌, length, get_or, Ok}
 use Rattle.std.proofs.Common.{sym, ◌∙◌, arith}
 use Rattle.std.proofs.Math.Path.{ap}
 use Rattle.std.proofs.Math.Bool.{true, false}
@@ -20,17 +20,14 @@ use Rattle.h265.specs.Prediction.{predicted}
 use Rattle.h265.specs.Mean.{Agree}
 use Rattle.domain.specs.Domain.{size_ok}
 use Rattle.domain.specs.Facts.{size_of, size_small}
-use Rattle.domain.specs.declared.rows.Gathered.{Gathered}
 use Rattle.domain.specs.rows.Neighbours.{neighbours_of, zero_rows}
-use Rattle.refs.specs.declared.GatheredPair.{GatheredPair}
+use Rattle.refs.specs.Answers.{Gathered, GatheredPair, gathered, gathered_pair}
 use Rattle.refs.specs.declared.LumaRefGeometry.{LumaRefGeometry}
 use Rattle.refs.specs.declared.ChromaRefGeometry.{ChromaRefGeometry}
 use Rattle.refs.specs.Door.{luma_geometry, luma_no, get_reference_samples, chroma_geometry, chroma_no, get_reference_samples_chroma_pair}
 use Rattle.refs.specs.Component.{OwnPlace}
 use Rattle.refs.specs.standard.Standard.{luma_standard, chroma_standard}
-use Rattle.smooth.specs.declared.Rule.{Rule}
-use Rattle.smooth.specs.declared.FilteredRows.{FilteredRows}
-use Rattle.smooth.specs.declared.Smoothed.{Smoothed}
+use Rattle.smooth.specs.Answers.{Rule, FilteredRows, Smoothed, rule_given, rows_given, smoothed_given}
 use Rattle.smooth.specs.Smoothing.{filter_no, should_filter_refs, filter_references, filter_luma_refs}
 use Rattle.smooth.specs.Forms.{weak_is, never_strong}
 use Rattle.smooth.specs.Standard.{is_standard, door_is_standard}
@@ -83,9 +80,9 @@ module _ (plane : List ℕ) (geo : LumaRefGeometry) (g : Gathered) (met : g ≡ 
   unfolding get_reference_samples
   no_is = ap (λ (d : Gathered). d.no) (sym met) ∙ served-call
 
-  gathered : Agree geo.n (neighbours_of g.rows) (standard_neighbours plane geo)
+  luma_agrees : Agree geo.n (neighbours_of g.rows) (standard_neighbours plane geo)
   unfolding get_reference_samples
-  gathered = rw met (rw no_is (luma_standard plane geo no_is))
+  luma_agrees = rw met (rw no_is (luma_standard plane geo no_is))
 
   -- and a luma block over the rows that it gave
   whole : (mode number : ℕ) (pred pred' : LentMutSlice) → number ≡ 0
@@ -96,7 +93,7 @@ module _ (plane : List ℕ) (geo : LumaRefGeometry) (g : Gathered) (met : g ≡ 
   whole mode number pred pred' zero holds lent same e x y hx hy =
       moded _ geo.n number pred pred' zero holds geo.bits mode lent same e x y hx hy
       ∙ pred_alone (luma_at geo.bits) first_edition_strong geo.n mode x y _ _ (luma_size _ geo no_is)
-      (highest (given geo.bits geo.n mode lent (sym e ∙ zero)).block) hx hy gathered
+      (highest (given geo.bits geo.n mode lent (sym e ∙ zero)).block) hx hy luma_agrees
 
 -- the chroma pair gather
 module _ (cb cr : List ℕ) (geo : ChromaRefGeometry) (g : GatheredPair) (met : g ≡ get_reference_samples_chroma_pair cb cr geo)
@@ -140,46 +137,50 @@ module _ (corner : ℕ) (above left : List ℕ) (n : ℕ) where
 module _ {M : Type 1} {𝓤 : Ura M} (𝓛 : Logic 𝓤) (mem : Memory → SProp 𝓤) (run : Routine → Fun 𝓤) where
   with-scratch : WithScratch 𝓛 mem run
   with-scratch = record {
-    predict_angular_into = λ κs corner above left n mode edge bits pred pred' last last' number zero.
+    predict_angular_into = λ κs corner above left n mode edge bits pred pred' last last'.
         fact_mono 𝓤 _ _
-        (λ p. angled _ n number pred pred' zero p.1.0 bits mode (with_scratch (entries_in above) (entries_in left) (mut_entries_in pred)) refl p.0);
-    predict_chroma_tb_into = λ κs mode corner above left n bits pred pred' last last' number zero.
+        (λ p. angled _ n 0 pred pred' refl p.1.0 bits mode (with_scratch (entries_in above) (entries_in left) (mut_entries_in pred)) refl p.0);
+    predict_chroma_tb_into = λ κs mode corner above left n bits pred pred' last last'.
         fact_mono 𝓤 _ _
-        (λ p. moded _ n number pred pred' zero p.1.0 bits mode (with_scratch (entries_in above) (entries_in left) (mut_entries_in pred)) refl p.0);
-    predict_luma_tb_into = λ κs mode rows n bits pred pred' last last' number zero.
-        fact_mono 𝓤 _ _ (λ p. moded _ n number pred pred' zero p.1.0 bits mode (with_scratch 65 65 (mut_entries_in pred)) refl p.0);
-    gathered_luma_into = λ κ plane geo g m κs mode pred pred' last last' number zero.
+        (λ p. moded _ n 0 pred pred' refl p.1.0 bits mode (with_scratch (entries_in above) (entries_in left) (mut_entries_in pred)) refl p.0);
+    predict_luma_tb_into = λ κs mode rows n bits pred pred' last last'.
+        fact_mono 𝓤 _ _ (λ p. moded _ n 0 pred pred' refl p.1.0 bits mode (with_scratch 65 65 (mut_entries_in pred)) refl p.0);
+    gathered_luma_into = λ κ plane geo rows m κs mode pred pred' last last'.
         fact_mono 𝓤 _ _
-        (λ p. whole plane.now geo g m.0 m.1 mode number pred pred' zero p.1.0 (with_scratch 65 65 (mut_entries_in pred)) refl p.0);
+        (λ p. whole plane.now geo (gathered (Ok rows)) m refl mode 0 pred pred' refl p.1.0
+        (with_scratch 65 65 (mut_entries_in pred)) refl p.0);
   }
 
 pub demand_2 : Demand2
 demand_2 = record {
-  get-reference-samples = λ κ plane geo g m. gathered plane.now geo g m.0 m.1;
-  get-reference-samples-chroma-pair = λ κs cb cr geo g m own. gathered-pair cb.now cr.now geo g m.0 m.1 own;
-  should-filter-refs = ruled;
-  filter-references = λ κs corner above left n. weakly corner above.now left.now n;
-  filter-luma-refs = λ κs corner above left n. either_form corner above.now left.now n;
-  predict_planar_into = λ κs above left n pred pred' last last' number p zero.
-      flat _ n number pred pred' zero p.1 (entries_in above) (entries_in left) p.0;
-  predict_dc_into = λ κs above left n edge pred pred' last last' number p zero.
-      flat _ n number pred pred' zero p.1 (entries_in above) (entries_in left) p.0;
-  predict_angular_slices = λ κs corner above left n mode edge bits pred pred' last last' number p zero.
-      angled _ n number pred pred' zero p.1.0 bits mode (with_lent_tables (entries_in above) (entries_in left) (mut_entries_in pred) last) refl p.0;
-  predict_angular_fresh = λ κs corner above left n mode edge bits pred pred' last last' number p zero.
-      angled _ n number pred pred' zero p.1 bits mode (with_scratch (entries_in above) (entries_in left) (mut_entries_in pred)) refl p.0;
-  predict_chroma_tb_slices = λ κs mode corner above left n bits pred pred' last last' number p zero.
-      moded _ n number pred pred' zero p.1.0 bits mode (with_lent_tables (entries_in above) (entries_in left) (mut_entries_in pred) last) refl p.0;
-  predict_chroma_tb_fresh = λ κs mode corner above left n bits pred pred' last last' number p zero.
-      moded _ n number pred pred' zero p.1 bits mode (with_scratch (entries_in above) (entries_in left) (mut_entries_in pred)) refl p.0;
-  predict_luma_tb_slices = λ κs mode rows n bits pred pred' last last' number p zero.
-      moded _ n number pred pred' zero p.1.0 bits mode (with_lent_tables 65 65 (mut_entries_in pred) last) refl p.0;
-  predict_luma_tb_fresh = λ κs mode rows n bits pred pred' last last' number p zero.
-      moded _ n number pred pred' zero p.1 bits mode (with_scratch 65 65 (mut_entries_in pred)) refl p.0;
-  gathered_luma_slices = λ κ plane geo g m κs mode pred pred' last last' number p zero.
-      whole plane.now geo g m.0 m.1 mode number pred pred' zero p.1.0 (with_lent_tables 65 65 (mut_entries_in pred) last) refl p.0;
-  gathered_luma_fresh = λ κ plane geo g m κs mode pred pred' last last' number p zero.
-      whole plane.now geo g m.0 m.1 mode number pred pred' zero p.1 (with_scratch 65 65 (mut_entries_in pred)) refl p.0;
+  get-reference-samples = λ κ plane geo rows m. luma_agrees plane.now geo (gathered (Ok rows)) m refl;
+  get-reference-samples-chroma-pair = λ κs cb cr geo planes m own. gathered-pair cb.now cr.now geo (gathered_pair (Ok planes)) m refl own;
+  should-filter-refs = λ mode n yes p. ruled mode n (rule_given (Ok yes)) p refl;
+  filter-references = λ κs corner above left n rows p. weakly corner above.now left.now n (rows_given (Ok rows)) p refl;
+  filter-luma-refs = λ κs corner above left n bits rows p.
+      either_form corner above.now left.now n bits (smoothed_given (Ok rows)) p refl;
+  predict_planar_into = λ κs above left n pred pred' last last' p.
+      flat _ n 0 pred pred' refl p.1 (entries_in above) (entries_in left) p.0;
+  predict_dc_into = λ κs above left n edge pred pred' last last' p.
+      flat _ n 0 pred pred' refl p.1 (entries_in above) (entries_in left) p.0;
+  predict_angular_slices = λ κs corner above left n mode edge bits pred pred' last last' p.
+      angled _ n 0 pred pred' refl p.1.0 bits mode (with_lent_tables (entries_in above) (entries_in left) (mut_entries_in pred) last) refl p.0;
+  predict_angular_fresh = λ κs corner above left n mode edge bits pred pred' last last' p.
+      angled _ n 0 pred pred' refl p.1 bits mode (with_scratch (entries_in above) (entries_in left) (mut_entries_in pred)) refl p.0;
+  predict_chroma_tb_slices = λ κs mode corner above left n bits pred pred' last last' p.
+      moded _ n 0 pred pred' refl p.1.0 bits mode (with_lent_tables (entries_in above) (entries_in left) (mut_entries_in pred) last) refl p.0;
+  predict_chroma_tb_fresh = λ κs mode corner above left n bits pred pred' last last' p.
+      moded _ n 0 pred pred' refl p.1 bits mode (with_scratch (entries_in above) (entries_in left) (mut_entries_in pred)) refl p.0;
+  predict_luma_tb_slices = λ κs mode rows n bits pred pred' last last' p.
+      moded _ n 0 pred pred' refl p.1.0 bits mode (with_lent_tables 65 65 (mut_entries_in pred) last) refl p.0;
+  predict_luma_tb_fresh = λ κs mode rows n bits pred pred' last last' p.
+      moded _ n 0 pred pred' refl p.1 bits mode (with_scratch 65 65 (mut_entries_in pred)) refl p.0;
+  gathered_luma_slices = λ κ plane geo rows m κs mode pred pred' last last' p.
+      whole plane.now geo (gathered (Ok rows)) m refl mode 0 pred pred' refl p.1.0
+      (with_lent_tables 65 65 (mut_entries_in pred) last) refl p.0;
+  gathered_luma_fresh = λ κ plane geo rows m κs mode pred pred' last last' p.
+      whole plane.now geo (gathered (Ok rows)) m refl mode 0 pred pred' refl p.1
+      (with_scratch 65 65 (mut_entries_in pred)) refl p.0;
   with-scratch = with-scratch;
   salvrunde_luma_refs = λ κs bits width height ctu unit row col n plane bytes out out' number.
       luma_refs_spelt plane.now (luma_geometry bits width height ctu unit row col n) out.now bytes;

@@ -10,14 +10,14 @@ use Rattle.laws.specs.Every.{every}
 use Rattle.domain.specs.Domain.{depth_ok}
 use Rattle.domain.specs.Facts.{Depth, depth_of, at_depth}
 use Rattle.order.specs.Order.{picture_ok}
-use Rattle.plan.specs.declared.tiling.Verdict.{Verdict}
+use Rattle.plan.specs.Answers.{Verdict}
 use Rattle.plan.specs.tiling.Tiling.{picture_of, place}
 use Rattle.plan.specs.tiling.Plan.{Plan}
 use Rattle.plan.specs.tiling.PlanCheck.{blocks_verdict, blocks_alone}
 use Rattle.plan.specs.tiling.Tests.{good_picture}
 use Rattle.plan.specs.tiling.Verdict.{Accepted, good_verdict}
 use Rattle.walk.specs.declared.checks.Still.{Still}
-use Rattle.walk.specs.declared.Stepped.{Stepped}
+use Rattle.walk.specs.Answers.{Stepped}
 use Rattle.walk.specs.checks.Checks.{Tables, largest_in, is_whole, is_roomy, residual_checks, settle}
 use Rattle.walk.specs.block.Rebuilt.{replay_unit}
 use Rattle.walk.specs.block.Walked.{World, walked, walk_unit}

@@ -1,7 +1,7 @@
 -- Documents 01 and 02, demand 3: what a walk of a still gives, and that a replay of it gives the still back, however either is split into
 -- calls. A call, a chain of calls and the names used here are in Calls; that the doors make such calls is said of their contracts, at the
 -- end. `predicted_at` is H.265's own prediction of a block from a plane. Proof3 proves it all.
-use Rattle.std.specs.Prelude.{ℕ, ◌+◌, ◌-◌, ◌≤◌, ◌<◌, min, ◌≡◌, true, List, ℤ, pos, nat_abs, ◌+ℤ◌, ◌-ℤ◌, length, get_or}
+use Rattle.std.specs.Prelude.{Result, ℕ, ◌+◌, ◌-◌, ◌≤◌, ◌<◌, min, ◌≡◌, true, List, ℤ, pos, nat_abs, ◌+ℤ◌, ◌-ℤ◌, length, get_or}
 use seplogic.Ra.Ura.{Ura}
 use base.Logic.{SProp, ent}
 use prog.Memory.{Memory}
@@ -18,7 +18,9 @@ use Rattle.plan.specs.tiling.Plan.{plan_of, listed}
 use Rattle.plan.specs.tiling.Tiling.{In, Of, Covered}
 use Rattle.walk.specs.declared.checks.Still.{Still}
 use Rattle.walk.specs.declared.Progress.{Progress}
-use Rattle.walk.specs.declared.Stepped.{Stepped}
+use Rattle.walk.specs.declared.Advance.{Advance}
+use Rattle.walk.specs.declared.Rejected.{Rejected}
+use Rattle.walk.specs.Answers.{Stepped, stepped_of}
 use Rattle.walk.specs.checks.Checks.{Tables, is_roomy, largest_in}
 use Rattle.walk.specs.block.Predicted.{sample_at, predicted_at}
 use Rattle.walk.specs.block.Walked.{World}
@@ -164,35 +166,35 @@ pub record Demand3 : Type 2 where
   -- what the lent numbers or records list, so that calls of both forms, with whatever scratch, are calls of one task where they list one
   -- plan.
   pub by_walk_numbers : (κs : Lfts 10) (self : Progress) (still : Still) (rows cols sides modes source : Bor (List ℕ))
-      (work : MutBor (List ℕ)) (residuals : MutBor (List ℤ)) (refs indices fractions : MutBor (List ℕ)) (grant : ℕ) (r : Stepped) (e : AtExit walk-numbers.ended κs)
+      (work : MutBor (List ℕ)) (residuals : MutBor (List ℤ)) (refs indices fractions : MutBor (List ℕ)) (grant : ℕ) (a : Result Advance Rejected) (e : AtExit walk-numbers.ended κs)
       → walk-numbers-contract.Post κs
-      (self, (still, (rows, (cols, (sides, (modes, (source, (work, (residuals, (refs, (indices, (fractions, (grant, tt))))))))))))) r e
+      (self, (still, (rows, (cols, (sides, (modes, (source, (work, (residuals, (refs, (indices, (fractions, (grant, tt))))))))))))) a e
       → WalkGave (task still (plan_of rows.now cols.now sides.now modes.now)) source.now
       (held self (world work.now residuals.now))
-      (ask grant (tables refs.now indices.now fractions.now)) r
-      (held r.next (world e.1.1.1.1.1.1.1.0.now e.1.1.1.1.1.1.1.1.0.now))
+      (ask grant (tables refs.now indices.now fractions.now)) (stepped_of a)
+      (held (stepped_of a).next (world e.1.1.1.1.1.1.1.0.now e.1.1.1.1.1.1.1.1.0.now))
   pub by_replay_numbers : (κs : Lfts 9) (self : Progress) (still : Still) (rows cols sides modes : Bor (List ℕ))
       (residuals : Bor (List ℤ))
-      (plane refs indices fractions : MutBor (List ℕ)) (grant : ℕ) (r : Stepped) (e : AtExit replay-numbers.ended κs)
+      (plane refs indices fractions : MutBor (List ℕ)) (grant : ℕ) (a : Result Advance Rejected) (e : AtExit replay-numbers.ended κs)
       → replay-numbers-contract.Post κs
-      (self, (still, (rows, (cols, (sides, (modes, (residuals, (plane, (refs, (indices, (fractions, (grant, tt)))))))))))) r e
+      (self, (still, (rows, (cols, (sides, (modes, (residuals, (plane, (refs, (indices, (fractions, (grant, tt)))))))))))) a e
       → ReplayGave (task still (plan_of rows.now cols.now sides.now modes.now)) residuals.now (held self plane.now)
-      (ask grant (tables refs.now indices.now fractions.now)) r (held r.next e.1.1.1.1.1.1.1.0.now)
+      (ask grant (tables refs.now indices.now fractions.now)) (stepped_of a) (held (stepped_of a).next e.1.1.1.1.1.1.1.0.now)
   -- the doors over records, said of their clauses: a clause is an assertion of any model, and entails the same
   pub by_walk : {M : Type 1} {𝓤 : Ura M} (𝓛 : Logic 𝓤) (mem : Memory → SProp 𝓤) (run : Routine → Fun 𝓤) (κs : Lfts 5)
       (self : Progress) (still : Still) (plan : Bor (List Block)) (source : Bor (List ℕ)) (work : MutBor (List ℕ)) (residuals : MutBor (List ℤ))
-      (scratch : MutBor AngularScratch) (grant : ℕ) (r : Stepped) (e : AtExit walk-records.ended κs)
+      (scratch : MutBor AngularScratch) (grant : ℕ) (a : Result Advance Rejected) (e : AtExit walk-records.ended κs)
       → ent 𝓤
-      ((walk-records.clauses 𝓛 mem run κs (self, (still, (plan, (source, (work, (residuals, (scratch, (grant, tt))))))))).ensures tt r e)
+      ((walk-records.clauses 𝓛 mem run κs (self, (still, (plan, (source, (work, (residuals, (scratch, (grant, tt))))))))).ensures tt a e)
       (fact 𝓤 (WalkGave (task still (listed plan.now)) source.now (held self (world work.now residuals.now))
-      (ask grant scratch_tables) r (held r.next (world e.1.1.1.1.0.now e.1.1.1.1.1.0.now))))
+      (ask grant scratch_tables) (stepped_of a) (held (stepped_of a).next (world e.1.1.1.1.0.now e.1.1.1.1.1.0.now))))
   pub by_replay : {M : Type 1} {𝓤 : Ura M} (𝓛 : Logic 𝓤) (mem : Memory → SProp 𝓤) (run : Routine → Fun 𝓤) (κs : Lfts 4)
       (self : Progress) (still : Still) (plan : Bor (List Block)) (residuals : Bor (List ℤ)) (plane : MutBor (List ℕ))
-      (scratch : MutBor AngularScratch) (grant : ℕ) (r : Stepped) (e : AtExit replay-records.ended κs)
+      (scratch : MutBor AngularScratch) (grant : ℕ) (a : Result Advance Rejected) (e : AtExit replay-records.ended κs)
       → ent 𝓤 ((replay-records.clauses 𝓛 mem run κs
-      (self, (still, (plan, (residuals, (plane, (scratch, (grant, tt)))))))).ensures tt r e)
-      (fact 𝓤 (ReplayGave (task still (listed plan.now)) residuals.now (held self plane.now) (ask grant scratch_tables) r
-      (held r.next e.1.1.1.1.0.now)))
+      (self, (still, (plan, (residuals, (plane, (scratch, (grant, tt)))))))).ensures tt a e)
+      (fact 𝓤 (ReplayGave (task still (listed plan.now)) residuals.now (held self plane.now) (ask grant scratch_tables) (stepped_of a)
+      (held (stepped_of a).next e.1.1.1.1.0.now)))
   -- Lists of numbers and a list of records that agree block by block are one plan.
   pub one_plan : (rows cols sides modes : List ℕ) (l : List Block)
       → length rows ≡ length l → length cols ≡ length l → length sides ≡ length l → length modes ≡ length l

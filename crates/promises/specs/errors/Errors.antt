@@ -1,6 +1,6 @@
 -- Document 02, Wish 14, on one page: an error report counts what its pairs of planes have, each block under its mode, and nothing is lost.
 -- For each door: what meets its contract, as the prover reads it. ProofErrors proves it.
-use Rattle.std.specs.Prelude.{◌≡◌, true, ℕ, ◌+◌, ◌*◌, length, get_or}
+use Rattle.std.specs.Prelude.{Result, ◌≡◌, true, ℕ, ◌+◌, ◌*◌, length, get_or}
 use mathlib.Core.List.{List, [], ◌∷◌, Permᴰ}
 use seplogic.Ra.Ura.{Ura}
 use base.Logic.{SProp, ent}
@@ -19,8 +19,8 @@ use Rattle.plan.specs.tiling.Plan.{Plan, plan_of, listed}
 use Rattle.plan.specs.tiling.Sums.{picture_total}
 use Rattle.plan.specs.RecordPlan.{records_of}
 use Rattle.errors.specs.declared.Report.{Report}
-use Rattle.errors.specs.declared.Counted.{Counted}
-use Rattle.errors.specs.declared.Joined.{Joined}
+use Rattle.errors.specs.declared.Rejected.{Rejected}
+use Rattle.errors.specs.Answers.{Counted, counted_of}
 use Rattle.errors.specs.Errors.{Tally, error_at, pair_tally, tallied, fresh_report, keeps_limits}
 use Rattle.errors.specs.Served.{Figured}
 use Rattle.errors.proofs.Report.count_numbers.Reads as door
@@ -42,15 +42,18 @@ abbrev pub plan_lent : Pair → Plan
 plan_lent p = plan_of p.rows.now p.cols.now p.sides.now p.modes.now
 
 -- what meets the contract of a call that counts the pair into the report r
-abbrev pub CountsPair : Lfts 6 → Report → Pair → Counted → Type 0
+abbrev pub Answer : Type 0
+Answer = Result Report Rejected
+
+abbrev pub CountsPair : Lfts 6 → Report → Pair → Answer → Type 0
 CountsPair κ r p v =
     door.Post κ (r and p.a and p.b and p.rows and p.cols and p.sides and p.modes and none) v
     (r and p.a and p.b and p.rows and p.cols and p.sides and p.modes and none)
 
-abbrev pub CountsBytes : Lfts 3 → Report → LentSlice → LentSlice → LentSlice → Counted → Type 0
+abbrev pub CountsBytes : Lfts 3 → Report → LentSlice → LentSlice → LentSlice → Answer → Type 0
 CountsBytes κ r a b plan v = bytes-door.Post κ (r and a and b and plan and none) v (r and a and b and plan and none)
 
-abbrev pub Joins : Report → Report → Joined → Type 0
+abbrev pub Joins : Report → Report → Answer → Type 0
 Joins r s v = join-door.Post tt (r and s and none) v (r and s and none)
 
 -- what a pair adds to a report of this picture
@@ -105,23 +108,25 @@ pub record WholeList (frame : Frame) (ps : List Counting) (s : Report) : Type 0 
 pub record ErrorsPromise : Type 2 where
   -- the three doors: plans of numbers, planes and plans of bytes, plans of records; the last is said of its clauses, an assertion of any
   -- model
-  pub by_numbers : (κ : Lfts 6) (r : Report) (p : Pair) (v : Counted) → CountsPair κ r p v → Gives r p.a.now p.b.now (plan_lent p) v
-  pub by_bytes : (κ : Lfts 3) (r : Report) (a b plan : LentSlice) (v : Counted) → CountsBytes κ r a b plan v
-      → Gives r (samples_of a.now) (samples_of b.now) (records_of plan.now) v
+  pub by_numbers : (κ : Lfts 6) (r : Report) (p : Pair) (v : Answer) → CountsPair κ r p v → Gives r p.a.now p.b.now (plan_lent p) (counted_of v)
+  pub by_bytes : (κ : Lfts 3) (r : Report) (a b plan : LentSlice) (v : Answer) → CountsBytes κ r a b plan v
+      → Gives r (samples_of a.now) (samples_of b.now) (records_of plan.now) (counted_of v)
   pub by_records : {M : Type 1} {𝓤 : Ura M} (𝓛 : Logic 𝓤) (mem : Memory → SProp 𝓤) (run : Routine → Fun 𝓤) (κs : Lfts 3)
-      (r : Report) (a b : LentSlice) (plan : Bor (List Block)) (v : Counted) (e : AtExit records-door.ended κs)
+      (r : Report) (a b : LentSlice) (plan : Bor (List Block)) (v : Answer) (e : AtExit records-door.ended κs)
       → ent 𝓤 ((records-door.clauses 𝓛 mem run κs (r, (a, (b, (plan, tt))))).ensures tt v e)
-      (fact 𝓤 (Gives r a.now b.now (listed plan.now) v))
+      (fact 𝓤 (Gives r a.now b.now (listed plan.now) (counted_of v)))
   -- pairs counted from nothing: the blocks add up to the plans' lengths, the samples to pairs × width × height, and the squares to the
   -- pictures' whole sums, worked out without the plans
   pub all_pairs : (bits : ℕ) (frame : Frame) (ps : List Counting) (s : Report) → CountedAll (fresh_report bits frame) ps s
       → WholeList frame ps s
   -- the order of accepted pairs makes no difference: where p and then q are counted, q and then p are, and the report is the same
-  pub order : (κ λ' μ ν : Lfts 6) (r : Report) (p q : Pair) (v w x y : Counted) → Figured r → CountsPair κ r p v
-      → CountsPair λ' v.next q w → CountsPair μ r q x → CountsPair ν x.next p y → v.no ≡ 0 → w.no ≡ 0
-      → (x.no ≡ 0) × ((y.no ≡ 0) × (y.next ≡ w.next))
+  pub order : (κ λ' μ ν : Lfts 6) (r : Report) (p q : Pair) (v w x y : Answer) → Figured r → CountsPair κ r p v
+      → CountsPair λ' (counted_of v).next q w → CountsPair μ r q x → CountsPair ν (counted_of x).next p y → (counted_of v).no ≡ 0
+      → (counted_of w).no ≡ 0
+      → ((counted_of x).no ≡ 0) × (((counted_of y).no ≡ 0) × ((counted_of y).next ≡ (counted_of w).next))
   -- nor over any list of pairs, through any of the doors
   pub any_order : (r s t : Report) (ps qs : List Counting) → Figured r → Permᴰ ps qs → CountedAll r ps s → CountedAll r qs t → s ≡ t
   -- two reports added are the report of both sets: s was counted from nothing, and t has its pairs counted into r
-  pub together : (bits : ℕ) (frame : Frame) (ps : List Counting) (r s t : Report) (v : Joined) → Figured r
-      → CountedAll (fresh_report bits frame) ps s → CountedAll r ps t → Joins r s v → v.no ≡ 0 → v.next ≡ t
+  pub together : (bits : ℕ) (frame : Frame) (ps : List Counting) (r s t : Report) (v : Answer) → Figured r
+      → CountedAll (fresh_report bits frame) ps s → CountedAll r ps t → Joins r s v → (counted_of v).no ≡ 0
+      → (counted_of v).next ≡ t

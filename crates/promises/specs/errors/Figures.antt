@@ -8,7 +8,7 @@ use Rattle.plan.specs.declared.tiling.Frame.{Frame}
 use Rattle.plan.specs.tiling.Plan.{Plan, plan_of}
 use Rattle.plan.specs.tiling.Check.{ahead_by, ahead, block_number}
 use Rattle.plan.specs.tiling.PlanCheck.{verdict_from, plan_verdict}
-use Rattle.errors.specs.declared.Counted.{Counted}
+use Rattle.errors.specs.Answers.{Counted}
 use Rattle.errors.specs.Errors.{fresh_report, keeps_limits, pair_no, settle_full, counted_by, count_pair}
 
 abbrev still : Frame

@@ -6,7 +6,7 @@ use mathlib.Core.List.{List, [], ◌∷◌, Permᴰ}
 use contract.Monad.{fact_mono}
 use Rattle.laws.specs.Choose.{worked, unserved, both_same}
 use Rattle.laws.specs.Sum.{total, total_same, total_plus}
-use Rattle.plan.specs.declared.tiling.Verdict.{Verdict}
+use Rattle.plan.specs.Answers.{Verdict}
 use Rattle.plan.specs.declared.tiling.Frame.{Frame}
 use Rattle.plan.specs.tiling.Plan.{Plan, listed}
 use Rattle.plan.specs.tiling.PlanCheck.{plan_verdict}
@@ -14,8 +14,7 @@ use Rattle.plan.specs.tiling.Sums.{picture_total}
 use Rattle.plan.specs.RecordPlan.{records_of}
 use Rattle.octets.specs.Bytes.{samples_of}
 use Rattle.errors.specs.declared.Report.{Report}
-use Rattle.errors.specs.declared.Counted.{Counted}
-use Rattle.errors.specs.declared.Joined.{Joined}
+use Rattle.errors.specs.Answers.{Counted, Joined, counted_of}
 use Rattle.errors.specs.Errors.{Tally, error_at, pair_tally, tally_of, tallied, raised, keeps_limits}
 use Rattle.errors.specs.Errors.{room_for_pair, planes_fit, pair_verdict, settle_full, counted_by, join_no, join_reports, pair_no}
 use Rattle.errors.proofs.ByMode.{blocks_whole, samples_whole, picture_whole}
@@ -24,7 +23,7 @@ use Rattle.errors.specs.Limits.{raised_at}
 use Rattle.errors.specs.Added.{tallied_figured, fresh_figured, tallied_order, tallied_all, any_order, counted_apart, joinable}
 use Rattle.errors.proofs.Limits.{pair_keeps}
 use Rattle.promises.specs.errors.Errors.{Pair, plan_lent, adds, all_modes, WholePair, Gives, Counting, CountedAll, no_pair, one-pair}
-use Rattle.promises.specs.errors.Errors.{sum_over, ErrorsPromise}
+use Rattle.promises.specs.errors.Errors.{sum_over, Answer, ErrorsPromise}
 
 -- an answer by a verdict
 module _ (r : Report) (w : Verdict) (t : Tally) (v : Counted) (p : v ≡ counted_by r w t) where
@@ -183,11 +182,18 @@ none_yet : all_modes (replicate 35 0) ≡ 0
 unfolding total
 none_yet = refl
 
+-- the sum that an answer tells of
+abbrev sum_in : Counted → Joined
+sum_in c = record { no = c.no; next = c.next }
+
+abbrev sum_of : Answer → Joined
+sum_of v = sum_in (counted_of v)
+
 pub errors_settled : ErrorsPromise
 errors_settled = record {
-  by_numbers = λ κ r p v c. gives r _ p.a.now p.b.now (plan_lent p) v c;
-  by_bytes = λ κ r a b plan v c. gives r _ (samples_of a.now) (samples_of b.now) (records_of plan.now) v c;
-  by_records = λ {𝓤 = 𝓤} 𝓛 mem run κs r a b plan v e. fact_mono 𝓤 _ _ (λ p. gives r _ a.now b.now (listed plan.now) v p);
+  by_numbers = λ κ r p v c. gives r _ p.a.now p.b.now (plan_lent p) (counted_of v) c;
+  by_bytes = λ κ r a b plan v c. gives r _ (samples_of a.now) (samples_of b.now) (records_of plan.now) (counted_of v) c;
+  by_records = λ {𝓤 = 𝓤} 𝓛 mem run κs r a b plan v e. fact_mono 𝓤 _ _ (λ p. gives r _ a.now b.now (listed plan.now) (counted_of v) p);
   all_pairs = λ bits frame ps s c.
       let f = from_any frame refl (fresh_figured bits frame) c in record {
         pairs = omega (arith, f.pairs_are);
@@ -198,26 +204,26 @@ errors_settled = record {
   order = λ κ λ' μ ν r p q v w x y long cv cw cx cy zv zw.
       let t = adds r.frame p in
       let u = adds r.frame q in
-      let ev = sym (no_is r (verdict r p) t v cv) ∙ zv in
-      let nv = added r (verdict r p) t v cv zv in
+      let ev = sym (no_is r (verdict r p) t (counted_of v) cv) ∙ zv in
+      let nv = added r (verdict r p) t (counted_of v) cv zv in
       let cw' = cw ∙ ap (λ (s : Report). counted_by s (verdict s q) (adds s.frame q)) nv in
-      let ew = sym (no_is (tallied r t) (verdict (tallied r t) q) u w cw') ∙ zw in
-      let zx = no_is r (verdict r q) u x cx ∙ second r p q long ev ew in
-      let nx = added r (verdict r q) u x cx zx in
+      let ew = sym (no_is (tallied r t) (verdict (tallied r t) q) u (counted_of w) cw') ∙ zw in
+      let zx = no_is r (verdict r q) u (counted_of x) cx ∙ second r p q long ev ew in
+      let nx = added r (verdict r q) u (counted_of x) cx zx in
       let cy' = cy ∙ ap (λ (s : Report). counted_by s (verdict s p) (adds s.frame p)) nx in
-      let zy = no_is (tallied r u) (verdict (tallied r u) p) t y cy' ∙ first_after r p q long ev ew in (
+      let zy = no_is (tallied r u) (verdict (tallied r u) p) t (counted_of y) cy' ∙ first_after r p q long ev ew in (
         zx,
         (
           zy,
-          added (tallied r u) (verdict (tallied r u) p) t y cy' zy ∙ tallied_order r u t long
-              ∙ sym (added (tallied r t) (verdict (tallied r t) q) u w cw' zw),
+          added (tallied r u) (verdict (tallied r u) p) t (counted_of y) cy' zy ∙ tallied_order r u t long
+              ∙ sym (added (tallied r t) (verdict (tallied r t) q) u (counted_of w) cw' zw),
         ),
       );
   any_order = λ r s t ps qs long p c d.
       all_tallied c ∙ any_order r long (tallies_too r.frame p) ∙ sym (all_tallied d);
   together = λ bits frame ps r s t v long c d j z.
-      let e = same_frame r s (joined_no r s v j z) ∙ all_frame c in
-      joined r s v j z ∙ ap (λ (x : Report). tallied r (tally_of x)) (all_tallied c)
+      let e = same_frame r s (joined_no r s (sum_of v) (ap sum_in j) z) ∙ all_frame c in
+      joined r s (sum_of v) (ap sum_in j) z ∙ ap (λ (x : Report). tallied r (tally_of x)) (all_tallied c)
       ∙ counted_apart bits frame r (tallies frame ps) long
       ∙ ap (λ (f : Frame). tallied_all r (tallies f ps)) (sym e) ∙ sym (all_tallied d);
 }

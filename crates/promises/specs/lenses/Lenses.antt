@@ -3,7 +3,7 @@
 -- holds of each. Nothing is asked of what the scratch holds, nor of what the other lenses do or are refused. The one premise is that the
 -- plan is one for all turns: nobody alters the list while a lens has blocks left. The law of turns is in TurnLaw, what a call gives in
 -- walk's contracts and in Calls. ProofLenses and ProofDoors prove it all.
-use Rattle.std.specs.Prelude.{ℕ, ◌≤◌, min, ◌≡◌, List, ◌∷◌, ◌++◌, map, ℤ}
+use Rattle.std.specs.Prelude.{Result, ℕ, ◌≤◌, min, ◌≡◌, List, ◌∷◌, ◌++◌, map, ℤ}
 use seplogic.Ra.Ura.{Ura}
 use base.Logic.{SProp, ent}
 use prog.Memory.{Memory}
@@ -20,7 +20,9 @@ use Rattle.plan.specs.tiling.Plan.{Plan, plan_of, listed}
 use Rattle.plan.specs.tiling.Tiling.{Covered}
 use Rattle.walk.specs.declared.checks.Still.{Still}
 use Rattle.walk.specs.declared.Progress.{Progress}
-use Rattle.walk.specs.declared.Stepped.{Stepped}
+use Rattle.walk.specs.declared.Advance.{Advance}
+use Rattle.walk.specs.declared.Rejected.{Rejected}
+use Rattle.walk.specs.Answers.{Stepped, stepped_of}
 use Rattle.walk.specs.checks.Checks.{Tables}
 use Rattle.walk.specs.block.Predicted.{sample_at}
 use Rattle.walk.specs.block.Walked.{World}
@@ -181,44 +183,44 @@ module _ (plan : Plan) (stills : ℕ → Still) (t : Tables) where
 pub record LensDoors : Type 2 where
   pub turn_walk_numbers : (κs : Lfts 10) (stills : ℕ → Still) (l : ℕ) (self : Progress)
       (rows cols sides modes source : Bor (List ℕ)) (work : MutBor (List ℕ)) (residuals : MutBor (List ℤ)) (refs indices fractions : MutBor (List ℕ)) (grant : ℕ)
-      (other : Held (List ℕ)) (r : Stepped) (e : AtExit walk-numbers.ended κs)
+      (other : Held (List ℕ)) (a : Result Advance Rejected) (e : AtExit walk-numbers.ended κs)
       → walk-numbers-contract.Post κs
-      (self, (stills l, (rows, (cols, (sides, (modes, (source, (work, (residuals, (refs, (indices, (fractions, (grant, tt))))))))))))) r e
+      (self, (stills l, (rows, (cols, (sides, (modes, (source, (work, (residuals, (refs, (indices, (fractions, (grant, tt))))))))))))) a e
       → let s = e.1.1.1.1.1.1.1 in
       LensGave (plan_of rows.now cols.now sides.now modes.now) stills (tables refs.now indices.now fractions.now) l
       (of_lens source.now (held self (world work.now residuals.now)) other) (to_walk as_is grant)
-      (scratch_of refs.now indices.now fractions.now) r
-      (of_lens source.now (held r.next (world s.0.now s.1.0.now)) other)
+      (scratch_of refs.now indices.now fractions.now) (stepped_of a)
+      (of_lens source.now (held (stepped_of a).next (world s.0.now s.1.0.now)) other)
       (scratch_of s.1.1.0.now s.1.1.1.0.now s.1.1.1.1.0.now)
   pub turn_replay_numbers : (κs : Lfts 9) (stills : ℕ → Still) (l : ℕ) (self : Progress) (rows cols sides modes : Bor (List ℕ))
       (residuals : Bor (List ℤ)) (plane refs indices fractions : MutBor (List ℕ)) (grant : ℕ)
-      (source work : List ℕ) (other : Progress) (r : Stepped) (e : AtExit replay-numbers.ended κs)
+      (source work : List ℕ) (other : Progress) (a : Result Advance Rejected) (e : AtExit replay-numbers.ended κs)
       → replay-numbers-contract.Post κs
-      (self, (stills l, (rows, (cols, (sides, (modes, (residuals, (plane, (refs, (indices, (fractions, (grant, tt)))))))))))) r e
+      (self, (stills l, (rows, (cols, (sides, (modes, (residuals, (plane, (refs, (indices, (fractions, (grant, tt)))))))))))) a e
       → let s = e.1.1.1.1.1.1.1 in
       LensGave (plan_of rows.now cols.now sides.now modes.now) stills (tables refs.now indices.now fractions.now) l
       (of_lens source (held other (world work residuals.now)) (held self plane.now)) (to_replay as_is grant)
-      (scratch_of refs.now indices.now fractions.now) r
-      (of_lens source (held other (world work residuals.now)) (held r.next s.0.now))
+      (scratch_of refs.now indices.now fractions.now) (stepped_of a)
+      (of_lens source (held other (world work residuals.now)) (held (stepped_of a).next s.0.now))
       (scratch_of s.1.0.now s.1.1.0.now s.1.1.1.0.now)
   -- the doors over records, said of their clauses: a clause is an assertion of any model, and entails the same
   pub turn_walk : {M : Type 1} {𝓤 : Ura M} (𝓛 : Logic 𝓤) (mem : Memory → SProp 𝓤) (run : Routine → Fun 𝓤) (κs : Lfts 5)
       (stills : ℕ → Still) (l : ℕ) (self : Progress) (plan : Bor (List Block)) (source : Bor (List ℕ)) (work : MutBor (List ℕ)) (residuals : MutBor (List ℤ))
-      (scratch : MutBor AngularScratch) (grant : ℕ) (other : Held (List ℕ)) (r : Stepped) (e : AtExit walk-records.ended κs)
+      (scratch : MutBor AngularScratch) (grant : ℕ) (other : Held (List ℕ)) (a : Result Advance Rejected) (e : AtExit walk-records.ended κs)
       → let s = e.1.1.1.1 in
       ent 𝓤
       ((walk-records.clauses 𝓛 mem run κs
-      (self, (stills l, (plan, (source, (work, (residuals, (scratch, (grant, tt))))))))).ensures tt r e)
+      (self, (stills l, (plan, (source, (work, (residuals, (scratch, (grant, tt))))))))).ensures tt a e)
       (fact 𝓤 (LensGave (listed plan.now) stills scratch_tables l
-      (of_lens source.now (held self (world work.now residuals.now)) other) (to_walk as_is grant) scratch.now r
-      (of_lens source.now (held r.next (world s.0.now s.1.0.now)) other) s.1.1.0.now))
+      (of_lens source.now (held self (world work.now residuals.now)) other) (to_walk as_is grant) scratch.now (stepped_of a)
+      (of_lens source.now (held (stepped_of a).next (world s.0.now s.1.0.now)) other) s.1.1.0.now))
   pub turn_replay : {M : Type 1} {𝓤 : Ura M} (𝓛 : Logic 𝓤) (mem : Memory → SProp 𝓤) (run : Routine → Fun 𝓤) (κs : Lfts 4)
       (stills : ℕ → Still) (l : ℕ) (self : Progress) (plan : Bor (List Block)) (residuals : Bor (List ℤ)) (plane : MutBor (List ℕ))
-      (scratch : MutBor AngularScratch) (grant : ℕ) (source work : List ℕ) (other : Progress) (r : Stepped)
+      (scratch : MutBor AngularScratch) (grant : ℕ) (source work : List ℕ) (other : Progress) (a : Result Advance Rejected)
       (e : AtExit replay-records.ended κs)
       → let s = e.1.1.1.1 in
       ent 𝓤 ((replay-records.clauses 𝓛 mem run κs
-      (self, (stills l, (plan, (residuals, (plane, (scratch, (grant, tt)))))))).ensures tt r e)
+      (self, (stills l, (plan, (residuals, (plane, (scratch, (grant, tt)))))))).ensures tt a e)
       (fact 𝓤 (LensGave (listed plan.now) stills scratch_tables l
-      (of_lens source (held other (world work residuals.now)) (held self plane.now)) (to_replay as_is grant) scratch.now r
-      (of_lens source (held other (world work residuals.now)) (held r.next s.0.now)) s.1.0.now))
+      (of_lens source (held other (world work residuals.now)) (held self plane.now)) (to_replay as_is grant) scratch.now (stepped_of a)
+      (of_lens source (held other (world work residuals.now)) (held (stepped_of a).next s.0.now)) s.1.0.now))

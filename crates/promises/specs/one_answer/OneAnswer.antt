@@ -1,7 +1,7 @@
 -- Document 01, 'What the contracts settle': for each public function at most one answer, and one later content of what it writes, meets its
 -- contract. Stated over the contract itself as the prover reads it: `Post` takes the arguments, the answer and what is lent at exit. What
 -- lent scratch holds after a served call is the one exception. tests/doors finds a public function that is missing here. Assumes nothing.
-use Rattle.std.specs.Prelude.{ℕ, ◌≡◌, refl, Bool, true, false, List, eqb}
+use Rattle.std.specs.Prelude.{ℕ, ◌≡◌, refl, Bool, true, false, List, [], ◌∷◌, eqb, Result, Ok, Err, IfOk, ⊤}
 use Rattle.std.proofs.Common.{sym, ap, ap₂, ◌∙◌, eqb-true}
 use Rattle.std.proofs.lemmas.Bool.{eqb-false}
 use seplogic.Ra.Ura.{Ura}
@@ -15,7 +15,28 @@ use denote.Triple.Clauses.{Ended, AtExit, Clauses}
 use denote.Triple.Entry.{Args, Res}
 use Rattle.laws.specs.Choose.{served}
 use Rattle.laws.specs.Least.{least_once}
-use Rattle.choose.specs.declared.Chosen.{Chosen}
+use Rattle.domain.specs.declared.refusal.Refusal.{Refusal}
+use Rattle.domain.specs.declared.rows.Rows.{Rows}
+use Rattle.domain.specs.Refusal.{number, no_of}
+use Rattle.domain.specs.Refused.{never_0, same_refusal, same_answer, same_outcome}
+use Rattle.domain.specs.rows.Neighbours.{level_rows, zero_rows}
+use Rattle.order.specs.declared.Reach.{Reach}
+use Rattle.order.specs.Answers.{Numbered, Flagged, Reached, numbered, flagged, reached, held}
+use Rattle.refs.specs.declared.Layout.{Layout}
+use Rattle.smooth.specs.declared.RowPair.{RowPair}
+use Rattle.smooth.specs.Answers.{Rule, FilteredRows, Smoothed, zero_pair, rule_given, rows_given, smoothed_given}
+use Rattle.refs.specs.Answers.{Gathered, GatheredPair, Laid, gathered, gathered_pair, laid}
+use Rattle.checksum.specs.Answers.{answered_same}
+use Rattle.plan.specs.declared.tiling.Fault.{Fault}
+use Rattle.plan.specs.Answers.{Verdict, verdict_of}
+use Rattle.errors.specs.declared.Report.{Report}
+use Rattle.errors.specs.declared.Rejected as errors-refused
+use Rattle.errors.specs.Answers.{Counted, counted_of}
+use Rattle.walk.specs.declared.Advance.{Advance}
+use Rattle.walk.specs.declared.Rejected.{Rejected}
+use Rattle.walk.specs.Answers.{Step, Stepped, step_in, stepped_of}
+use Rattle.choose.specs.declared.Best.{Best}
+use Rattle.choose.specs.Answers.{Chosen, no_best, chosen_of}
 use Rattle.choose.specs.Choose.{Chooses}
 use Rattle.octets.specs.Bytes.{pair_into}
 use Rattle.camera.specs.choice.Entry.{ChoosesInto}
@@ -25,19 +46,16 @@ use Rattle.camera.specs.replay.Door.{After}
 use Rattle.camera.specs.Written.{Written, wrote}
 use Rattle.octets.proofs.sample.Reads as bytes-sample
 use Rattle.octets.proofs.whole_in.Reads as bytes-whole-in
-use Rattle.octets.proofs.samples_ok.Reads as bytes-samples-ok
 use Rattle.octets.proofs.residual.Reads as bytes-residual
-use Rattle.octets.proofs.byte_0.Reads as bytes-byte-0
-use Rattle.octets.proofs.byte_1.Reads as bytes-byte-1
-use Rattle.octets.proofs.byte_2.Reads as bytes-byte-2
-use Rattle.octets.proofs.byte_3.Reads as bytes-byte-3
+use Rattle.octets.proofs.lent.samples_ok.Reads as lent-samples-ok
 use Rattle.domain.proofs.depth_ok.Reads as domain-depth-ok
 use Rattle.domain.proofs.size_ok.Reads as domain-size-ok
 use Rattle.domain.proofs.mode_ok.Reads as domain-mode-ok
 use Rattle.domain.proofs.plane_side_ok.Reads as domain-plane-side-ok
 use Rattle.domain.proofs.picture_ok.Reads as domain-picture-ok
 use Rattle.domain.proofs.unit_ok.Reads as domain-unit-ok
-use Rattle.samples.proofs.ranges.samples_ok.Reads as ranges-samples-ok
+use Rattle.domain.proofs.refusal.Refusal.number.Reads as refusal-number
+use Rattle.domain.proofs.refusal.no_of.Reads as refusal-no-of
 use Rattle.samples.proofs.taps.interp.Reads as taps-interp
 use Rattle.samples.proofs.taps.mean.Reads as taps-mean
 use Rattle.samples.proofs.taps.edge.Reads as taps-edge
@@ -100,19 +118,20 @@ use Rattle.smooth.proofs.filter_luma_refs.Reads as smooth-filter-luma-refs
 use Rattle.refs.proofs.substitution.substitute_refs.Reads as substitution-substitute-refs
 use Rattle.refs.proofs.get_reference_samples.Reads as refs-get-reference-samples
 use Rattle.refs.proofs.get_reference_samples_chroma_pair.Reads as refs-get-reference-samples-chroma-pair
-use Rattle.refs.proofs.gather_no.Reads as refs-gather-no
+use Rattle.refs.proofs.check_gather.Reads as refs-check-gather
 use Rattle.refs.proofs.luma_layout.Reads as refs-luma-layout
 use Rattle.refs.proofs.chroma_layout.Reads as refs-chroma-layout
 use Rattle.plan.proofs.records.record_at.Reads as records-record-at
-use Rattle.plan.proofs.block_at.Reads as plan-block-at
-use Rattle.plan.proofs.is_whole.Reads as plan-is-whole
+use Rattle.plan.proofs.check.Reads as plan-check
+use Rattle.plan.proofs.blocks.NumbersBlocks.block.Reads as plan-block-at
+use Rattle.plan.proofs.blocks.NumbersBlocks.whole.Reads as plan-is-whole
 use Rattle.plan.proofs.check_plan_bytes.Reads as plan-check-plan-bytes
 use Rattle.plan.proofs.check_plan_numbers.Reads as plan-check-plan-numbers
 use Rattle.plan.specs.contracts.check_plan as plan-check-plan
 use Rattle.walk.proofs.calls.doing_of.Reads as calls-doing-of
 use Rattle.walk.proofs.Progress.fresh.Reads as walk-fresh
-use Rattle.walk.proofs.checks.opening_no.Reads as checks-opening-no
-use Rattle.walk.proofs.checks.settled.Reads as checks-settled
+use Rattle.walk.proofs.checks.check_opening.Reads as checks-check-opening
+use Rattle.walk.proofs.granted.Reads as walk-granted
 use Rattle.walk.proofs.block.geometry.Reads as block-geometry
 use Rattle.walk.proofs.block.base_of.Reads as block-base-of
 use Rattle.probes.proofs.salvrunde_probe_picture_checksum.Reads as probes-salvrunde-probe-picture-checksum
@@ -217,6 +236,83 @@ by_number : {L : Type 0} (work kept : L) {n x y : ℕ} {l m : L} → x ≡ n →
     → l ≡ served x work kept → m ≡ served y work kept → (x ≡ y) × (l ≡ m)
 by_number work kept p q u v = (p ∙ sym q, u ∙ ap (λ (k : ℕ). served k work kept) (p ∙ sym q) ∙ sym v)
 
+-- an answer is known by what it says in the paper's terms
+numbered_same : (x y : Result ℕ Refusal) → numbered x ≡ numbered y → x ≡ y
+numbered_same x y e = same_answer 0 x y (ap (λ (r : Numbered). r.no) e) (ap (λ (r : Numbered). r.value) e)
+
+flagged_same : (x y : Result Bool Refusal) → flagged x ≡ flagged y → x ≡ y
+flagged_same x y e = same_answer false x y (ap (λ (r : Flagged). r.no) e) (ap (λ (r : Flagged). r.yes) e)
+
+reached_same : (x y : Result Reach Refusal) → reached x ≡ reached y → x ≡ y
+reached_same x y e = same_answer (record { corner = false; above = 0; left = 0 }) x y (ap (λ (r : Reached). r.no) e) (ap held e)
+
+gathered_same : (x y : Result Rows Refusal) → gathered x ≡ gathered y → x ≡ y
+gathered_same x y e = same_answer (level_rows 0) x y (ap (λ (g : Gathered). g.no) e) (ap (λ (g : Gathered). g.rows) e)
+
+gathered_pair_same : (x y : Result (List Rows) Refusal) → gathered_pair x ≡ gathered_pair y → x ≡ y
+gathered_pair_same x y e =
+    same_answer (level_rows 0 ∷ level_rows 0 ∷ []) x y (ap (λ (g : GatheredPair). g.no) e) (ap (λ (g : GatheredPair). g.planes) e)
+
+rule_same : (x y : Result Bool Refusal) → rule_given x ≡ rule_given y → x ≡ y
+rule_same x y e = same_answer false x y (ap (λ (r : Rule). r.no) e) (ap (λ (r : Rule). r.yes) e)
+
+row_pair_same : (x y : Result RowPair Refusal) → rows_given x ≡ rows_given y → x ≡ y
+row_pair_same x y e = same_answer zero_pair x y (ap (λ (r : FilteredRows). r.no) e) (λ i. record { above = (e i).above; left = (e i).left })
+
+smoothed_same : (x y : Result Rows Refusal) → smoothed_given x ≡ smoothed_given y → x ≡ y
+smoothed_same x y e = same_answer zero_rows x y (ap (λ (r : Smoothed). r.no) e) (ap (λ (r : Smoothed). r.rows) e)
+
+pub chosen_same : (x y : Result Best Refusal) → chosen_of x ≡ chosen_of y → x ≡ y
+chosen_same x y e = same_answer no_best x y (ap (λ (c : Chosen). c.no) e) (λ i. record { mode = (e i).mode; sum = (e i).sum })
+
+laid_same : (x y : Layout) → laid x ≡ laid y → x ≡ y
+laid_same x y e =
+    let r = reached_same x.reach y.reach (ap (λ (l : Laid). l.reach) e) in
+    λ i. record { reach = r i; spot = (e i).spot; length = (e i).length }
+
+fault_same : (v w : Fault) → number v.why ≡ number w.why → v.block ≡ w.block → v ≡ w
+fault_same v w e b = let k = same_refusal v.why w.why e in λ i. record { why = k i; block = b i }
+
+verdict_same : (x y : Result ⊤ Fault) → verdict_of x ≡ verdict_of y → x ≡ y
+verdict_same (Ok v) (Ok w) e = refl
+verdict_same (Ok v) (Err w) e = absurd (never_0 w.why (sym (ap (λ (r : Verdict). r.no) e)))
+verdict_same (Err v) (Ok w) e = absurd (never_0 v.why (ap (λ (r : Verdict). r.no) e))
+verdict_same (Err v) (Err w) e = ap Err (fault_same v w (ap (λ (r : Verdict). r.no) e) (ap (λ (r : Verdict). r.block) e))
+
+granted_same : (x y : Result Advance Fault) → step_in x ≡ step_in y → x ≡ y
+granted_same (Ok v) (Ok w) e = λ i. Ok (record { did = (e i).did; next = record { done = (e i).upto } })
+granted_same (Ok v) (Err w) e = absurd (never_0 w.why (sym (ap (λ (r : Step). r.no) e)))
+granted_same (Err v) (Ok w) e = absurd (never_0 v.why (ap (λ (r : Step). r.no) e))
+granted_same (Err v) (Err w) e = ap Err (fault_same v w (ap (λ (r : Step). r.no) e) (ap (λ (r : Step). r.block) e))
+
+stepped_same : (x y : Result Advance Rejected) → stepped_of x ≡ stepped_of y → x ≡ y
+stepped_same (Ok v) (Ok w) e = λ i. Ok (record { did = (e i).did; next = (e i).next })
+stepped_same (Ok v) (Err w) e = absurd (never_0 w.fault.why (sym (ap (λ (r : Stepped). r.no) e)))
+stepped_same (Err v) (Ok w) e = absurd (never_0 v.fault.why (ap (λ (r : Stepped). r.no) e))
+stepped_same (Err v) (Err w) e =
+    let f = fault_same v.fault w.fault (ap (λ (r : Stepped). r.no) e) (ap (λ (r : Stepped). r.block) e) in
+    λ i. Err (record { fault = f i; progress = (e i).next })
+
+counted_same : (x y : Result Report errors-refused.Rejected) → counted_of x ≡ counted_of y → x ≡ y
+counted_same (Ok v) (Ok w) e = λ i. Ok (e i).next
+counted_same (Ok v) (Err w) e = absurd (never_0 w.fault.why (sym (ap (λ (r : Counted). r.no) e)))
+counted_same (Err v) (Ok w) e = absurd (never_0 v.fault.why (ap (λ (r : Counted). r.no) e))
+counted_same (Err v) (Err w) e =
+    let f = fault_same v.fault w.fault (ap (λ (r : Counted). r.no) e) (ap (λ (r : Counted). r.block) e) in
+    λ i. Err (record { fault = f i; report = (e i).next })
+
+-- one that is another's own where it is not refused
+own_once : (found x y : Result Reach Refusal) → no_of x ≡ no_of y → IfOk x (λ r. found ≡ Ok r) → IfOk y (λ r. found ≡ Ok r) → x ≡ y
+own_once found (Ok r) (Ok t) e p q = sym p ∙ q
+own_once found (Ok r) (Err w) e p q = absurd (never_0 w (sym e))
+own_once found (Err v) (Ok t) e p q = absurd (never_0 v e)
+own_once found (Err v) (Err w) e p q = ap Err (same_refusal v w e)
+
+-- and of an answer that says nothing else
+by_answer : {L : Type 0} (work kept : L) {n : ℕ} {x y : Result ⊤ Refusal} {l m : L} → no_of x ≡ n → no_of y ≡ n
+    → l ≡ served (no_of x) work kept → m ≡ served (no_of y) work kept → (x ≡ y) × (l ≡ m)
+by_answer work kept {x = x} {y = y} p q u v = let e = by_number work kept p q u v in (same_outcome x y e.0, e.1)
+
 -- the mode and the sum that the chooser's contract names
 pub chosen_once : (k : ℕ) (sums : ℕ → ℕ) {x y : Chosen} → Chooses k sums x → Chooses k sums y → x ≡ y
 chosen_once k sums {x} {y} p q = λ i. record { no = (p.number ∙ sym q.number) i; mode = pair.0 i; sum = pair.1 i }
@@ -239,23 +335,13 @@ bytes_sample_once a x y s t p q = p ∙ sym q
 bytes_whole_in_once : Once (bytes-whole-in.Post tt)
 bytes_whole_in_once a x y s t p q = p ∙ sym q
 
-bytes_samples_ok_once : (κs : Lfts 1) → Once (bytes-samples-ok.Post κs)
-bytes_samples_ok_once κs a x y s t p q = p ∙ sym q
-
 bytes_residual_once : Once (bytes-residual.Post tt)
 bytes_residual_once a x y s t p q = p ∙ sym q
 
-bytes_byte_0_once : Once (bytes-byte-0.Post tt)
-bytes_byte_0_once a x y s t p q = p ∙ sym q
-
-bytes_byte_1_once : Once (bytes-byte-1.Post tt)
-bytes_byte_1_once a x y s t p q = p ∙ sym q
-
-bytes_byte_2_once : Once (bytes-byte-2.Post tt)
-bytes_byte_2_once a x y s t p q = p ∙ sym q
-
-bytes_byte_3_once : Once (bytes-byte-3.Post tt)
-bytes_byte_3_once a x y s t p q = p ∙ sym q
+-- of any lent samples: as a list of them, or as their bytes
+lent_samples_ok_once : (S : _) (laws : _) (copy : _) (samples : _) (methods : _) (clone : _) (cloned : _) (κs : Lfts 1)
+    → Once (lent-samples-ok.Post S laws copy samples methods clone cloned κs)
+lent_samples_ok_once S laws copy samples methods clone cloned κs a x y s t p q = p ∙ sym q
 
 pairs_read_once : (κs : Lfts 2) → OnceLeft (λ s. s.1.1.0.now) (pairs-read.Post κs)
 pairs_read_once κs a x y s t p q = (refl, p ∙ sym q)
@@ -282,9 +368,12 @@ domain_picture_ok_once a x y s t p q = p ∙ sym q
 domain_unit_ok_once : Once (domain-unit-ok.Post tt)
 domain_unit_ok_once a x y s t p q = p ∙ sym q
 
--- ranges
-ranges_samples_ok_once : (κs : Lfts 1) → Once (ranges-samples-ok.Post κs)
-ranges_samples_ok_once κs a x y s t p q = p ∙ sym q
+-- refusal
+refusal_number_once : Once (refusal-number.Post tt)
+refusal_number_once a x y s t p q = p ∙ sym q
+
+refusal_no_of_once : Once (refusal-no-of.Post tt)
+refusal_no_of_once a x y s t p q = p ∙ sym q
 
 -- taps
 taps_interp_once : Once (taps-interp.Post tt)
@@ -367,16 +456,16 @@ fmt_chroma_col_once a x y s t p q = p ∙ sym q
 
 -- order
 order_decode_order_once : Once (order-decode-order.Post tt)
-order_decode_order_once a x y s t p q = p ∙ sym q
+order_decode_order_once a x y s t p q = numbered_same x y (p ∙ sym q)
 
 order_is_available_once : Once (order-is-available.Post tt)
-order_is_available_once a x y s t p q = p ∙ sym q
+order_is_available_once a x y s t p q = flagged_same x y (p ∙ sym q)
 
 order_luma_reach_once : Once (order-luma-reach.Post tt)
-order_luma_reach_once a x y s t p q = p ∙ sym q
+order_luma_reach_once a x y s t p q = reached_same x y (p ∙ sym q)
 
 order_chroma_reach_once : Once (order-chroma-reach.Post tt)
-order_chroma_reach_once a x y s t p q = p ∙ sym q
+order_chroma_reach_once a x y s t p q = reached_same x y (p ∙ sym q)
 
 -- rows
 rows_level_rows_once : Once (rows-level-rows.Post tt)
@@ -429,23 +518,23 @@ deltas_residual_ok_once a x y s t p q = p ∙ sym q
 
 -- checksum
 checksum_picture_checksum_once : (κs : Lfts 1) → Once (checksum-picture-checksum.Post κs)
-checksum_picture_checksum_once κs a x y s t p q = p ∙ sym q
+checksum_picture_checksum_once κs a x y s t p q = answered_same x y (p ∙ sym q)
 
 on_bytes_picture_checksum_bytes_once : (κs : Lfts 1) → Once (on-bytes-picture-checksum-bytes.Post κs)
-on_bytes_picture_checksum_bytes_once κs a x y s t p q = p ∙ sym q
+on_bytes_picture_checksum_bytes_once κs a x y s t p q = answered_same x y (p ∙ sym q)
 
 -- errors
 errors_fresh_once : Once (errors-fresh.Post tt)
 errors_fresh_once a x y s t p q = p ∙ sym q
 
 errors_count_numbers_once : (κs : Lfts 6) → Once (errors-count-numbers.Post κs)
-errors_count_numbers_once κs a x y s t p q = p ∙ sym q
+errors_count_numbers_once κs a x y s t p q = counted_same x y (p ∙ sym q)
 
 errors_join_once : Once (errors-join.Post tt)
-errors_join_once a x y s t p q = p ∙ sym q
+errors_join_once a x y s t p q = counted_same x y (p ∙ sym q)
 
 on_bytes_count_bytes_once : (κs : Lfts 3) → Once (on-bytes-count-bytes.Post κs)
-on_bytes_count_bytes_once κs a x y s t p q = p ∙ sym q
+on_bytes_count_bytes_once κs a x y s t p q = counted_same x y (p ∙ sym q)
 
 by_entered : {x y : ℕ} {l m : List ℕ} {w : Entered} → entered x l ≡ w → entered y m ≡ w → (x ≡ y) × (l ≡ m)
 by_entered p q = (ap (λ (v : Entered). v.number) (p ∙ sym q), ap (λ (v : Entered). v.bytes) (p ∙ sym q))
@@ -458,51 +547,57 @@ record_join_into_once κs a x y s t p q = by_entered p q
 
 -- smooth
 smooth_should_filter_refs_once : Once (smooth-should-filter-refs.Post tt)
-smooth_should_filter_refs_once a x y s t p q = p ∙ sym q
+smooth_should_filter_refs_once a x y s t p q = rule_same x y (p ∙ sym q)
 
 smooth_filter_references_once : (κs : Lfts 2) → Once (smooth-filter-references.Post κs)
-smooth_filter_references_once κs a x y s t p q = p ∙ sym q
+smooth_filter_references_once κs a x y s t p q = row_pair_same x y (p ∙ sym q)
 
 smooth_filter_luma_refs_once : (κs : Lfts 2) → Once (smooth-filter-luma-refs.Post κs)
-smooth_filter_luma_refs_once κs a x y s t p q = p ∙ sym q
+smooth_filter_luma_refs_once κs a x y s t p q = smoothed_same x y (p ∙ sym q)
 
 -- substitution
 
 substitution_substitute_refs_once : Once (substitution-substitute-refs.Post tt)
-substitution_substitute_refs_once a x y s t p q = p ∙ sym q
+substitution_substitute_refs_once a x y s t p q = gathered_same x y (p ∙ sym q)
 
 -- refs
 refs_get_reference_samples_once : (κs : Lfts 1) → Once (refs-get-reference-samples.Post κs)
-refs_get_reference_samples_once κs a x y s t p q = p ∙ sym q
+refs_get_reference_samples_once κs a x y s t p q = gathered_same x y (p ∙ sym q)
 
 refs_get_reference_samples_chroma_pair_once : (κs : Lfts 2) → Once (refs-get-reference-samples-chroma-pair.Post κs)
-refs_get_reference_samples_chroma_pair_once κs a x y s t p q = p ∙ sym q
+refs_get_reference_samples_chroma_pair_once κs a x y s t p q = gathered_pair_same x y (p ∙ sym q)
 
-refs_gather_no_once : Once (refs-gather-no.Post tt)
-refs_gather_no_once a x y s t p q = p ∙ sym q
+refs_check_gather_once : Once (refs-check-gather.Post tt)
+refs_check_gather_once a x y s t p q = own_once a.1.0 x y (p.0 ∙ sym q.0) p.1 q.1
 
 refs_luma_layout_once : Once (refs-luma-layout.Post tt)
-refs_luma_layout_once a x y s t p q = p ∙ sym q
+refs_luma_layout_once a x y s t p q = laid_same x y (p ∙ sym q)
 
 refs_chroma_layout_once : Once (refs-chroma-layout.Post tt)
-refs_chroma_layout_once a x y s t p q = p ∙ sym q
+refs_chroma_layout_once a x y s t p q = laid_same x y (p ∙ sym q)
 
 -- records
 records_record_at_once : (κs : Lfts 1) → Once (records-record-at.Post κs)
 records_record_at_once κs a x y s t p q = p ∙ sym q
 
 -- plan
-plan_block_at_once : (κs : Lfts 4) → Once (plan-block-at.Post κs)
+-- of a plan of numbers
+plan_block_at_once : (κs : Lfts 1) → Once (plan-block-at.Post κs)
 plan_block_at_once κs a x y s t p q = p ∙ sym q
 
-plan_is_whole_once : (κs : Lfts 4) → Once (plan-is-whole.Post κs)
+plan_is_whole_once : (κs : Lfts 1) → Once (plan-is-whole.Post κs)
 plan_is_whole_once κs a x y s t p q = p ∙ sym q
 
+-- of a plan in any form
+plan_check_once : (P : _) (laws : _) (copy : _) (blocks : _) (methods : _) (clone : _) (cloned : _) (κs : Lfts 1)
+    → Once (plan-check.Post P laws copy blocks methods clone cloned κs)
+plan_check_once P laws copy blocks methods clone cloned κs a x y s t p q = verdict_same x y (p ∙ sym q)
+
 plan_check_plan_numbers_once : (κs : Lfts 4) → Once (plan-check-plan-numbers.Post κs)
-plan_check_plan_numbers_once κs a x y s t p q = p ∙ sym q
+plan_check_plan_numbers_once κs a x y s t p q = verdict_same x y (p ∙ sym q)
 
 plan_check_plan_bytes_once : (κs : Lfts 1) → Once (plan-check-plan-bytes.Post κs)
-plan_check_plan_bytes_once κs a x y s t p q = p ∙ sym q
+plan_check_plan_bytes_once κs a x y s t p q = verdict_same x y (p ∙ sym q)
 
 -- calls
 calls_doing_of_once : Once (calls-doing-of.Post tt)
@@ -514,11 +609,12 @@ walk_fresh_once a x y s t p q = p ∙ sym q
 
 -- checks
 
-checks_opening_no_once : Once (checks-opening-no.Post tt)
-checks_opening_no_once a x y s t p q = p ∙ sym q
+checks_check_opening_once : Once (checks-check-opening.Post tt)
+checks_check_opening_once a x y s t p q = same_outcome x y (p ∙ sym q)
 
-checks_settled_once : Once (checks-settled.Post tt)
-checks_settled_once a x y s t p q = p ∙ sym q
+walk_granted_once : (P : _) (laws : _) (copy : _) (blocks : _) (methods : _) (clone : _) (cloned : _) (κs : Lfts 1)
+    → Once (walk-granted.Post P laws copy blocks methods clone cloned κs)
+walk_granted_once P laws copy blocks methods clone cloned κs a x y s t p q = granted_same x y (p ∙ sym q)
 
 -- block
 block_geometry_once : Once (block-geometry.Post tt)
@@ -576,39 +672,39 @@ walk_probes_salvrunde_probe_check_plan_once κs a x y s t p q = p ∙ sym q
 
 -- planar and DC
 planar_dc_predict_planar_into_once : (κs : Lfts 3) → OnceLeft (λ s. s.1.1.1.0.now) (planar-dc-predict-planar-into.Post κs)
-planar_dc_predict_planar_into_once κs a x y s t p q = by_number _ _ p.0 q.0 p.1 q.1
+planar_dc_predict_planar_into_once κs a x y s t p q = by_answer _ _ p.0 q.0 p.1 q.1
 
 planar_dc_predict_dc_into_once : (κs : Lfts 3) → OnceLeft (λ s. s.1.1.1.1.0.now) (planar-dc-predict-dc-into.Post κs)
-planar_dc_predict_dc_into_once κs a x y s t p q = by_number _ _ p.0 q.0 p.1 q.1
+planar_dc_predict_dc_into_once κs a x y s t p q = by_answer _ _ p.0 q.0 p.1 q.1
 
 -- angular
 angular_predict_angular_slices_once : (κs : Lfts 6)
-    → OnceRefused {K = Three} (λ r. r) (λ s. s.1.1.1.1.1.1.1.0.now)
+    → OnceRefused {K = Three} (λ r. no_of r) (λ s. s.1.1.1.1.1.1.1.0.now)
     (λ s. let l = s.1.1.1.1.1.1.1.1 in (l.0.now, (l.1.0.now, l.1.1.0.now)))
     (angular-predict-angular-slices.Post κs)
 angular_predict_angular_slices_once κs a x y s t p q =
-    and_scratch (λ r. r) (by_number _ _ p.0 q.0 p.1.0 q.1.0) (λ h. together (p.1.1 h)) (λ h. together (q.1.1 h))
+    and_scratch (λ r. no_of r) (by_answer _ _ p.0 q.0 p.1.0 q.1.0) (λ h. together (p.1.1 h)) (λ h. together (q.1.1 h))
 
 angular_vertical_refs_once : (κs : Lfts 3) → OnceLeft (λ s. s.1.1.1.1.1.0.now) (angular-vertical-refs.Post κs)
-angular_vertical_refs_once κs a x y s t p q = by_number _ _ p.0 q.0 p.1 q.1
+angular_vertical_refs_once κs a x y s t p q = by_answer _ _ p.0 q.0 p.1 q.1
 
 angular_vertical_rows_once : (κs : Lfts 3) → OnceLeft (λ s. s.1.1.1.1.1.1.0.now) (angular-vertical-rows.Post κs)
-angular_vertical_rows_once κs a x y s t p q = by_number _ _ p.0 q.0 p.1 q.1
+angular_vertical_rows_once κs a x y s t p q = by_answer _ _ p.0 q.0 p.1 q.1
 
 -- predict
 predict_predict_chroma_tb_slices_once : (κs : Lfts 6)
-    → OnceRefused {K = Three} (λ r. r) (λ s. s.1.1.1.1.1.1.0.now)
+    → OnceRefused {K = Three} (λ r. no_of r) (λ s. s.1.1.1.1.1.1.0.now)
     (λ s. let l = s.1.1.1.1.1.1.1 in (l.0.now, (l.1.0.now, l.1.1.0.now)))
     (predict-predict-chroma-tb-slices.Post κs)
 predict_predict_chroma_tb_slices_once κs a x y s t p q =
-    and_scratch (λ r. r) (by_number _ _ p.0 q.0 p.1.0 q.1.0) (λ h. together (p.1.1 h)) (λ h. together (q.1.1 h))
+    and_scratch (λ r. no_of r) (by_answer _ _ p.0 q.0 p.1.0 q.1.0) (λ h. together (p.1.1 h)) (λ h. together (q.1.1 h))
 
 predict_predict_luma_tb_slices_once : (κs : Lfts 4)
-    → OnceRefused {K = Three} (λ r. r) (λ s. s.1.1.1.1.0.now)
+    → OnceRefused {K = Three} (λ r. no_of r) (λ s. s.1.1.1.1.0.now)
     (λ s. let l = s.1.1.1.1.1 in (l.0.now, (l.1.0.now, l.1.1.0.now)))
     (predict-predict-luma-tb-slices.Post κs)
 predict_predict_luma_tb_slices_once κs a x y s t p q =
-    and_scratch (λ r. r) (by_number _ _ p.0 q.0 p.1.0 q.1.0) (λ h. together (p.1.1 h)) (λ h. together (q.1.1 h))
+    and_scratch (λ r. no_of r) (by_answer _ _ p.0 q.0 p.1.0 q.1.0) (λ h. together (p.1.1 h)) (λ h. together (q.1.1 h))
 
 -- as the probe hands it over
 abbrev handed_over : Chosen → Choice
@@ -616,18 +712,18 @@ handed_over c = record { no = c.no; mode = c.mode; sum = c.sum }
 
 -- choose: all that is lent to be written is scratch
 choose_choose_mode_once : (κs : Lfts 7)
-    → OnceRefused {L = Unit {0}} {K = List ℕ × Three} (λ r. r.no) (λ s. tt)
+    → OnceRefused {L = Unit {0}} {K = List ℕ × Three} (λ r. no_of r) (λ s. tt)
     (λ s. let l = s.1.1.1.1.1.1 in (l.0.now, (l.1.0.now, (l.1.1.0.now, l.1.1.1.0.now))))
     (choose-choose-mode.Post κs)
 choose_choose_mode_once κs a x y s t p q =
-    and_scratch (λ r. r.no) (chosen_once _ _ p.0 q.0, refl) (λ h. all_four (p.1 h)) (λ h. all_four (q.1 h))
+    and_scratch (λ r. no_of r) (chosen_same x y (chosen_once _ _ p.0 q.0), refl) (λ h. all_four (p.1 h)) (λ h. all_four (q.1 h))
 
 choose_choose_early_once : (κs : Lfts 7)
-    → OnceRefused {L = Unit {0}} {K = List ℕ × Three} (λ r. r.no) (λ s. tt)
+    → OnceRefused {L = Unit {0}} {K = List ℕ × Three} (λ r. no_of r) (λ s. tt)
     (λ s. let l = s.1.1.1.1.1.1 in (l.0.now, (l.1.0.now, (l.1.1.0.now, l.1.1.1.0.now))))
     (choose-choose-early.Post κs)
 choose_choose_early_once κs a x y s t p q =
-    and_scratch (λ r. r.no) (chosen_once _ _ p.0 q.0, refl) (λ h. all_four (p.1 h)) (λ h. all_four (q.1 h))
+    and_scratch (λ r. no_of r) (chosen_same x y (chosen_once _ _ p.0 q.0), refl) (λ h. all_four (p.1 h)) (λ h. all_four (q.1 h))
 
 -- scratch
 scratch_new_once : Once (scratch-new.Post tt)
@@ -635,22 +731,22 @@ scratch_new_once a x y s t p q = p ∙ sym q
 
 scratch_angular_predict_angular_fresh_once : (κs : Lfts 3)
     → OnceLeft (λ s. s.1.1.1.1.1.1.1.0.now) (scratch-angular-predict-angular-fresh.Post κs)
-scratch_angular_predict_angular_fresh_once κs a x y s t p q = by_number _ _ p.0 q.0 p.1 q.1
+scratch_angular_predict_angular_fresh_once κs a x y s t p q = by_answer _ _ p.0 q.0 p.1 q.1
 
 scratch_predict_predict_chroma_tb_fresh_once : (κs : Lfts 3)
     → OnceLeft (λ s. s.1.1.1.1.1.1.0.now) (scratch-predict-predict-chroma-tb-fresh.Post κs)
-scratch_predict_predict_chroma_tb_fresh_once κs a x y s t p q = by_number _ _ p.0 q.0 p.1 q.1
+scratch_predict_predict_chroma_tb_fresh_once κs a x y s t p q = by_answer _ _ p.0 q.0 p.1 q.1
 
 scratch_predict_predict_luma_tb_fresh_once : (κs : Lfts 1)
     → OnceLeft (λ s. s.1.1.1.1.0.now) (scratch-predict-predict-luma-tb-fresh.Post κs)
-scratch_predict_predict_luma_tb_fresh_once κs a x y s t p q = by_number _ _ p.0 q.0 p.1 q.1
+scratch_predict_predict_luma_tb_fresh_once κs a x y s t p q = by_answer _ _ p.0 q.0 p.1 q.1
 
 -- residual
 residual_compute_residual_i32_into_once : (κs : Lfts 3) → OnceLeft (λ s. s.1.1.1.0.now) (residual-compute-residual-i32-into.Post κs)
-residual_compute_residual_i32_into_once κs a x y s t p q = (p.0 ∙ sym q.0, p.1 ∙ sym q.1)
+residual_compute_residual_i32_into_once κs a x y s t p q = (same_outcome x y (p.0 ∙ sym q.0), p.1 ∙ sym q.1)
 
 residual_reconstruct_into_once : (κs : Lfts 3) → OnceLeft (λ s. s.1.1.1.1.0.now) (residual-reconstruct-into.Post κs)
-residual_reconstruct_into_once κs a x y s t p q = (p.0 ∙ sym q.0, p.1 ∙ sym q.1)
+residual_reconstruct_into_once κs a x y s t p q = (same_outcome x y (p.0 ∙ sym q.0), p.1 ∙ sym q.1)
 
 -- probes
 predict_probes_salvrunde_probe_predict_planar_into_once : (κs : Lfts 3)
@@ -798,19 +894,19 @@ camera_salvrunde_replay_once κs a x y s t p q = by_after p q
 
 -- walk
 walk_replay_numbers_once : (κs : Lfts 9)
-    → OnceRefused {K = Three} (λ r. r.no) (λ s. s.1.1.1.1.1.1.1.0.now)
+    → OnceRefused {K = Three} (λ r. (stepped_of r).no) (λ s. s.1.1.1.1.1.1.1.0.now)
     (λ s. let l = s.1.1.1.1.1.1.1.1 in (l.0.now, (l.1.0.now, l.1.1.0.now)))
     (walk-replay-numbers.Post κs)
 walk_replay_numbers_once κs a x y s t p q =
-    and_scratch (λ r. r.no) (p.0 ∙ sym q.0, p.1.0 ∙ sym q.1.0) (λ h. together (p.1.1 h)) (λ h. together (q.1.1 h))
+    and_scratch (λ r. (stepped_of r).no) (stepped_same x y (p.0 ∙ sym q.0), p.1.0 ∙ sym q.1.0) (λ h. together (p.1.1 h)) (λ h. together (q.1.1 h))
 
 walk_walk_numbers_once : (κs : Lfts 10)
-    → OnceRefused {L = World} {K = Three} (λ r. r.no)
+    → OnceRefused {L = World} {K = Three} (λ r. (stepped_of r).no)
     (λ s. record { work = s.1.1.1.1.1.1.1.0.now; residuals = s.1.1.1.1.1.1.1.1.0.now })
     (λ s. let l = s.1.1.1.1.1.1.1.1.1 in (l.0.now, (l.1.0.now, l.1.1.0.now)))
     (walk-walk-numbers.Post κs)
 walk_walk_numbers_once κs a x y s t p q =
-    and_scratch (λ r. r.no) (p.0 ∙ sym q.0, p.1.0 ∙ sym q.1.0) (λ h. together (p.1.1 h)) (λ h. together (q.1.1 h))
+    and_scratch (λ r. (stepped_of r).no) (stepped_same x y (p.0 ∙ sym q.0), p.1.0 ∙ sym q.1.0) (λ h. together (p.1.1 h)) (λ h. together (q.1.1 h))
 
 -- report
 report_report_once : (κs : Lfts 1) → Once (report-report.Post κs)
@@ -836,47 +932,47 @@ module _ {M : Type 1} {𝓤 : Ura M} (𝓛 : Logic 𝓤) (mem : Memory → SProp
 
   -- scratch
   scratch_angular_predict_angular_into_once : (κs : Lfts 4)
-      → OnceHeldRefused scratch-angular-predict-angular-into.ended κs (λ r. r)
+      → OnceHeldRefused scratch-angular-predict-angular-into.ended κs (λ r. no_of r)
       (λ s. s.1.1.1.1.1.1.1.0.now) (λ s. s.1.1.1.1.1.1.1.1.0.now)
       (scratch-angular-predict-angular-into.clauses 𝓛 mem run)
   scratch_angular_predict_angular_into_once κs a g x y s t =
-      held_both _ _ _ (λ p q. and_scratch (λ r. r) (by_number _ _ p.0 q.0 p.1.0 q.1.0) p.1.1 q.1.1)
+      held_both _ _ _ (λ p q. and_scratch (λ r. no_of r) (by_answer _ _ p.0 q.0 p.1.0 q.1.0) p.1.1 q.1.1)
 
   scratch_predict_predict_chroma_tb_into_once : (κs : Lfts 4)
-      → OnceHeldRefused scratch-predict-predict-chroma-tb-into.ended κs (λ r. r)
+      → OnceHeldRefused scratch-predict-predict-chroma-tb-into.ended κs (λ r. no_of r)
       (λ s. s.1.1.1.1.1.1.0.now) (λ s. s.1.1.1.1.1.1.1.0.now)
       (scratch-predict-predict-chroma-tb-into.clauses 𝓛 mem run)
   scratch_predict_predict_chroma_tb_into_once κs a g x y s t =
-      held_both _ _ _ (λ p q. and_scratch (λ r. r) (by_number _ _ p.0 q.0 p.1.0 q.1.0) p.1.1 q.1.1)
+      held_both _ _ _ (λ p q. and_scratch (λ r. no_of r) (by_answer _ _ p.0 q.0 p.1.0 q.1.0) p.1.1 q.1.1)
 
   scratch_predict_predict_luma_tb_into_once : (κs : Lfts 2)
-      → OnceHeldRefused scratch-predict-predict-luma-tb-into.ended κs (λ r. r)
+      → OnceHeldRefused scratch-predict-predict-luma-tb-into.ended κs (λ r. no_of r)
       (λ s. s.1.1.1.1.0.now) (λ s. s.1.1.1.1.1.0.now)
       (scratch-predict-predict-luma-tb-into.clauses 𝓛 mem run)
   scratch_predict_predict_luma_tb_into_once κs a g x y s t =
-      held_both _ _ _ (λ p q. and_scratch (λ r. r) (by_number _ _ p.0 q.0 p.1.0 q.1.0) p.1.1 q.1.1)
+      held_both _ _ _ (λ p q. and_scratch (λ r. no_of r) (by_answer _ _ p.0 q.0 p.1.0 q.1.0) p.1.1 q.1.1)
 
   -- plan
   plan_check_plan_once : (κs : Lfts 1) → OnceHeld plan-check-plan.ended κs {L = Unit {0}} (λ _. tt) (plan-check-plan.clauses 𝓛 mem run)
-  plan_check_plan_once κs a g x y s t = held_both _ _ _ (λ p q. (p ∙ sym q, refl))
+  plan_check_plan_once κs a g x y s t = held_both _ _ _ (λ p q. (verdict_same x y (p ∙ sym q), refl))
 
   -- errors
   errors_count_once : (κs : Lfts 3) → OnceHeld errors-count.ended κs {L = Unit {0}} (λ _. tt) (errors-count.clauses 𝓛 mem run)
-  errors_count_once κs a g x y s t = held_both _ _ _ (λ p q. (p ∙ sym q, refl))
+  errors_count_once κs a g x y s t = held_both _ _ _ (λ p q. (counted_same x y (p ∙ sym q), refl))
 
   -- walk
   walk_replay_once : (κs : Lfts 4)
-      → OnceHeldRefused walk-replay.ended κs (λ r. r.no) (λ s. s.1.1.1.1.0.now)
+      → OnceHeldRefused walk-replay.ended κs (λ r. (stepped_of r).no) (λ s. s.1.1.1.1.0.now)
       (λ s. s.1.1.1.1.1.0.now) (walk-replay.clauses 𝓛 mem run)
   walk_replay_once κs a g x y s t =
-      held_both _ _ _ (λ p q. and_scratch (λ r. r.no) (p.0 ∙ sym q.0, p.1.0 ∙ sym q.1.0) p.1.1 q.1.1)
+      held_both _ _ _ (λ p q. and_scratch (λ r. (stepped_of r).no) (stepped_same x y (p.0 ∙ sym q.0), p.1.0 ∙ sym q.1.0) p.1.1 q.1.1)
 
   walk_walk_once : (κs : Lfts 5)
-      → OnceHeldRefused walk-walk.ended κs {L = World} (λ r. r.no)
+      → OnceHeldRefused walk-walk.ended κs {L = World} (λ r. (stepped_of r).no)
       (λ s. record { work = s.1.1.1.1.0.now; residuals = s.1.1.1.1.1.0.now })
       (λ s. s.1.1.1.1.1.1.0.now) (walk-walk.clauses 𝓛 mem run)
   walk_walk_once κs a g x y s t =
-      held_both _ _ _ (λ p q. and_scratch (λ r. r.no) (p.0 ∙ sym q.0, p.1.0 ∙ sym q.1.0) p.1.1 q.1.1)
+      held_both _ _ _ (λ p q. and_scratch (λ r. (stepped_of r).no) (stepped_same x y (p.0 ∙ sym q.0), p.1.0 ∙ sym q.1.0) p.1.1 q.1.1)
 
   -- probes
   walk_probes_salvrunde_probe_replay_records_once : (κs : Lfts 4)

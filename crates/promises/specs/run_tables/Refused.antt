@@ -2,7 +2,7 @@
 -- a sum of 0, and leaves what is lent. The other doors are in promises/specs/tables/Refused. Rests on `kept` there.
 use Rattle.std.specs.Prelude.{◌≡◌, Bool, List, ℕ, ℤ, length}
 use Rattle.std.proofs.Math.Path.{ap₂}
-use Rattle.plan.specs.declared.tiling.Verdict.{Verdict}
+use Rattle.plan.specs.Answers.{Verdict}
 use Rattle.plan.specs.tiling.Plan.{Plan}
 use Rattle.walk.specs.declared.checks.Still.{Still}
 use Rattle.walk.specs.declared.Progress.{Progress}

@@ -5,7 +5,7 @@
 use Rattle.std.specs.Prelude.{◌≡◌, cond, List, [], ◌∷◌, ℕ, suc, ◌+◌, ◌*◌, ◌/◌, ◌<◌, leb, length}
 use Rattle.domain.specs.Facts.{Depth}
 use Rattle.octets.specs.Bytes.{samples_of}
-use Rattle.plan.specs.declared.tiling.Verdict.{Verdict}
+use Rattle.plan.specs.Answers.{Verdict}
 use Rattle.plan.specs.tiling.Tiling.{picture_of}
 use Rattle.plan.specs.tiling.Plan.{Plan}
 use Rattle.plan.specs.RecordPlan.{records_of}

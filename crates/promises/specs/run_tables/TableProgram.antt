@@ -6,7 +6,7 @@ use Rattle.std.specs.Prelude.{◌≡◌, List, [], ◌∷◌, ◌++◌, ◌↔�
 use Rattle.std.proofs.Math.ListN.{length}
 use Rattle.laws.specs.Bytes.{le_at}
 use Rattle.domain.specs.Facts.{Depth}
-use Rattle.plan.specs.declared.tiling.Verdict.{Verdict}
+use Rattle.plan.specs.Answers.{Verdict}
 use Rattle.plan.specs.tiling.Tiling.{picture_of}
 use Rattle.walk.specs.checks.Checks.{largest_in}
 use Rattle.report.specs.file.File.{trailer_of, plan_in}

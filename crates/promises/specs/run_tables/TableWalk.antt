@@ -3,7 +3,7 @@
 -- (`plan_of`), of records (`listed`) or of bytes (`records_of`). Where the call takes the scratch struct, its tables (`scratch_tables`)
 -- are never short. Rests on Exact and on what the plan's verdict tells.  plan::check_plan, any plan                       check_plan
 -- plan::check_plan_numbers                         check_plan_numbers plan::check_plan_bytes
--- check_plan_bytes checks::opening_no, checks::settled              opening, settled Progress::walk, Progress::walk_numbers
+-- check_plan_bytes checks::check_opening, walk::granted              opening, settled Progress::walk, Progress::walk_numbers
 -- walk Progress::replay, Progress::replay_numbers       replay
 use Rattle.std.specs.Prelude.{◌≡◌, Bool, true, List, [], ◌∷◌, ℕ, zero, suc, ◌*◌, ◌<◌, leb, eqb, ℤ, pos, nat_abs, length, get_or}
 use Rattle.std.proofs.Math.Path.{refl}
@@ -13,13 +13,13 @@ use Rattle.laws.specs.Every.{every}
 use Rattle.domain.specs.Facts.{Depth, Size}
 use Rattle.plan.specs.declared.tiling.Frame.{Frame}
 use Rattle.plan.specs.declared.tiling.Block.{Block}
-use Rattle.plan.specs.declared.tiling.Verdict.{Verdict}
+use Rattle.plan.specs.Answers.{Verdict}
 use Rattle.plan.specs.tiling.Tiling.{picture_of, In, Covered, Next}
 use Rattle.plan.specs.tiling.Plan.{Plan}
 use Rattle.plan.specs.tiling.PlanCheck.{blocks_verdict}
 use Rattle.walk.specs.declared.checks.Still.{Still}
 use Rattle.walk.specs.declared.Progress.{Progress}
-use Rattle.walk.specs.declared.Stepped.{Stepped}
+use Rattle.walk.specs.Answers.{Stepped}
 use Rattle.walk.specs.checks.Checks.{largest_in, Tables, opening_no, settle}
 use Rattle.promises.specs.tables.Exact.{Row, ◌when◌, ◌or◌, Exact, ExactFirst, Tells, exact_none, exact_row}
 use Rattle.promises.specs.tables.Exact.{first_exact, first_test, all_of, at-most, same}

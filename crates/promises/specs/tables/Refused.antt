@@ -13,7 +13,7 @@ use Rattle.order.specs.declared.Picture.{Picture}
 use Rattle.order.specs.declared.LumaNeighbour.{LumaNeighbour}
 use Rattle.order.specs.declared.LumaBlock.{LumaBlock}
 use Rattle.order.specs.declared.ChromaBlock.{ChromaBlock}
-use Rattle.order.specs.declared.Reach.{Reach}
+use Rattle.order.specs.Answers.{Reached}
 use Rattle.order.specs.Order.{decode_order, is_available}
 use Rattle.order.specs.Reach.{no_reach, luma_reach_no, luma_reach, chroma_reach_no, chroma_reach}
 use Rattle.domain.specs.declared.rows.Rows.{Rows}
@@ -43,12 +43,12 @@ module _ (p : Picture) (row : LumaRow) (col : LumaCol) where
   unfolding is_available
   is-available nb h = kept _ _ false h
 
-abbrev NoReach : Reach → Type 0
+abbrev NoReach : Reached → Type 0
 NoReach r = ¬ (r.no ≡ 0) → r ≡ record { no = r.no; corner = false; above = 0; left = 0 }
 
-no-reach : (k : ℕ) (work : Reach) → work.no ≡ 0 → NoReach (served k work (no_reach k))
+no-reach : (k : ℕ) (work : Reached) → work.no ≡ 0 → NoReach (served k work (no_reach k))
 no-reach k work z h =
-    let e = number_in (λ (r : Reach). r.no) work (no_reach k) z refl in
+    let e = number_in (λ (r : Reached). r.no) work (no_reach k) z refl in
     kept k work (no_reach k) (λ q. h (e ∙ q)) ∙ ap no_reach (sym e)
 
 pub luma-reach : (b : LumaBlock) → NoReach (luma_reach b)

@@ -14,27 +14,25 @@
 -- residual::reconstruct_into            reconstruct  The plan check, walk and replay, whose numbers carry a block, are in
 -- promises/specs/run_tables/TableWalk; the camera's entries and the two of gather that store rows in TableBytes there; what a
 -- refused call gives back is in Refused.
-use Rattle.std.specs.Prelude.{◌≡◌, Bool, true, false, cond, ◌&&◌, ◌||◌, List, [], ◌∷◌, ◌↔◌, ℕ, zero, suc, ◌+◌, ◌*◌, ◌/◌, ◌%◌, ◌<◌, ◌≤◌, leb, eqb, ℤ, pos, nat_abs, length, get_or}
+use Rattle.std.specs.Prelude.{◌≡◌, None, Ok, Err, Bool, true, false, cond, ◌&&◌, ◌||◌, List, [], ◌∷◌, ◌↔◌, ℕ, zero, suc, ◌+◌, ◌*◌, ◌/◌, ◌%◌, ◌<◌, ◌≤◌, leb, eqb, ℤ, pos, nat_abs, length, get_or}
 use Rattle.std.proofs.Math.Path.{refl}
 use Rattle.std.proofs.Common.{ap, subst, true≢false, inl, inr, ⊎_elim, not-suc-le-zero, eq-or-lt_of_le, le_of_suc-le-suc, arith, le-leb, eq-eqb, ne_eqb, eqb-true, leb-true, leb-false}
 use Rattle.std.proofs.lemmas.Bool.{false≢true, eqb-false}
 use Rattle.domain.specs.Domain.{depth_ok, size_ok, side_ok, ctu_ok, unit_ok}
 use Rattle.domain.specs.Facts.{Depth, Size, Side, Ctu, Unit, depth_of, size_of, side-of, ctu_of, unit_of, at_depth, at_size, size_small}
 use Rattle.fmt.specs.declared.depth.BitDepth.TheVariants.{Eight, Ten, Twelve}
-use Rattle.fmt.specs.declared.depth.DepthFrom.TheVariants.{Refused}
-use Rattle.fmt.specs.declared.depth.DepthFrom.TheVariants as depths
+use Rattle.domain.specs.declared.refusal.Refusal.TheVariants as refusals
 use Rattle.fmt.specs.declared.ChromaFormat.{ChromaFormat}
 use Rattle.fmt.specs.declared.ChromaFormat.TheVariants.{Monochrome, Yuv420, Yuv422, Yuv444}
 use Rattle.fmt.specs.declared.LumaRow.{LumaRow}
 use Rattle.fmt.specs.declared.LumaCol.{LumaCol}
-use Rattle.fmt.specs.declared.FormatFrom.TheVariants.{Unknown}
 use Rattle.fmt.specs.depth.Depth.{depth_from, depth_number}
 use Rattle.fmt.specs.Fmt.{format_from, sub_width}
 use Rattle.order.specs.declared.Picture.{Picture}
 use Rattle.order.specs.declared.LumaNeighbour.{LumaNeighbour}
 use Rattle.order.specs.declared.LumaBlock.{LumaBlock}
 use Rattle.order.specs.declared.ChromaBlock.{ChromaBlock}
-use Rattle.order.specs.declared.Reach.{Reach}
+use Rattle.order.specs.Answers.{Reached}
 use Rattle.order.specs.Order.{picture_ok, place_ok, order_no, decode_order, is_available}
 use Rattle.order.specs.Reach.{in_plane, luma_place_ok, luma_reach_no, luma_reach, chroma_height, chroma_width, has_chroma, chroma_place_ok}
 use Rattle.order.specs.Reach.{chroma_reach_no, chroma_reach}
@@ -127,17 +125,17 @@ depth-from bits = subst (λ (k : ℕ). Exact k ((1 when ¬ Depth bits) ∷ [])) 
     (exact_row (depth bits) refl (λ e. exact_none))
   where
     go : (a b c : Bool) → cond (a || b || c) 0 1 ≡ depth_number
-        (cond a (depths.Depth Eight) (cond b (depths.Depth Ten) (cond c (depths.Depth Twelve) Refused)))
+        (cond a (Ok Eight) (cond b (Ok Ten) (cond c (Ok Twelve) (Err refusals.Depth))))
     go true b c = refl
     go false true c = refl
     go false false true = refl
     go false false false = refl
 
 -- a format refuses nothing: above 3 it is unknown, and only the chroma gather has a number for that
-pub format-from : (idc : ℕ) → (format_from idc ≡ Unknown) ↔ (3 < idc)
+pub format-from : (idc : ℕ) → (format_from idc ≡ None) ↔ (3 < idc)
 format-from idc = (λ e. go (leb idc 3) refl e, λ h. unknown (λ k l e. omega (arith, e)))
   where
-    unknown : ((k : ℕ) → k ≤ 3 → ¬ (idc ≡ k)) → format_from idc ≡ Unknown
+    unknown : ((k : ℕ) → k ≤ 3 → ¬ (idc ≡ k)) → format_from idc ≡ None
     unknown h = simp (
       ne_eqb idc 0 (h 0 (omega arith)),
       ne_eqb idc 1 (h 1 (omega arith)),
@@ -146,14 +144,14 @@ format-from idc = (λ e. go (leb idc 3) refl e, λ h. unknown (λ k l e. omega (
           (h 3 (omega arith)),
     )
 
-    named : (k : ℕ) → k ≤ 3 → ¬ (format_from k ≡ Unknown)
+    named : (k : ℕ) → k ≤ 3 → ¬ (format_from k ≡ None)
     named zero h e = let z : ◌≡◌ {A = ℕ} 0 1 = cc in omega arith
     named (suc zero) h e = let z : ◌≡◌ {A = ℕ} 0 1 = cc in omega arith
     named (suc (suc zero)) h e = let z : ◌≡◌ {A = ℕ} 0 1 = cc in omega arith
     named (suc (suc (suc zero))) h e = let z : ◌≡◌ {A = ℕ} 0 1 = cc in omega arith
     named (suc (suc (suc (suc k)))) h e = omega arith
 
-    go : (b : Bool) → leb idc 3 ≡ b → format_from idc ≡ Unknown → 3 < idc
+    go : (b : Bool) → leb idc 3 ≡ b → format_from idc ≡ None → 3 < idc
     go true q e = absurd (named idc (leb-true idc 3 q) e)
     go false q e = leb-false idc 3 q
 
@@ -186,7 +184,7 @@ pub luma-reach : (b : LumaBlock) → Exact (luma_reach b).no
     ((2 when ¬ Size b.n) ∷ (4 when BadPicture b.picture) ∷ (6 when BadLuma b) ∷ [])
 unfolding luma_reach luma_reach_no
 luma-reach b =
-    exact_answer (λ (r : Reach). r.no) _ _ refl refl
+    exact_answer (λ (r : Reached). r.no) _ _ refl refl
     (exact_row (size b.n) refl (λ e. exact_row (picture b.picture) refl (λ e. exact_row (luma-place b) refl (λ e. exact_none))))
 
 coloured : (f : ChromaFormat) → Tells (has_chroma f) (f ≡ Monochrome)
@@ -200,7 +198,7 @@ pub chroma-reach : (b : ChromaBlock)
     ((2 when ¬ Size b.n) ∷ (4 when BadPicture b.picture or b.format ≡ Monochrome) ∷ (6 when BadChroma b) ∷ [])
 unfolding chroma_reach chroma_reach_no
 chroma-reach b =
-    exact_answer (λ (r : Reach). r.no) _ _ refl refl
+    exact_answer (λ (r : Reached). r.no) _ _ refl refl
     (exact_row (size b.n) refl
     (λ e. exact_row (all_of (picture b.picture) (coloured b.format)) refl
     (λ e. exact_row (chroma-place b) refl (λ e. exact_none))))

@@ -2,7 +2,7 @@
 -- that the luma gather gives are made of the available neighbours alone, whatever these hold. (b) A missing entry takes the one that the
 -- order of substitution names. (c) Entry 2n and the ones after it reach no predicted sample. All over the doors' contracts, as the prover
 -- reads them. ProofZero proves it.
-use Rattle.std.specs.Prelude.{◌≡◌, Bool, true, false, ℕ, suc, ◌+◌, ◌-◌, ◌*◌, ◌^◌, ◌<◌, get_or}
+use Rattle.std.specs.Prelude.{◌≡◌, Bool, true, false, ℕ, suc, ◌+◌, ◌-◌, ◌*◌, ◌^◌, ◌<◌, get_or, Result, Ok, ⊤}
 use seplogic.Ra.Ura.{Ura}
 use base.Logic.{SProp}
 use prog.Memory.{Memory}
@@ -15,14 +15,13 @@ use Rattle.h265.specs.Angular.{angular}
 use Rattle.h265.specs.Mean.{Agree}
 use Rattle.h265.specs.Locality.{Beside, Seen}
 use Rattle.order.specs.Order.{grid_of}
+use Rattle.domain.specs.declared.refusal.Refusal.{Refusal}
 use Rattle.domain.specs.declared.rows.Rows.{Rows}
-use Rattle.domain.specs.declared.rows.Gathered.{Gathered}
 use Rattle.domain.specs.rows.Neighbours.{neighbours_of, level_rows}
 use Rattle.refs.specs.declared.LumaRefGeometry.{LumaRefGeometry}
 use Rattle.refs.specs.substitution.Substitution.{samples_on}
 use Rattle.refs.specs.standard.Missing.{marked_on, sample_on}
-use Rattle.smooth.specs.declared.FilteredRows.{FilteredRows}
-use Rattle.smooth.specs.declared.Smoothed.{Smoothed}
+use Rattle.smooth.specs.declared.RowPair.{RowPair}
 use Rattle.smooth.proofs.filter_references.Reads as weak-filter
 use Rattle.smooth.proofs.filter_luma_refs.Reads as luma-filter
 use Rattle.predict.proofs.planar_dc.predict_planar_into.Reads as planar-into
@@ -61,28 +60,28 @@ Available geo k = marked_on geo k ≡ true
 abbrev pub Missing : LumaRefGeometry → ℕ → Type 0
 Missing geo k = marked_on geo k ≡ false
 
-abbrev pub entry_at_place : LumaRefGeometry → Gathered → ℕ → ℕ
-entry_at_place geo g k = samples_on g.rows (2 * geo.n) k
+abbrev pub entry_at_place : LumaRefGeometry → Rows → ℕ → ℕ
+entry_at_place geo rows k = samples_on rows (2 * geo.n) k
 
--- what a gather g of a plane holds along its line
-pub record Substituted (plane : LentSlice) (geo : LumaRefGeometry) (g : Gathered) : Type 0 where
+-- what the rows of a plane's gather hold along its line
+pub record Substituted (plane : LentSlice) (geo : LumaRefGeometry) (rows : Rows) : Type 0 where
   -- an available neighbour is its sample, black or not
-  pub available : (k : ℕ) → k < 4 * geo.n + 3 → Available geo k → entry_at_place geo g k ≡ sample_on plane.now geo k
+  pub available : (k : ℕ) → k < 4 * geo.n + 3 → Available geo k → entry_at_place geo rows k ≡ sample_on plane.now geo k
   -- entries before the first available one take its value
   pub before_first : (j : ℕ) → j < 4 * geo.n + 3 → Available geo j → ((i : ℕ) → i < j → Missing geo i)
-      → (k : ℕ) → k < j → entry_at_place geo g k ≡ entry_at_place geo g j
+      → (k : ℕ) → k < j → entry_at_place geo rows k ≡ entry_at_place geo rows j
   -- each later gap takes the entry before it
-  pub later_gap : (k : ℕ) → suc k < 4 * geo.n + 3 → Missing geo (suc k) → entry_at_place geo g (suc k) ≡ entry_at_place geo g k
+  pub later_gap : (k : ℕ) → suc k < 4 * geo.n + 3 → Missing geo (suc k) → entry_at_place geo rows (suc k) ≡ entry_at_place geo rows k
   -- none available: the corner and all 65 entries of both rows are neutral
-  pub none_available : ((k : ℕ) → k < 4 * geo.n + 3 → Missing geo k) → g.rows ≡ level_rows (2 ^ (geo.bits - 1))
+  pub none_available : ((k : ℕ) → k < 4 * geo.n + 3 → Missing geo k) → rows ≡ level_rows (2 ^ (geo.bits - 1))
 
--- (c) Two calls of doors that write a block of side n, each meeting its contract with the number 0: they leave the same samples in their
+-- (c) Two calls of doors that write a block of side n, each meeting its contract and not refused: they leave the same samples in their
 -- buffers. `last` and `more` are their scratch, of which nothing is said.
-abbrev pub SameBlock : {A Last : Type 0} → ℕ → (A → ℕ → A → Type 0) → (LentMutSlice → Last → A)
-    → (A → ℕ → A → Type 0) → (LentMutSlice → Last → A) → Type 0
+abbrev pub SameBlock : {A Last : Type 0} → ℕ → (A → Result ⊤ Refusal → A → Type 0) → (LentMutSlice → Last → A)
+    → (A → Result ⊤ Refusal → A → Type 0) → (LentMutSlice → Last → A) → Type 0
 SameBlock {A} {Last} n post call post₂ call₂ =
-    (pred pred' : LentMutSlice) (last last' : Last) (number : ℕ) → post (call pred last) number (call pred' last') → number ≡ 0
-    → (buf buf' : LentMutSlice) (more more' : Last) (number₂ : ℕ) → post₂ (call₂ buf more) number₂ (call₂ buf' more') → number₂ ≡ 0
+    (pred pred' : LentMutSlice) (last last' : Last) → post (call pred last) (Ok tt) (call pred' last')
+    → (buf buf' : LentMutSlice) (more more' : Last) → post₂ (call₂ buf more) (Ok tt) (call₂ buf' more')
     → (x y : ℕ) → x < n → y < n → get_or pred'.now (y * n + x) 0 ≡ get_or buf'.now (y * n + x) 0
 
 -- the same block at every door that takes a corner and two lent rows: every mode, with the edge filter on and off
@@ -139,22 +138,22 @@ module _ {M : Type 1} {𝓤 : Ura M} (𝓛 : Logic 𝓤) (mem : Memory → SProp
 pub record Zero : Type 2 where
   -- (a) The value never tells. Two planes that agree at every available neighbour, entry 2n among them, give the same corner and rows, all
   -- 65 entries of each.
-  pub value_never_tells : (κ κ₂ : Lfts 1) (plane other : LentSlice) (geo : LumaRefGeometry) (g h : Gathered)
-      → Gathers κ plane geo g → Gathers κ₂ other geo h → AgreeWhereAvailable (2 * geo.n + 1) geo plane other → g.rows ≡ h.rows
+  pub value_never_tells : (κ κ₂ : Lfts 1) (plane other : LentSlice) (geo : LumaRefGeometry) (rows rows₂ : Rows)
+      → Gathers κ plane geo rows → Gathers κ₂ other geo rows₂ → AgreeWhereAvailable (2 * geo.n + 1) geo plane other → rows ≡ rows₂
   -- With agreement up to entry 2n − 1 alone, all but entry 2n is the same.
-  pub all_but_entry_2n : (κ κ₂ : Lfts 1) (plane other : LentSlice) (geo : LumaRefGeometry) (g h : Gathered)
-      → Gathers κ plane geo g → Gathers κ₂ other geo h → AgreeWhereAvailable (2 * geo.n) geo plane other
-      → SameButEntry2n geo.n g.rows h.rows
+  pub all_but_entry_2n : (κ κ₂ : Lfts 1) (plane other : LentSlice) (geo : LumaRefGeometry) (rows rows₂ : Rows)
+      → Gathers κ plane geo rows → Gathers κ₂ other geo rows₂ → AgreeWhereAvailable (2 * geo.n) geo plane other
+      → SameButEntry2n geo.n rows rows₂
   -- So are the standard's own neighbours.
   pub standard_never_tells : (plane other : LentSlice) (geo : LumaRefGeometry) → AgreeWhereAvailable (2 * geo.n) geo plane other
       → Agree geo.n (standard_neighbours plane.now geo) (standard_neighbours other.now geo)
   -- So a luma block, over the rows that each gave: it is predicted alike.
-  pub blocks_never_tell : (κ κ₂ : Lfts 1) (plane other : LentSlice) (geo : LumaRefGeometry) (g h : Gathered)
-      → Gathers κ plane geo g → Gathers κ₂ other geo h → AgreeWhereAvailable (2 * geo.n) geo plane other
-      → SameLumaBlocks geo.n g.rows h.rows
+  pub blocks_never_tell : (κ κ₂ : Lfts 1) (plane other : LentSlice) (geo : LumaRefGeometry) (rows rows₂ : Rows)
+      → Gathers κ plane geo rows → Gathers κ₂ other geo rows₂ → AgreeWhereAvailable (2 * geo.n) geo plane other
+      → SameLumaBlocks geo.n rows rows₂
   -- (b) What is missing takes what the order names.
-  pub missing_takes : (κ : Lfts 1) (plane : LentSlice) (geo : LumaRefGeometry) (g : Gathered) → Gathers κ plane geo g
-      → Substituted plane geo g
+  pub missing_takes : (κ : Lfts 1) (plane : LentSlice) (geo : LumaRefGeometry) (rows : Rows) → Gathers κ plane geo rows
+      → Substituted plane geo rows
   -- (c) Entry 2n and all later ones reach no predicted sample: rows that agree on the corner and entries 0 .. 2n − 1 give the same block,
   -- whatever stands after these.
   pub past_2n_unread : (n corner corner₂ : ℕ) (above left above₂ left₂ : LentSlice)
@@ -167,18 +166,17 @@ pub record Zero : Type 2 where
   -- doors with the scratch as a struct follow too.
   pub past_2n_unread_filtered : (n corner corner₂ : ℕ) (above left above₂ left₂ : LentSlice)
       → Agree n (in_rows corner above left) (in_rows corner₂ above₂ left₂)
-      → (κs κt : Lfts 2) (r s : FilteredRows)
-      → weak-filter.Post κs (corner and above and left and n and none) r (corner and above and left and n and none) → r.no ≡ 0
-      → weak-filter.Post κt (corner₂ and above₂ and left₂ and n and none) s (corner₂ and above₂ and left₂ and n and none) → s.no ≡ 0
+      → (κs κt : Lfts 2) (r s : RowPair)
+      → weak-filter.Post κs (corner and above and left and n and none) (Ok r) (corner and above and left and n and none)
+      → weak-filter.Post κt (corner₂ and above₂ and left₂ and n and none) (Ok s) (corner₂ and above₂ and left₂ and n and none)
       → (a l a₂ l₂ : LentSlice) → a.now ≡ r.above → l.now ≡ r.left → a₂.now ≡ s.above → l₂.now ≡ s.left
       → (c : ℕ) → Agree n (in_rows c a l) (in_rows c a₂ l₂) × SameBlocks n c c a l a₂ l₂
   pub past_2n_unread_smoothed : (n corner corner₂ : ℕ) (above left above₂ left₂ : LentSlice)
       → Agree n (in_rows corner above left) (in_rows corner₂ above₂ left₂)
-      → (κs κt : Lfts 2) (bits : ℕ) (r s : Smoothed)
-      → luma-filter.Post κs (corner and above and left and n and bits and none) r (corner and above and left and n and bits and none)
-      → r.no ≡ 0
-      → luma-filter.Post κt (corner₂ and above₂ and left₂ and n and bits and none) s (corner₂ and above₂ and left₂ and n and bits and none)
-      → s.no ≡ 0
-      → (a l a₂ l₂ : LentSlice) → a.now ≡ r.rows.above → l.now ≡ r.rows.left → a₂.now ≡ s.rows.above → l₂.now ≡ s.rows.left
-      → Agree n (neighbours_of r.rows) (neighbours_of s.rows)
-      × SameBlocks n r.rows.corner s.rows.corner a l a₂ l₂ × SameLumaBlocks n r.rows s.rows
+      → (κs κt : Lfts 2) (bits : ℕ) (r s : Rows)
+      → luma-filter.Post κs (corner and above and left and n and bits and none) (Ok r) (corner and above and left and n and bits and none)
+      → luma-filter.Post κt (corner₂ and above₂ and left₂ and n and bits and none) (Ok s)
+      (corner₂ and above₂ and left₂ and n and bits and none)
+      → (a l a₂ l₂ : LentSlice) → a.now ≡ r.above → l.now ≡ r.left → a₂.now ≡ s.above → l₂.now ≡ s.left
+      → Agree n (neighbours_of r) (neighbours_of s)
+      × SameBlocks n r.corner s.corner a l a₂ l₂ × SameLumaBlocks n r s

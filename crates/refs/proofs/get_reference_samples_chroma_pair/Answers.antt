@@ -1,40 +1,30 @@
--- The door: the layout, the number, then the work. Assumes nothing.
-use mathlib.Core.Path.{sym, ap, ◌∙◌}
-use mathlib.Core.Bool.{◌&&◌}
-use mathlib.Core.List.{[], ◌∷◌}
-use lib.Dec.{eqb}
-use lib.ListN.{length}
-use Rattle.domain.specs.declared.rows.Rows.{Rows}
-use Rattle.refs.specs.declared.Layout.{Layout}
-use Rattle.domain.specs.rows.Neighbours.{level_rows}
-use Rattle.refs.specs.Door.{chroma_length, chroma_no, chroma_pair, get_reference_samples_chroma_pair}
-use Rattle.refs.specs.substitution.Served.{refused, done}
-use Rattle.refs.specs.Served.{chroma-number, gathered_pair}
+-- The door: the layout, the check, then the work. Assumes nothing.
+use Rattle.std.proofs.Common.{sym, ap, length, ne_eqb}
+use Rattle.std.proofs.lemmas.Result.{err_from_is_err_and}
+use Rattle.domain.specs.Refused.{never_0}
+use Rattle.refs.specs.Answers.{Laid}
+use Rattle.refs.specs.Door.{get_reference_samples_chroma_pair}
+use Rattle.refs.specs.Served.{chroma_door, laid_there}
 use Rattle.refs.proofs.get_reference_samples_chroma_pair.Goals as goal
 
-pub returns-then-no-ne0 : goal.returns-then-no-ne0
-unfolding get_reference_samples_chroma_pair chroma_no
-returns-then-no-ne0 c = let a = c.args in
-    let e = c.chroma_layout-l.ensures in
-    let cb = a.plane_cb.now in
-    let cr = a.plane_cr.now in
-    let t = chroma-number (eqb (length cb) (chroma_length a.geo) && eqb (length cr) (chroma_length a.geo)) a.geo e (ap (λ (q : Layout). eqb (length cb) q.length && eqb (length cr) q.length) e) c.gather_no-no.ensures in
-    refused gathered_pair (chroma_no (length cb) (length cr) a.geo) (chroma_pair cb cr a.geo) (level_rows 0 ∷ level_rows 0 ∷ []) t c.if-no-ne0.true (ap (λ (v : Rows). v ∷ v ∷ []) c.level_rows-none.ensures)
+pub returns-in_err-reach : goal.returns-in_err-reach
+unfolding get_reference_samples_chroma_pair
+returns-in_err-reach c = let a = c.args in
+    let l = c.chroma_layout-l in
+    let t = chroma_door (length a.plane_cb.now) (length a.plane_cr.now) a.geo l.result l.ensures c.in_err-reach.ensures.0 in
+    let p = err_from_is_err_and c.from_residual.result c.from_residual.ensures.1 in
+    rw (p.1, p.2) (simp (← t, ne_eqb _ 0 (never_0 c.in_err-reach.field-0.0)))
 
 pub chroma_pair-requires : goal.chroma_pair-requires
-unfolding chroma_no
 chroma_pair-requires c = let a = c.args in
-    let e = c.chroma_layout-l.ensures in
-    let cb = a.plane_cb.now in
-    let cr = a.plane_cr.now in
-    let t = chroma-number (eqb (length cb) (chroma_length a.geo) && eqb (length cr) (chroma_length a.geo)) a.geo e (ap (λ (q : Layout). eqb (length cb) q.length && eqb (length cr) q.length) e) c.gather_no-no.ensures in
-    (e, sym t ∙ c.if-no-ne0.false)
+    let l = c.chroma_layout-l in
+    let e = c.in_ok-reach.ensures in
+    let t = chroma_door (length a.plane_cb.now) (length a.plane_cr.now) a.geo l.result l.ensures e.0 in
+    (ap (λ (q : Laid). q.spot) l.ensures, laid_there l.result l.ensures e.1, sym t)
 
 pub returns : goal.returns
-unfolding get_reference_samples_chroma_pair chroma_no
+unfolding get_reference_samples_chroma_pair
 returns c = let a = c.args in
-    let e = c.chroma_layout-l.ensures in
-    let cb = a.plane_cb.now in
-    let cr = a.plane_cr.now in
-    let t = chroma-number (eqb (length cb) (chroma_length a.geo) && eqb (length cr) (chroma_length a.geo)) a.geo e (ap (λ (q : Layout). eqb (length cb) q.length && eqb (length cr) q.length) e) c.gather_no-no.ensures in
-    done gathered_pair (chroma_no (length cb) (length cr) a.geo) (chroma_pair cb cr a.geo) (level_rows 0 ∷ level_rows 0 ∷ []) (sym t ∙ c.if-no-ne0.false) c.chroma_pair.ensures
+    let l = c.chroma_layout-l in
+    let t = chroma_door (length a.plane_cb.now) (length a.plane_cr.now) a.geo l.result l.ensures c.in_ok-reach.ensures.0 in
+    simp (c.chroma_pair.ensures, ← t)

@@ -3,7 +3,7 @@ use Rattle.std.specs.Prelude.{ℕ, ◌-◌, ◌^◌, [], ◌∷◌}
 use Rattle.laws.specs.Choose.{◌unless◌, first_fail, served}
 use Rattle.domain.specs.Domain.{depth_ok, size_ok}
 use Rattle.domain.specs.declared.rows.Rows.{Rows}
-use Rattle.domain.specs.declared.rows.Gathered.{Gathered}
+use Rattle.refs.specs.Answers.{Gathered}
 use Rattle.refs.specs.declared.substitution.Flags.{Flags}
 use Rattle.domain.specs.rows.Neighbours.{level_rows}
 use Rattle.refs.specs.substitution.Substitution.{substituted}

@@ -27,22 +27,31 @@ left_settled has e start row = fill (λ i. past_left has row e start (e - i + 1)
 abbrev pub above_settled : List Bool → ℕ → ℕ → List ℕ → List ℕ
 above_settled has e start row = fill (λ i. past_above has row start (i + 1)) (e + 1) row
 
--- a turn of each loop: what is carried on, and the row so far
+-- the left row after k entries from its far end: what is carried on, and the row so far
+abbrev pub LeftSoFar : List Bool → List ℕ → ℕ → ℕ → ℕ → ℕ → List ℕ → Type 0
+LeftSoFar has row e start k carried so_far =
+    (carried ≡ past_left has row e start k) × (so_far ≡ fill_down (λ i. past_left has row e start (e - i + 1)) e k row)
+
+-- a turn of each loop
 module _ (has : List Bool) (start : ℕ) (row : List ℕ) {carried next : ℕ} {so_far later : List ℕ} where
-  pub left_turn : (e p : ℕ) → p ≤ e → carried ≡ past_left has row e start p → so_far
-      ≡ fill_down (λ (i : ℕ). past_left has row e start (e - i + 1)) e p row
-      → next ≡ cond (get_or has (e - p) false) (get_or so_far (e - p) 0) carried → later ≡ set so_far (e - p) next
-      → (next ≡ past_left has row e start (p + 1)) × (later ≡ fill_down (λ (i : ℕ). past_left has row e start (e - i + 1)) e (p + 1) row)
-  left_turn e p h is_Carried is_row is-next is_later = (on, is_later ∙ down_more _ e row p is_row (on ∙ back))
+  pub left_turn : (e i : ℕ) → i ≤ e → LeftSoFar has row e start (e - i) carried so_far
+      → next ≡ cond (get_or has i false) (get_or so_far i 0) carried → later ≡ set so_far i next
+      → LeftSoFar has row e start (e - i + 1) next later
+  left_turn e i h (is_Carried, is_row) is-next is_later =
+      (on, is_later ∙ ap (λ (j : ℕ). set so_far j next) here ∙ down_more _ e row (e - i) is_row (on ∙ back))
     where
-      own : get_or so_far (e - p) 0 ≡ get_or row (e - p) 0
-      own = ap (λ (t : List ℕ). get_or t (e - p) 0) is_row ∙ down_before _ e row p (e - p) 0 (omega arith)
+      here : i ≡ e - (e - i)
+      here = omega arith
 
-      on : next ≡ past_left has row e start (p + 1)
-      on = carried_next _ _ start p is_Carried (is-next ∙ ap (λ (v : ℕ). cond (get_or has (e - p) false) v carried) own)
+      own : get_or so_far (e - (e - i)) 0 ≡ get_or row (e - (e - i)) 0
+      own = ap (λ (t : List ℕ). get_or t (e - (e - i)) 0) is_row ∙ down_before _ e row (e - i) (e - (e - i)) 0 (omega arith)
 
-      back : past_left has row e start (p + 1) ≡ past_left has row e start (e - (e - p) + 1)
-      back = let q : p + 1 ≡ e - (e - p) + 1 = omega arith in ap (past_left has row e start) q
+      on : next ≡ past_left has row e start (e - i + 1)
+      on = carried_next _ _ start (e - i) is_Carried (is-next ∙ ap (λ (j : ℕ). cond (get_or has j false) (get_or so_far j 0) carried) here
+          ∙ ap (λ (v : ℕ). cond (get_or has (e - (e - i)) false) v carried) own)
+
+      back : past_left has row e start (e - i + 1) ≡ past_left has row e start (e - (e - (e - i)) + 1)
+      back = let q : e - i + 1 ≡ e - (e - (e - i)) + 1 = omega arith in ap (past_left has row e start) q
 
   pub above_turn : (i : ℕ) → carried ≡ past_above has row start i → so_far ≡ fill (λ (j : ℕ). past_above has row start (j + 1)) i row
       → next ≡ cond (get_or has i false) (get_or so_far i 0) carried → later ≡ set so_far i next

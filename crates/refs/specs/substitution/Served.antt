@@ -1,11 +1,9 @@
 -- What a substitution that is not refused rests on, and the two ways of a door's answer. Assumes nothing.
 use Rattle.std.specs.Prelude.{◌≡◌, true, ℕ, ◌≤◌}
 use Rattle.std.proofs.Common.{sym, ap₂, ◌∙◌, arith}
-use Rattle.laws.specs.Choose.{served, worked, unserved, passed}
+use Rattle.laws.specs.Choose.{passed, served, worked, unserved}
 use Rattle.domain.specs.Domain.{depth_ok, size_ok}
 use Rattle.domain.specs.Facts.{size_of, size_small}
-use Rattle.domain.specs.declared.rows.Rows.{Rows}
-use Rattle.domain.specs.declared.rows.Gathered.{Gathered}
 use Rattle.refs.specs.substitution.Door.{substitute_no}
 
 -- substitution that is not refused
@@ -23,6 +21,3 @@ module _ {A B : Type 0} (answer : ℕ → A → B) (n : ℕ) (work kept : A) whe
 
   pub done : {given : A} → n ≡ 0 → given ≡ work → answer 0 given ≡ answer n (served n work kept)
   done e d = ap₂ answer (sym e) (d ∙ worked n work kept e)
-
-abbrev pub gathered : ℕ → Rows → Gathered
-gathered k v = record { no = k; rows = v }

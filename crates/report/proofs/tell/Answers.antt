@@ -1,32 +1,29 @@
 -- `report::tell` meets its contract. A refused walk is told as such; a served one is replayed, compared, and told block by block.
-use native.Mathlib.Omega.{arith}
-use mathlib.Core.Path.{◌∙◌}
-use Rattle.report.specs.text.Laws.{then, said}
+use Rattle.std.proofs.Common.{◌++◌, ◌∙◌, ap, refl, length}
+use Rattle.domain.specs.Refusal.{number}
+use Rattle.domain.specs.Refused.{never_0}
+use Rattle.report.specs.text.Text.{refusal, ending}
 use Rattle.report.specs.Whole.{refused_told, listed_all, source_long, served_told}
 use Rattle.report.proofs.tell.Goals as goal
 
-pub returns-then-walked-ne0 : goal.returns-then-walked-ne0
-returns-then-walked-ne0 c = let p = c.requires in
-    let told = refused_told c.walk_all-walked.ensures p.world c.if-walked-ne0.true in
-    said _ 65536 c.lay_refusal.ensures told (omega arith)
+pub returns-in-Err : goal.returns-in-Err
+returns-in-Err c =
+    let f = c.in-Err.rejected.fault in
+    c.push_refusal.ensures ∙ ap (λ d. d ++ refusal (number f.why) f.block) c.requires.empty
+    ∙ refused_told c.in-Err.ensures c.requires.blank.world (never_0 f.why)
 
 pub agrees-same-requires : goal.agrees-same-requires
-agrees-same-requires c = let p = c.requires in
-    let z = c.if-walked-ne0.false in
-    c.replay_all.auto.plane ∙ source_long c.walk_all-walked.ensures p.world z _ p.plane_zero
+agrees-same-requires c =
+    let p = c.requires.blank in
+    c.replay_all.auto.plane ∙ source_long c.in-Ok.ensures p.world refl _ p.plane_zero
 
-pub lay_lines-lines-requires : goal.lay_lines-lines-requires
-lay_lines-lines-requires c = let p = c.requires in
-    let z = c.if-walked-ne0.false in
-    let w = c.walk_all-walked in (
-      listed_all w.ensures p.world z _ w.auto.residuals p.few,
-      omega (arith, p.roomy),
-    )
+pub push_lines-requires-clause-plan : goal.push_lines-requires-clause-plan
+push_lines-requires-clause-plan c =
+    let p = c.requires.blank in
+    listed_all c.in-Ok.ensures p.world refl _ c.walk_all.auto.residuals p.few
 
-pub returns : goal.returns
-returns c = let p = c.requires in
-    let z = c.if-walked-ne0.false in
-    let same = c.agrees-same.ensures in
-    let l = c.lay_lines-lines.ensures in
-    let told = served_told c.walk_all-walked.ensures p.world z _ _ _ p.plane_zero c.replay_all.ensures same in
-    said _ 65536 (then l c.lay_ending.ensures (omega (arith, p.roomy))) told (omega arith)
+pub returns-in-Ok : goal.returns-in-Ok
+returns-in-Ok c =
+    let p = c.requires.blank in
+    let told = served_told c.in-Ok.ensures p.world refl _ _ _ p.plane_zero c.replay_all.ensures c.agrees-same.ensures in
+    c.push_ending.ensures ∙ ap (λ d. d ++ ending (length c.args.job.now.plan.now) c.agrees-same.result) c.push_lines.ensures.bytes ∙ told

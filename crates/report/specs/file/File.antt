@@ -2,6 +2,7 @@
 use Rattle.std.specs.Prelude.{ℕ, ◌+◌, ◌-◌, ◌*◌, Bool, ◌&&◌, List, leb, length, get_or, replicate}
 use Rattle.laws.specs.Fill.{fill}
 use Rattle.laws.specs.Bytes.{le_at}
+use Rattle.plan.specs.declared.tiling.Block.{Block}
 use Rattle.plan.specs.tiling.Plan.{Plan, plan_of}
 use Rattle.report.specs.declared.file.Trailer.{Trailer}
 
@@ -46,6 +47,10 @@ twos_at b at n = tabulated (λ k. le_at 2 b (at + 6 * k)) n 0
 
 abbrev pub ones_at : List ℕ → ℕ → ℕ → List ℕ
 ones_at b at n = tabulated (λ k. get_or b (at + 6 * k) 0) n 0
+
+-- the block record of six bytes from i on
+abbrev pub block_in : List ℕ → ℕ → Block
+block_in b i = record { row = le_at 2 b i; col = le_at 2 b (i + 2); side = get_or b (i + 4) 0; mode = get_or b (i + 5) 0 }
 
 -- the plan: row and column of two bytes, side and mode of one
 abbrev pub plan_in : List ℕ → Trailer → Plan

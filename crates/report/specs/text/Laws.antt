@@ -1,124 +1,26 @@
--- What joins the functions that lay the text. Rests on the kit's laws of lists.
-use Rattle.std.specs.Prelude.{◌≡◌, refl, Bool, true, false, cond, List, [], ◌∷◌, ◌++◌, ℕ, zero, suc, ◌+◌, ◌-◌, ◌*◌, ◌/◌, ◌%◌, ◌^◌, ◌≤◌, ◌<◌, ltb, length, get_or, set, take, drop}
-use Rattle.std.proofs.Common.{sym, ap, ap₂, ◌∙◌, subst, append_assoc, add-one, arith, length-append, take_at, drop-drop, length-take-le, lt-ltb, ltb-true, ltb-false}
+-- The kit's decimal digits are those of `spell`. Rests on the kit's laws of decimal digits.
+use Rattle.std.specs.Prelude.{◌≡◌, refl, List, [], ◌∷◌, ◌++◌, ℕ, zero, suc, ◌+◌, ◌/◌, ◌%◌, ◌^◌, ◌≤◌, ◌<◌, decimal}
+use Rattle.std.proofs.Common.{ap, arith, lt-ltb}
 use Rattle.std.proofs.Math.Nat.{pow-succ'}
-use Rattle.std.proofs.Math.Seq.{drop-append-add, take-length, paste, paste-suc}
-use Rattle.io.specs.Digits.{last_digits, hex_digit_ascii, IsDigitCount}
-use Rattle.report.specs.text.Text.{spell, laid}
+use Rattle.std.proofs.lemmas.Bool.{le-ltb}
+use Rattle.std.proofs.lemmas.Fmt.{decimal_by_steps}
+use Rattle.report.specs.text.Text.{spell}
 
--- a text s lies over d from `at` on, which makes e of it; it ends at `upto` and has at most `room` bytes
-pub record Laid (at : ℕ) (s d e : List ℕ) (upto room : ℕ) : Type 0 where
-  pub over : e ≡ laid at s d
-  pub ends : upto ≡ at + length s
-  pub short : length s ≤ room
+-- what `spell` gives of a number that it has room for
+abbrev Spelled : ℕ → List ℕ → Type 0
+Spelled n digits = (k : ℕ) → n < 10 ^ suc k → digits ≡ spell k n
 
-laid_more : (at : ℕ) (s t d : List ℕ) → at + length s ≤ length d → laid (at + length s) t (laid at s d) ≡ laid at (s ++ t) d
-unfolding laid
-laid_more at s t d h =
-    let front : length (take at d ++ s) ≡ at + length s = length-append (take at d) s
-    ∙ ap (λ (k : ℕ). k + length s) (length-take-le at d (omega arith)) in
-    let n = at + length s in
-    let a : take n (take at d ++ s ++ drop n d) ≡ take at d ++ s = take_at (take at d ++ s) (drop n d) n front in
-    let b : drop (n + length t) (take at d ++ s ++ drop n d) ≡ drop (n + length t) d =
-    ap (λ (k : ℕ). drop (k + length t) (take at d ++ s ++ drop n d)) (sym front) ∙ drop-append-add (take at d ++ s) (drop n d) (length t)
-    ∙ drop-drop (length t) n d in
-    let c : n + length t ≡ at + length (s ++ t) = omega (arith, length-append s t) in
-    ap₂ (λ (x y : List ℕ). x ++ t ++ y) a b ∙ ap (λ (k : ℕ). take at d ++ s ++ t ++ drop k d) c
-    ∙ ap (λ (x : List ℕ). x ++ drop (at + length (s ++ t)) d) (append_assoc (take at d) s t)
-
--- one text after the other
-pub then : {at p q m n : ℕ} {s t d e f : List ℕ} → Laid at s d e p m → Laid p t e f q n → at + m ≤ length d → Laid at (s ++ t) d f q (m + n)
-then {at} {p} {q} {m} {n} {s} {t} {d} {e} {f} x y h =
-    record {
-      over = y.over ∙ ap₂ (λ (k : ℕ) (u : List ℕ). laid k t u) x.ends x.over ∙ laid_more at s t d (omega (arith, x.short));
-      ends = omega (arith, x.ends, y.ends, length-append s t);
-      short = omega (arith, x.short, y.short, length-append s t);
-    }
-
--- the same text, said otherwise, with more room
-pub said : {at p m : ℕ} {s d e : List ℕ} (t : List ℕ) (n : ℕ) → Laid at s d e p m → s ≡ t → m ≤ n → Laid at t d e p n
-said {at} {p} {m} {s} {d} {e} t n x q h =
-    record {
-      over = x.over ∙ ap (λ (u : List ℕ). laid at u d) q;
-      ends = x.ends ∙ ap (λ (u : List ℕ). at + length u) q;
-      short = omega (arith, x.short, ap length q);
-    }
-
--- the fewest digits are those that `spell` gives
-digit : (d : ℕ) → d < 10 → hex_digit_ascii d ≡ 48 + d
-digit d h = rw (lt-ltb d 10 h)
-
--- the power of ten that has one digit more
-ten : (k : ℕ) → 10 ^ suc k ≡ 10 * 10 ^ k
-ten k = pow-succ' 10 k
-
-ten_pos : (k : ℕ) → 0 < 10 ^ k
-ten_pos zero = omega arith
-ten_pos (suc k) = omega (arith, ten k, ten_pos k)
-
-fewest : (n k : ℕ) → IsDigitCount 10 1 n (suc k) → 0 < k → 10 ^ k ≤ n
-fewest n k e h = let q : suc k - 1 ≡ k = omega arith in subst (λ (m : ℕ). 10 ^ m ≤ n) q (e.2 (omega arith))
-
-one_digit : (n k : ℕ) → n < 10 → IsDigitCount 10 1 n k → last_digits 10 k n ≡ (48 + n) ∷ []
-one_digit n zero h e = absurd (omega arith)
-one_digit n (suc zero) h e = let m : n % 10 ≡ n = omega arith in ap (λ (d : ℕ). d ∷ [])
-    (digit (n % 10) (omega arith) ∙ ap (λ (d : ℕ). 48 + d) m)
-one_digit n (suc (suc k)) h e =
-    let l = fewest n (suc k) e (omega arith) in
-    let p : 0 < 10 ^ k = ten_pos k in
-    absurd (omega (arith, ten k))
-
--- a digit more; the digits before it are known
-digit_more : (f n : ℕ) → ((k : ℕ) → n / 10 < 10 ^ suc f → IsDigitCount 10 1 (n / 10) k → last_digits 10 k (n / 10) ≡ spell f (n / 10))
-    → n < 10 ^ suc (suc f)
-    → (t : Bool) → ltb n 10 ≡ t → (k : ℕ) → IsDigitCount 10 1 n k → last_digits 10 k n
-    ≡ cond t ((48 + n) ∷ []) (spell f (n / 10) ++ (48 + n % 10) ∷ [])
-digit_more f n before h true t k e = one_digit n k (ltb-true n 10 t) e
-digit_more f n before h false t zero e = absurd (omega arith)
-digit_more f n before h false t (suc zero) e = let l = ltb-false n 10 t in absurd (omega (arith, ten 0))
-digit_more f n before h false t (suc (suc j)) e =
-    let l = fewest n (suc j) e (omega arith) in
-    let u : n / 10 < 10 ^ suc f = omega (arith, ten (suc f)) in
-    let v : n / 10 < 10 ^ suc j = omega (arith, e.1, ten (suc j)) in
-    let w : 10 ^ (suc j - 1) ≤ n / 10 = let q : j ≡ suc j - 1 = omega arith in subst (λ (m : ℕ). 10 ^ m ≤ n / 10) q
-    (omega (arith, ten j)) in
-    ap₂ (λ (x : List ℕ) (d : ℕ). x ++ d ∷ []) (before (suc j) u (omega arith, v, λ z. w)) (digit (n % 10) (omega arith))
-
-pub spelled : (f n k : ℕ) → n < 10 ^ suc f → IsDigitCount 10 1 n k → last_digits 10 k n ≡ spell f n
+one_digit : (n : ℕ) → n < 10 → Spelled n ((48 + n) ∷ [])
 unfolding spell
-spelled zero n k h e = one_digit n k (omega (arith, ten 0)) e
-spelled (suc f) n k h e = digit_more f n (λ j. spelled f (n / 10) j) h (ltb n 10) refl k e
+one_digit n h zero l = refl
+one_digit n h (suc k) l = rw (lt-ltb n 10 h)
 
-spell_short : (f n : ℕ) → length (spell f n) ≤ f + 1
+digit_more : (n : ℕ) (digits : List ℕ) → 10 ≤ n → Spelled (n / 10) digits → Spelled n (digits ++ (48 + n % 10) ∷ [])
 unfolding spell
-spell_short zero n = omega arith
-spell_short (suc f) n = go (ltb n 10) (spell_short f (n / 10))
-  where
-    go : (t : Bool) → length (spell f (n / 10)) ≤ f + 1
-        → length (cond t ((48 + n) ∷ []) (spell f (n / 10) ++ (48 + n % 10) ∷ [])) ≤ suc f + 1
-    go true h = omega arith
-    go false h = omega (arith, length-append (spell f (n / 10)) ((48 + n % 10) ∷ []))
+digit_more n digits h before zero l = absurd (omega (arith, pow-succ' 10 0))
+digit_more n digits h before (suc k) l =
+    let few : n / 10 < 10 ^ suc k = omega (arith, pow-succ' 10 (suc k)) in
+    rw (le-ltb n 10 h) (ap (λ (d : List ℕ). d ++ (48 + n % 10) ∷ []) (before k few))
 
--- a number of 64 bits
-pub number_is : (n k : ℕ) (s : List ℕ) → n < 2 ^ 64 → IsDigitCount 10 1 n k → s ≡ last_digits 10 k n → s ≡ spell 19 n
-number_is n k s h e q = q ∙ spelled 19 n k (omega arith) e
-
-pub number_short : (n : ℕ) (s : List ℕ) → s ≡ spell 19 n → length s ≤ 20
-number_short n s q = omega (arith, ap length q, spell_short 19 n)
-
--- a whole copy
-pub pasted : (at : ℕ) (s d e : List ℕ) (i : ℕ) → i ≤ length s → length s ≤ i → e ≡ paste d at s i → Laid at s d e (at + i) (length s)
-unfolding laid
-pasted at s d e i h k p =
-    let q : i ≡ length s = omega arith in
-    record {
-      over = p ∙ ap (λ (m : ℕ). paste d at s m) q ∙ ap (λ (t : List ℕ). take at d ++ t ++ drop (at + length s) d) (take-length s);
-      ends = omega arith;
-      short = omega arith;
-    }
-
--- a copy of one byte more
-pub paste_more : (at : ℕ) (s d e : List ℕ) (i : ℕ) → at + length s ≤ length d → i < length s → e ≡ paste d at s i
-    → set e (at + i) (get_or s i 0) ≡ paste d at s (i + 1)
-paste_more at s d e i h l p =
-    ap (λ (x : List ℕ). set x (at + i) (get_or s i 0)) p ∙ paste-suc d at s i 0 (omega arith) l ∙ ap (paste d at s) (sym (add-one i))
+pub spelled : (n : ℕ) → n < 2 ^ 64 → decimal n ≡ spell 19 n
+spelled n h = decimal_by_steps Spelled one_digit digit_more n h 19 (omega arith)

@@ -1,9 +1,6 @@
-use Rattle.std.proofs.Common.{◌≡◌, ◌-◌, ◌*◌, ◌≤◌}
+use Rattle.std.proofs.Common.{◌≡◌}
 use Rattle.residual.specs.Residual.{all_in_range}
 use Rattle.residual.proofs.all_in_range.Given as goal
 
-abbrev pub invariant-loop-i : goal.invariant-loop-i
-invariant-loop-i l = (l.i ≤ l.runs * 16) × (l.ok ≡ all_in_range l.residual l.i)
-
-abbrev pub decreases-loop-i : goal.decreases-loop-i
-decreases-loop-i l = l.runs * 16 - l.i
+abbrev pub invariant-loop-r : goal.invariant-loop-r
+invariant-loop-r l = l.ok ≡ all_in_range l.residual l.r-index

@@ -1,6 +1,7 @@
 -- The strong form's limit and its entries up to 63, H.265 8.4.4.2.3. Rests on the standard's clause and a depth's largest sample.
 use Rattle.std.specs.Prelude.{◌≡◌, ℕ, ◌+◌, ◌-◌, ◌*◌, ◌/◌, ◌^◌, ◌<◌, ◌≤◌, Bool, true, false, cond, ◌&&◌, pos, ◌-ℤ◌, nat_lt, unsigned_abs, refl}
 use Rattle.std.proofs.Common.{ap, ⊎_elim, arith, lt-ltb, le-ltb}
+use Rattle.std.specs.Int.{abs_diff}
 use Rattle.laws.specs.Diff.{order}
 use Rattle.h265.specs.Filtering.{straight, strong_at}
 use Rattle.domain.specs.Domain.{depth_ok}
@@ -21,10 +22,15 @@ below : (b : Bool) (d m : ℕ) → nat_lt d (cond b m 0) ≡ (b && nat_lt d m)
 below true d m = refl
 below false d m = le-ltb d 0 (omega arith)
 
+apart_is : (x y : ℕ) → abs_diff x y ≡ unsigned_abs (pos x -ℤ pos y)
+apart_is x y = grind arith
+
 pub straight_is : (bits corner mid far : ℕ)
-    → nat_lt (unsigned_abs (pos (corner + far) -ℤ pos (2 * mid))) ((largest_of bits + 1) / 32) ≡ (depth_ok bits && straight bits corner mid far)
+    → nat_lt (abs_diff (corner + far) (2 * mid)) ((largest_of bits + 1) / 32) ≡ (depth_ok bits && straight bits corner mid far)
 unfolding straight
-straight_is bits corner mid far = rw (limit_is bits) (below (depth_ok bits) (unsigned_abs (pos (corner + far) -ℤ pos (2 * mid))) (2 ^ (bits - 5)))
+straight_is bits corner mid far =
+    rw (apart_is (corner + far) (2 * mid), limit_is bits)
+    (below (depth_ok bits) (unsigned_abs (pos (corner + far) -ℤ pos (2 * mid))) (2 ^ (bits - 5)))
 
 -- the quotient of entry 63 is the far end itself
 pub ramp_is : (x corner far : ℕ) → x < 64 → ((63 - x) * corner + (x + 1) * far + 32) / 64 ≡ strong_at corner far x

@@ -1,5 +1,5 @@
 -- What joins the functions that predict a block. Rests on the bridge and on the laws of the domain.
-use Rattle.std.specs.Prelude.{◌≡◌, refl, true, ◌&&◌, List, ℕ, ◌*◌, ◌≤◌, leb, length}
+use Rattle.std.specs.Prelude.{◌≡◌, refl, true, ◌&&◌, List, ℕ, ◌*◌, ◌≤◌, leb, length, Err}
 use Rattle.std.proofs.Math.Path.{sym, ap}
 use Rattle.std.proofs.Common.{◌∙◌, mul-le-mul, arith, le-leb}
 use Rattle.laws.specs.Fill.{block}
@@ -11,7 +11,9 @@ use Rattle.domain.specs.Domain.{depth_ok, size_ok}
 use Rattle.domain.specs.Facts.{Size, at_size, at_depth, size_small}
 use Rattle.domain.specs.declared.rows.Rows.{Rows}
 use Rattle.domain.specs.rows.Neighbours.{neighbours_of}
-use Rattle.domain.specs.declared.rows.Gathered.{Gathered}
+use Rattle.domain.specs.declared.refusal.Refusal.{Refusal}
+use Rattle.domain.specs.Refused.{never_0}
+use Rattle.refs.specs.Answers.{Gathered, gathered}
 use Rattle.refs.specs.Door.{get_reference_samples, luma_rows}
 use Rattle.predict.specs.refusals.Refusals.{predict_no}
 use Rattle.plan.specs.declared.tiling.Block.{Block}
@@ -31,9 +33,14 @@ module _ (b : Block) (h : Size b.side) where
 
 -- a block that is ready is gathered for and predicted: both numbers are 0
 module _ (s : Still) (b : Block) (plane : List ℕ) (t : Tables) (h : Ready s b (length plane) t) where
-  gathered : {g : Gathered} → g ≡ get_reference_samples plane (geometry_of s b) → g.rows ≡ luma_rows plane (geometry_of s b)
+  made : {g : Gathered} → g ≡ get_reference_samples plane (geometry_of s b) → g.rows ≡ luma_rows plane (geometry_of s b)
   unfolding get_reference_samples
-  gathered e = ap (λ (x : Gathered). x.rows) e ∙ sym (worked _ _ _ (geo_fine s b h.picture h.placed h.depth plane h.plane_len))
+  made e = ap (λ (x : Gathered). x.rows) e ∙ sym (worked _ _ _ (geo_fine s b h.picture h.placed h.depth plane h.plane_len))
+
+  pub never_refused : (why : Refusal) → gathered (Err why) ≡ get_reference_samples plane (geometry_of s b) → ⊥
+  unfolding get_reference_samples
+  never_refused why e =
+      never_0 why (ap (λ (x : Gathered). x.no) e ∙ geo_fine s b h.picture h.placed h.depth plane h.plane_len)
 
   predicts : (pred : ℕ) → b.side * b.side ≤ pred
       → predict_no s.bits b.side b.mode (record
@@ -64,6 +71,6 @@ module _ (s : Still) (b : Block) (plane : List ℕ) (t : Tables) (h : Ready s b 
       ∙ sym (worked k _ _ (p ∙ predicts (length d) room))
       ∙ rows_same _ _ b.side b.side d
       (λ y x l m.
-      ap (λ (q : Rows). pred_samples (luma_at s.bits) first_edition_strong b.side b.mode (neighbours_of q) x y) (gathered e)
+      ap (λ (q : Rows). pred_samples (luma_at s.bits) first_edition_strong b.side b.mode (neighbours_of q) x y) (made e)
       ∙ sym (bridge s b h.picture h.placed h.depth plane h.plane_len h.mode y x l m))
       (omega (arith, side b h.placed.size))

@@ -1,6 +1,8 @@
 -- What joins the functions that store a block's rows. Assumes nothing.
 use Rattle.std.specs.Prelude.{◌≡◌, ℕ, ◌+◌, ◌*◌, ◌≤◌, ◌<◌, ℤ, pos, ◌+ℤ◌}
 use Rattle.std.proofs.Common.{ap₂, ◌∙◌, mul-le-mul_right, arith}
+use Rattle.laws.specs.FillLaws.{run_none, run_more}
+use Rattle.laws.specs.Signed.{held}
 use Rattle.h265.specs.Notation.{clip_to}
 use Rattle.walk.specs.block_rows.Ready.{RowIn, RowsIn}
 
@@ -14,3 +16,6 @@ pub row_in : (plane pred residuals n base width at r : ℕ) → RowsIn plane pre
 row_in plane pred residuals n base width at r h l =
     let m : (r + 1) * n ≤ n * n = mul-le-mul_right n (omega arith) in
     record { size = h.size; plane_in = h.plane_in r l; pred_in = omega (arith, h.pred_in); resid_in = omega (arith, h.resid_in) }
+
+-- what a loop that stores a row rests on: its start, its turns, and that a residual is read as it was stored
+pub ruleset storing = (run_none, run_more, held)

@@ -3,7 +3,7 @@
 use Rattle.std.specs.Prelude.{ℕ, List, ℤ, length}
 use Rattle.laws.specs.Choose.{served}
 use Rattle.laws.specs.Chain.{units}
-use Rattle.plan.specs.declared.tiling.Verdict.{Verdict}
+use Rattle.plan.specs.Answers.{Verdict}
 use Rattle.plan.specs.tiling.Plan.{Plan}
 use Rattle.plan.specs.tiling.PlanCheck.{blocks_verdict}
 use Rattle.walk.specs.declared.checks.Still.{Still}

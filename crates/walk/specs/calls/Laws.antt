@@ -11,7 +11,7 @@ use Rattle.domain.specs.Facts.{size_small, depth_of}
 use Rattle.order.specs.Order.{picture_ok}
 use Rattle.plan.specs.declared.tiling.Frame.{Frame}
 use Rattle.plan.specs.declared.tiling.Block.{Block}
-use Rattle.plan.specs.declared.tiling.Verdict.{Verdict}
+use Rattle.plan.specs.Answers.{Verdict}
 use Rattle.plan.specs.tiling.Tiling.{picture_of, Placed, place}
 use Rattle.plan.specs.tiling.Plan.{Plan}
 use Rattle.plan.specs.tiling.Ahead.{area_small}
@@ -22,7 +22,7 @@ use Rattle.walk.specs.declared.checks.Still.{Still}
 use Rattle.walk.specs.checks.Checks.{largest_in, is_whole, Tables, is_roomy, settle}
 use Rattle.walk.specs.checks.Checks.{residual_checks, replay_fits, replay_no, source_checks, walk_fits, walk_no}
 use Rattle.walk.specs.checks.Laws.{good_call, settle_zero}
-use Rattle.walk.specs.declared.calls.Step.{Step}
+use Rattle.walk.specs.Answers.{Step}
 use Rattle.walk.specs.calls.Steps.{step_of, refused_step}
 use Rattle.walk.specs.block.Ready.{Ready, Lies}
 use Rattle.walk.specs.calls.Places.{place_in, count_up}

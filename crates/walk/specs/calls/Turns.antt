@@ -7,6 +7,7 @@ use Rattle.std.proofs.Math.Decide.{dec_lt}
 use Rattle.std.proofs.lemmas.Bool.{lt-leb}
 use Rattle.laws.specs.Chain.{units, units_add}
 use Rattle.laws.specs.Choose.{if_yes, if_no}
+use Rattle.walk.specs.calls.Places.{place_none, place_more}
 
 module _ {W : Type 0} (unit : ℕ → W → W) (from : ℕ) where
   last_of : (k : ℕ) (w : W) → units unit from (suc k) w ≡ unit (from + k) (units unit from k w)
@@ -39,3 +40,6 @@ module _ {W : Type 0} (unit : ℕ → W → W) (from : ℕ) where
 
   pub turn_done : (k upto : ℕ) (d e : W) → k ≤ upto → upto ≤ k → e ≡ units unit from (k - from) d → e ≡ units unit from (upto - from) d
   turn_done k upto d e l m q = let n : k - from ≡ upto - from = omega arith in q ∙ ap (λ (x : ℕ). units unit from x d) n
+
+-- what a loop over blocks rests on: its start and its turns, with the place of the next block
+pub ruleset turns = (place_none, place_more, turn_none, turn_more)

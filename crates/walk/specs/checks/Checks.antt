@@ -6,7 +6,7 @@ use Rattle.laws.specs.Every.{every}
 use Rattle.domain.specs.Domain.{depth_ok}
 use Rattle.order.specs.Order.{picture_ok}
 use Rattle.samples.specs.deltas.Deltas.{residual_ok, residual_within}
-use Rattle.plan.specs.declared.tiling.Verdict.{Verdict}
+use Rattle.plan.specs.Answers.{Verdict}
 use Rattle.plan.specs.tiling.Tiling.{picture_of}
 use Rattle.walk.specs.declared.checks.Still.{Still}
 

@@ -5,13 +5,14 @@ use Rattle.std.proofs.Common.{sym, ap, ◌∙◌, le_trans, arith, leb-true, le-
 use mathlib.Core.List.{List, [], ◌∷◌}
 use Rattle.std.proofs.lemmas.Bool.{eqb-false}
 use Rattle.laws.specs.Choose.{Check, ◌unless◌, first_fail, passed, both_true, both_same}
-use Rattle.laws.specs.Every.{every}
+use Rattle.laws.specs.Every.{every, pass_none, pass_more, pass_done}
+use Rattle.laws.specs.Signed.{held}
 use Rattle.domain.specs.Domain.{depth_ok}
 use Rattle.domain.specs.Facts.{Depth, depth_of}
 use Rattle.fmt.specs.depth.Depth.{largest_of}
 use Rattle.fmt.specs.depth.Laws.{largest_of_is}
 use Rattle.order.specs.Order.{picture_ok}
-use Rattle.plan.specs.declared.tiling.Verdict.{Verdict}
+use Rattle.plan.specs.Answers.{Verdict}
 use Rattle.plan.specs.tiling.Tiling.{picture_of}
 use Rattle.samples.specs.deltas.Deltas.{residual_ok, residual_within}
 use Rattle.walk.specs.declared.checks.Still.{Still}
@@ -92,3 +93,6 @@ settle_zero found count done early = go (eqb early 0) (eqb found.no 0) (leb (don
     go true true false x y z e = absurd (omega arith)
     go true false c x y z e = absurd (eqb-false _ 0 y e)
     go false b c x y z e = absurd (eqb-false early 0 x e)
+
+-- what a loop that tests residuals rests on: its start, its turns, its end, and that a residual is read as it was stored
+pub ruleset passing = (pass_none, pass_more, pass_done, held)

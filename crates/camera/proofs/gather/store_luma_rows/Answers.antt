@@ -7,9 +7,9 @@ use Rattle.refs.specs.Served.{luma_inside, luma_made}
 use Rattle.camera.proofs.gather.store_luma_rows.Goals as goal
 
 pub store_plane_rows-requires : goal.store_plane_rows-requires
-store_plane_rows-requires c = (luma_inside (samples_of c.args.plane.now) c.args.geo c.requires.0 c.requires.1, c.requires.2)
+store_plane_rows-requires c = (luma_inside (samples_of c.args.plane.now) c.args.geo c.requires.0 c.requires.1 c.requires.2, c.requires.3)
 
 pub returns : goal.returns
 returns c = c.store_plane_rows.ensures
     ∙ ap (λ (v : Rows). rows_at 0 v c.args.out.now)
-    (luma_made (samples_of c.args.plane.now) c.args.geo c.requires.0 c.requires.1 c.neutral_of-neutral.ensures refl)
+    (luma_made (samples_of c.args.plane.now) c.args.geo c.requires.0 c.requires.1 c.requires.2 c.neutral_of-neutral.ensures refl)

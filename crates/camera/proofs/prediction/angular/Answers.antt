@@ -1,35 +1,21 @@
--- `prediction::angular` meets its contract: the number, then the work. Rests on `predict_bytes`.
-use mathlib.Core.Path.{◌≡◌, sym, ◌∙◌}
-use mathlib.Core.Bool.{true}
-use native.Mathlib.Omega.{arith}
-use lib.Dec.{leb}
-use lib.ListN.{length}
-use borrow.Author.Tests.{leb-true}
+-- `prediction::angular` meets its contract. Rests on `by_mode`.
+use Rattle.std.proofs.Common.{◌∙◌, leb-true}
+use Rattle.std.specs.Prelude.{leb}
 use Rattle.laws.specs.Choose.{both_true}
 use Rattle.domain.specs.Domain.{mode_ok}
-use Rattle.predict.specs.by_mode.Door.{Predictable, highest}
-use Rattle.camera.specs.Written.{done, refused}
-use Rattle.camera.specs.prediction.Entries.{angular_entry, angular_mode}
-use Rattle.camera.specs.prediction.Checks.{HasRoom, mode_fit}
+use Rattle.camera.specs.Written.{same_entry}
+use Rattle.camera.specs.prediction.Entries.{angular_entry}
+use Rattle.camera.specs.prediction.Checks.{mode_taken}
 use Rattle.camera.specs.prediction.Blocks.{angular_asked}
 use Rattle.camera.proofs.prediction.angular.Goals as goal
-use Rattle.camera.proofs.prediction.angular.Goals.{Then-no-eq0}
 
-served : (c : Then-no-eq0) → let a = c.args in Predictable a.bits a.n a.mode × (HasRoom a.n (length a.above.now) (length a.left.now) (length a.out.now) × (angular_mode a.mode ≡ true))
-served c = let m = c.args.mode in mode_fit _ _ _ m _ _ _ (angular_mode m) (λ s. omega arith) (λ t. (both_true (leb 2 m) (mode_ok m) t).1) (sym c.mode_entry_no-no.ensures ∙ c.if-no-eq0.true)
+pub by_mode-requires : goal.by_mode-requires
+by_mode-requires c = let m = c.args.mode in λ t. (both_true (leb 2 m) (mode_ok m) t).1
 
-pub overflow_cast-mode : goal.overflow_cast-mode
-overflow_cast-mode c = omega (arith, highest (served (goal.at.overflow_cast-mode c).Then-no-eq0).0)
-
-pub predict_bytes-requires : goal.predict_bytes-requires
-predict_bytes-requires c = let s = served (goal.at.predict_bytes-requires c).Then-no-eq0 in (s.0, s.1.0)
-
-pub returns-then-no-eq0 : goal.returns-then-no-eq0
+pub returns : goal.returns
 unfolding angular_entry
-returns-then-no-eq0 c = let a = c.args in
-    done _ _ _ c.mode_entry_no-no.ensures c.if-no-eq0.true (c.predict_bytes.ensures ∙ angular_asked a.n a.above.now a.left.now a.out.now a.bits a.mode a.corner _
-    (leb-true 2 a.mode (both_true (leb 2 a.mode) (mode_ok a.mode) (served (goal.at.returns-then-no-eq0 c).Then-no-eq0).1.1).0))
-
-pub returns-else-no-eq0 : goal.returns-else-no-eq0
-unfolding angular_entry
-returns-else-no-eq0 c = refused _ _ _ c.mode_entry_no-no.ensures c.if-no-eq0.false
+returns c = let a = c.args in
+    c.by_mode.ensures
+    ∙ same_entry _ _ _ a.out.now
+    (λ z. angular_asked a.n a.above.now a.left.now a.out.now a.bits a.mode a.corner _
+    (leb-true 2 a.mode (both_true (leb 2 a.mode) (mode_ok a.mode) (mode_taken _ _ _ _ _ _ _ z)).0))

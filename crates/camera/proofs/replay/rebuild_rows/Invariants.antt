@@ -1,14 +1,13 @@
-use Prim.Native.Nat.{ℕ, ◌+◌, ◌*◌, ◌-◌, ◌≤◌}
-use mathlib.Core.Path.{◌≡◌}
-use lib.ListN.{length, get_or}
-use lib.IntN.{pos, ◌+ℤ◌}
+use Rattle.std.proofs.Common.{◌≡◌, ℕ, ◌+◌, ◌*◌, get_or}
+use Rattle.std.specs.Prelude.{pos, ◌+ℤ◌}
 use Rattle.laws.specs.Paint.{paint}
 use Rattle.h265.specs.Notation.{clip_to}
 use Rattle.octets.specs.Bytes.{samples_of, residuals_of}
 use Rattle.camera.proofs.replay.rebuild_rows.Given as goal
 
 abbrev pub invariant-loop-r : goal.invariant-loop-r
-invariant-loop-r l = (l.r ≤ l.n) × ((length l.plane ≡ length l.initial.plane) × (samples_of l.plane ≡ paint l.base l.width l.n (λ (i j : ℕ). clip_to l.largest (pos (get_or l.pred (i * l.n + j) 0) +ℤ get_or (residuals_of l.residuals) (l.at + i * l.n + j) (pos 0))) l.r (samples_of l.initial.plane)))
-
-abbrev pub decreases-loop-r : goal.decreases-loop-r
-decreases-loop-r l = l.n - l.r
+invariant-loop-r l =
+    samples_of l.plane
+    ≡ paint l.base l.width l.n
+    (λ (i j : ℕ). clip_to l.largest (pos (get_or l.pred (i * l.n + j) 0) +ℤ get_or (residuals_of l.residuals) (l.at + i * l.n + j) (pos 0)))
+    l.r (samples_of l.initial.plane)

@@ -1,10 +1,9 @@
 -- `pairs::pairs_of` meets its contract: the pairs passed are there. Assumes nothing.
 use Rattle.octets.specs.pairs.Words.{paired_none, paired_more}
-use borrow.Author.Rules.{rules}
 use Rattle.octets.proofs.pairs.pairs_of.Goals as goal
 
 pub loop-i-init : goal.loop-i-init
-loop-i-init c = (search rules, (search rules, paired_none _ _))
+loop-i-init c = paired_none _ _
 
 pub loop-i-preserved : goal.loop-i-preserved
-loop-i-preserved c = (search rules, (search rules, paired_more _ _ c.loop-i.invariant.1.1 c.pair_of.ensures.0 c.pair_of.ensures.1))
+loop-i-preserved c = paired_more _ _ c.loop-i.invariant c.pair_of.ensures.0 c.pair_of.ensures.1

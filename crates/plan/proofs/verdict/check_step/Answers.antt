@@ -1,23 +1,16 @@
--- `verdict::check_step` meets its contract: a turn of the check's loop. A block that is not refused tells that the sums fit.
-use mathlib.Core.Path.{sym, ◌∙◌}
-use native.Mathlib.Omega.{arith}
-use borrow.Author.Tests.{eq-eqb, ne_eqb}
-use Rattle.plan.specs.verdict.Standing.{check_block, check_step, step_fits}
+-- `verdict::check_step` meets its contract: a turn of the check. A block that is not refused tells that the sums fit.
+use Rattle.std.proofs.Common.{sym, arith, ne_eqb}
+use Rattle.domain.specs.Refused.{never_0}
+use Rattle.plan.specs.verdict.Standing.{check_block, step_fits}
 use Rattle.plan.proofs.verdict.check_step.Goals as goal
 
-pub returns-then-t-ne0 : goal.returns-then-t-ne0
-unfolding check_step
-returns-then-t-ne0 c = simp (ne_eqb _ _ c.if-t-ne0.true)
-
-pub returns-then-no-ne0 : goal.returns-then-no-ne0
-unfolding check_step check_block
-returns-then-no-ne0 c = simp (eq-eqb _ _ c.if-t-ne0.false, sym c.block_no-no.ensures, ne_eqb _ _ c.if-no-ne0.true)
-
 pub overflow_add-result : goal.overflow_add-result
-overflow_add-result c = let g = (c.requires c.if-t-ne0.false).0 in
-    let p = step_fits g _ _ (sym c.block_no-no.ensures ∙ c.if-no-ne0.false) in
-    record { fits = omega (arith, p) }
+overflow_add-result c = record { fits = omega (arith, step_fits c.requires.0 c.args.b c.args.covered (sym c.in-Ok.ensures)) }
 
-pub returns : goal.returns
-unfolding check_step check_block
-returns c = simp (eq-eqb _ _ c.if-t-ne0.false, eq-eqb _ _ (sym c.block_no-no.ensures ∙ c.if-no-ne0.false))
+pub returns-in-Ok : goal.returns-in-Ok
+unfolding check_block
+returns-in-Ok c = simp (← c.in-Ok.ensures)
+
+pub returns-in-Err : goal.returns-in-Err
+unfolding check_block
+returns-in-Err c = simp (← c.in-Err.ensures, ne_eqb _ 0 (never_0 c.in-Err.why))

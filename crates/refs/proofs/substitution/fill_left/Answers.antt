@@ -1,21 +1,25 @@
 -- The left row from its far end. Assumes nothing.
-use native.Mathlib.Omega.{arith}
+use Rattle.std.proofs.Common.{◌≡◌, ◌+◌, ◌-◌, subst, ℕ, arith}
 use Rattle.refs.specs.substitution.Line.{carried_start, carried_done}
 use Rattle.refs.specs.substitution.FarEnd.{down_none, down_all}
-use Rattle.refs.specs.substitution.InPlace.{left_turn}
+use Rattle.refs.specs.substitution.InPlace.{LeftSoFar, left_turn}
 use Rattle.refs.proofs.substitution.fill_left.Goals as goal
 
-pub loop-p-init : goal.loop-p-init
-loop-p-init c = (omega arith, (carried_start _ _ _, down_none _ _ _))
+pub loop-i-init : goal.loop-i-init
+loop-i-init c = let a = c.args in
+    let begun : 0 ≡ a.e - a.e = omega arith in
+    subst (λ (k : ℕ). LeftSoFar a.has.now a.row.now a.e a.start k a.start a.row.now) begun (carried_start _ _ _, down_none _ _ _)
 
-pub loop-p-preserved : goal.loop-p-preserved
-loop-p-preserved c = let k = c.loop-p in
-    let a = c.args in (
-      omega arith,
-      left_turn a.has.now a.start a.row.now a.e k.p (omega arith) k.invariant.1.0 k.invariant.1.1
-          c.settle_at-carried.ensures.0 c.settle_at-carried.ensures.1,
-    )
+pub loop-i-preserved : goal.loop-i-preserved
+loop-i-preserved c = let a = c.args in
+    let k = c.loop-i in
+    let on : a.e - k.i + 1 ≡ a.e - (k.i - 1) = omega arith in
+    subst (λ (p : ℕ). LeftSoFar a.has.now a.row.now a.e a.start p c.settle_at-carried.result c.settle_at-carried.new.row) on
+    (left_turn a.has.now a.start a.row.now a.e k.i k.auto.i k.invariant c.settle_at-carried.ensures.0 c.settle_at-carried.ensures.1)
 
-pub returns : goal.returns
-returns c = let k = c.loop-p in
-    (carried_done _ _ _ k.invariant.0 (omega arith) k.invariant.1.0, down_all _ _ _ k.invariant.0 (omega arith) k.invariant.1.1)
+pub returns-2 : goal.returns-2
+returns-2 c = let a = c.args in
+    let k = c.loop-i in
+    let e = c.settle_at-carried.ensures in
+    let all = left_turn a.has.now a.start a.row.now a.e k.i k.auto.i k.invariant e.0 e.1 in
+    (carried_done _ _ _ (omega arith) (omega arith) all.0, down_all _ _ _ (omega arith) (omega arith) all.1)

@@ -1,4 +1,4 @@
-use Prim.Native.Nat.{ℕ, ◌+◌, ◌-◌, ◌*◌, ◌≤◌}
+use Prim.Native.Nat.{ℕ, ◌+◌, ◌*◌}
 use mathlib.Core.Path.{◌≡◌}
 use lib.ListN.{replicate}
 use Rattle.laws.specs.Fill.{fill}
@@ -6,9 +6,4 @@ use Rattle.laws.specs.Bytes.{le_at}
 use Rattle.report.proofs.file.read_samples.Given as goal
 
 abbrev pub invariant-loop-i : goal.invariant-loop-i
-invariant-loop-i l =
-    (l.i ≤ l.many) × (l.start ≡ l.at)
-    × (l.source ≡ fill (λ (j : ℕ). le_at 2 l.b (l.at + 2 * j)) l.i (replicate 8192 0))
-
-abbrev pub decreases-loop-i : goal.decreases-loop-i
-decreases-loop-i l = l.many - l.i
+invariant-loop-i l = l.source ≡ fill (λ (j : ℕ). le_at 2 l.b (l.at + 2 * j)) l.i (replicate 8192 0)

@@ -1,10 +1,7 @@
--- `sums::agrees` meets its contract. The loop's invariant: the flag says whether the samples passed are the same.
-use borrow.Author.Rules.{rules}
-use Rattle.report.specs.sums.Laws.{agree_none, agree_more}
+-- `sums::agrees` meets its contract: the slices' `==` is the comparison entry by entry.
+use Rattle.std.proofs.Common.{◌∙◌}
+use Rattle.report.specs.sums.Laws.{agree_all}
 use Rattle.report.proofs.sums.agrees.Goals as goal
 
-pub loop-i-init : goal.loop-i-init
-loop-i-init c = (search rules, agree_none _ _)
-
-pub loop-i-preserved : goal.loop-i-preserved
-loop-i-preserved c = (search rules, agree_more _ _ _ c.loop-i.invariant.1)
+pub returns : goal.returns
+returns c = c.eq.ensures ∙ agree_all _ _ c.requires

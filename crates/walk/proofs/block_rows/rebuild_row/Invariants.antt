@@ -1,13 +1,10 @@
-use Prim.Native.Nat.{ℕ, ◌+◌, ◌-◌, ◌≤◌}
-use mathlib.Core.Path.{◌≡◌}
-use lib.ListN.{length, get_or}
-use lib.IntN.{pos, ◌+ℤ◌}
+use Rattle.std.proofs.Common.{◌≡◌, ℕ, ◌+◌, get_or}
+use Rattle.std.specs.Prelude.{pos, ◌+ℤ◌}
 use Rattle.laws.specs.Fill.{run}
 use Rattle.h265.specs.Notation.{clip_to}
 use Rattle.walk.proofs.block_rows.rebuild_row.Given as goal
 
 abbrev pub invariant-loop-c : goal.invariant-loop-c
-invariant-loop-c l = (l.c ≤ l.n) × ((length l.plane ≡ length l.initial.plane) × (l.plane ≡ run (λ (j : ℕ). clip_to l.largest (pos (get_or l.pred (l.from + j) 0) +ℤ get_or l.residuals (l.at + j) (pos 0))) l.base l.c l.initial.plane))
-
-abbrev pub decreases-loop-c : goal.decreases-loop-c
-decreases-loop-c l = l.n - l.c
+invariant-loop-c l =
+    l.plane ≡ run (λ (j : ℕ). clip_to l.largest (pos (get_or l.pred (l.from + j) 0) +ℤ get_or l.residuals (l.at + j) (pos 0))) l.base l.c
+    l.initial.plane

@@ -1,11 +1,10 @@
 -- `block_rows::rebuild_rows` meets its contract. The loop's invariant: the rows passed are stored. Rests on `rebuild_row`.
-use mathlib.Core.Path.{◌∙◌}
+use Rattle.std.proofs.Common.{◌∙◌}
 use Rattle.laws.specs.Paint.{paint_none, paint_more}
-use borrow.Author.Rules.{rules}
 use Rattle.walk.proofs.block_rows.rebuild_rows.Goals as goal
 
 pub loop-r-init : goal.loop-r-init
-loop-r-init c = (search rules, (search rules, paint_none _ _ _ _ _))
+loop-r-init c = paint_none _ _ _ _ _
 
 pub loop-r-preserved : goal.loop-r-preserved
-loop-r-preserved c = (search rules, (search rules, c.rebuild_row.ensures ∙ paint_more _ _ _ _ _ c.loop-r.r c.loop-r.invariant.1.1))
+loop-r-preserved c = c.rebuild_row.ensures ∙ paint_more _ _ _ _ _ c.loop-r.r c.loop-r.invariant

@@ -1,13 +1,8 @@
-use mathlib.Core.Path.{◌≡◌}
-use Prim.Native.Nat.{◌-◌, ◌≤◌}
-use lib.ListN.{length}
-use lib.IntN.{pos}
+use Rattle.std.proofs.Common.{◌≡◌}
+use Rattle.std.specs.Prelude.{pos}
 use Rattle.samples.specs.deltas.Deltas.{residual_within}
 use Rattle.laws.specs.Every.{pass_to}
 use Rattle.walk.proofs.checks.residuals_within.Given as goal
 
-abbrev pub invariant-loop-i : goal.invariant-loop-i
-invariant-loop-i l = (l.i ≤ length l.residuals) × (l.ok ≡ pass_to (residual_within l.limit) (pos 0) l.residuals l.i)
-
-abbrev pub decreases-loop-i : goal.decreases-loop-i
-decreases-loop-i l = length l.residuals - l.i
+abbrev pub invariant-loop-residual : goal.invariant-loop-residual
+invariant-loop-residual l = l.ok ≡ pass_to (residual_within l.limit) (pos 0) l.residuals l.residual-index

@@ -1,7 +1,0 @@
--- The sample at two bytes. Assumes nothing.
-use Rattle.std.proofs.Common.{sym, refl, ◌∙◌}
-use Rattle.octets.specs.Laws.{sample-at}
-use Rattle.checksum.proofs.on_bytes.sample_at.Goals as goal
-
-pub returns : goal.returns
-returns c = c.sample.ensures ∙ sym (sample-at _ _ _ refl c.requires)
