@@ -67,7 +67,12 @@ fn row_squares<S: Samples>(a: S, b: S, at: usize, n: usize) -> u32
 {
     let mut sum = 0;
     for i in 0..n {
-        sum += square_apart(a.sample(at + i), b.sample(at + i));
+        let place = at + i;
+        // proved, and said to the compiler, so that no place is tested
+        if (place >= a.count()) | (place >= b.count()) {
+            unreachable!();
+        }
+        sum += square_apart(a.sample(place), b.sample(place));
     }
     sum
 }
