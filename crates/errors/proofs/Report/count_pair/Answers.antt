@@ -8,7 +8,7 @@ use Rattle.errors.specs.declared.Report.{Report}
 use Rattle.errors.specs.Errors.{plane_area, counted_by}
 use Rattle.errors.specs.Served.{RoomFor, pair_of, countable}
 use Rattle.errors.specs.Blocks.{with_block, with_first}
-use Rattle.errors.proofs.Turns.{first_none, turn_roomy, turn_with}
+use Rattle.errors.proofs.Turns.{first_none, turn_room, turn_first}
 use Rattle.errors.proofs.Report.count_pair.Goals as goal
 
 pub loop-k-init : goal.loop-k-init
@@ -28,13 +28,15 @@ pub add_block-requires : goal.add_block-requires
 add_block-requires g c =
     subst (λ (r : Report). RoomFor r.blocks r.samples r.squares c.block-t.result c.block_squares-squares.result)
     (sym c.loop-k.invariant.1)
-    (turn_roomy c.loop-k.invariant.0 (search rules) (omega (arith, c.loop-k-test.true, c.count-k-end.ensures)) c.block-t.ensures c.block_squares-squares.ensures)
+    (turn_room c.loop-k.invariant.0 (search rules) (omega (arith, c.loop-k-test.true, c.count-k-end.ensures)) c.block-t.ensures
+    c.block_squares-squares.ensures)
 
 pub loop-k-preserved : goal.loop-k-preserved
 loop-k-preserved g c = (
   c.loop-k.invariant.0,
   c.add_block.ensures ∙ ap (λ (r : Report). with_block r c.block-t.result c.block_squares-squares.result) c.loop-k.invariant.1
-      ∙ turn_with c.loop-k.invariant.0 (search rules) (omega (arith, c.loop-k-test.true, c.count-k-end.ensures)) c.block-t.ensures c.block_squares-squares.ensures,
+      ∙ turn_first c.loop-k.invariant.0 (search rules) (omega (arith, c.loop-k-test.true, c.count-k-end.ensures)) c.block-t.ensures
+      c.block_squares-squares.ensures,
 )
 
 pub overflow_add-next : goal.overflow_add-next
