@@ -54,15 +54,14 @@ fn stretch_sum<S: Samples>(plane: S, at: usize, x: u16, count: u16, y: u16, wide
         × (result ≤ count * 510) }
 {
     let from = at + (x as usize);
+    // never so: it tells the compiler that no place in the loop is past the end
+    if from + (count as usize) > plane.count() {
+        return 0;
+    }
     let mut sum = 0;
     for i in 0..count {
-        let place = from + (i as usize);
-        // proved, and said to the compiler, so that no place is tested
-        if place >= plane.count() {
-            unreachable!();
-        }
         let mask = xor_mask(x + i, y);
-        let more = added_by(plane.sample(place), mask, wide);
+        let more = added_by(plane.sample(from + (i as usize)), mask, wide);
         sum += more;
     }
     sum

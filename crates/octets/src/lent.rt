@@ -61,7 +61,11 @@ impl<'a> Samples for &'a [u8] {
 
     #[tactic(auto, using(crate::specs::Laws::length_samples))]
     fn sample(self, i: usize) -> u16 {
-        if i < self.len() / 2 { crate::sample(self[2 * i], self[2 * i + 1]) } else { 0 }
+        if i < self.len() / 2 {
+            crate::sample(self[2 * i], self[2 * i + 1])
+        } else {
+            0
+        }
     }
 
     fn exactly(self, samples: usize) -> bool {
