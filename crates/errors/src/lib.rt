@@ -266,6 +266,7 @@ impl Report {
     }
 
     // The checks on a pair: those before the plan's, then the plan's, then 15.
+    #[tactic(auto, using(crate::proofs::Counted::checked), unfolding(crate::specs::Errors::settle_full))]
     #[inline(always)]
     fn check_pair<S: Samples, P: Blocks>(self, a: S, b: S, plan: P) -> Result<(), Fault>
         ensures { verdict_of result ≡ pair_verdict self (S.exactly a (plane_area self) && S.exactly b (plane_area self))
@@ -277,6 +278,7 @@ impl Report {
     }
 
     // Counts a pair of planes under a plan, in whatever form they are lent: unless it is refused, its blocks, each under its mode.
+    #[tactic(auto, using(crate::proofs::Counted::handed_back, domain::specs::Refused::never_0))]
     #[inline(always)]
     pub(crate) fn count_pair<S: Plane, P: Blocks>(
         self,
