@@ -54,6 +54,10 @@ fn stretch_sum<S: Samples>(plane: S, at: usize, x: u16, count: u16, y: u16, wide
         × (result ≤ count * 510) }
 {
     let from = at + (x as usize);
+    // never so: it tells the compiler that no place in the loop is past the end
+    if from + (count as usize) > plane.count() {
+        return 0;
+    }
     let mut sum = 0;
     for i in 0..count {
         let mask = xor_mask(x + i, y);

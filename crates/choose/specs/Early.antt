@@ -6,16 +6,17 @@ use Rattle.std.proofs.Math.Path.{refl, sym, ap}
 use Rattle.std.proofs.Common.{subst, ◌∙◌, true≢false, zero-add, add_assoc, add-mul, suc-mul, mul-le-mul_right}
 use Rattle.std.proofs.Math.Bool.{true}
 use Rattle.std.proofs.lemmas.Bool.{false≢true}
-use Prim.Native.Nat.{ℕ, zero, suc, ◌+◌, ◌-◌, ◌*◌, ◌≤◌, ◌<◌}
+use Prim.Native.Nat.{ℕ, zero, suc, ◌+◌, ◌-◌, ◌*◌, ◌%◌, ◌≤◌, ◌<◌}
 use Rattle.std.proofs.Math.Nat.{zero-mul}
 use native.Mathlib.Omega.{arith}
-use borrow.Author.Tests.{ne_eqb, lt-ltb}
+use borrow.Author.Tests.{le-leb, ne_eqb, lt-ltb}
 use Rattle.laws.specs.Fill.{rows}
 use Rattle.laws.specs.FillLaws.{rows_at, length_run}
 use Rattle.laws.specs.Sum.{total, total_none, total_join, total_same}
 use Rattle.domain.specs.Domain.{size_ok}
 use Rattle.domain.specs.Facts.{Size, at_size, size_small}
 use Rattle.h265.specs.Notation.{from_rows}
+use Rattle.predict.specs.refusals.Refusals.{refs_no, rows_no}
 use Rattle.predict.specs.angular.Parts.{laid_refs, laid_at, laid_angular}
 use Rattle.predict.specs.modes.Modes.{predicted_by_mode}
 use Rattle.choose.specs.Choose.{apart, differences, source_at}
@@ -44,6 +45,32 @@ up_to_same limit e u = record { within = omega (arith, u.within, e); all = λ h.
 pub up_to_below : (early : Bool) (best : ℕ) {whole part : ℕ} → UpTo (then_some early best) whole part → part < best → part ≡ whole
 up_to_below true best u l = u.all l
 up_to_below false best u l = u.all tt
+
+-- The same of a limit and a bool that says whether there is one: what is added up of a sum, where it may be dropped early once it is no
+-- longer below the limit. It says what `UpTo (then_some early limit)` says, by the two laws after it.
+pub record UpToIf (early : Bool) (limit whole part : ℕ) : Type 0 where
+  pub within : part ≤ whole
+  pub all : (early ≡ true → part < limit) → part ≡ whole
+
+pub up_to_if : (early : Bool) (limit : ℕ) {whole part : ℕ} → UpTo (then_some early limit) whole part → UpToIf early limit whole part
+up_to_if true limit u = record { within = u.within; all = λ h. u.all (h refl) }
+up_to_if false limit u = record { within = u.within; all = λ h. u.all tt }
+
+pub up_to_then : (early : Bool) (limit : ℕ) {whole part : ℕ} → UpToIf early limit whole part → UpTo (then_some early limit) whole part
+up_to_then true limit u = record { within = u.within; all = λ l. u.all (λ t. l) }
+up_to_then false limit u = record { within = u.within; all = λ l. u.all (λ t. absurd (false≢true t)) }
+
+-- of it too: a sum that was dropped before anything was added up
+pub up_to_none_if : (early : Bool) (limit whole : ℕ) → early ≡ true → limit ≡ 0 → UpToIf early limit whole 0
+up_to_none_if early limit whole t e = up_to_if early limit (up_to_none early limit whole t e)
+
+-- one that may be
+pub up_to_early_if : (early : Bool) (limit whole s : ℕ) → early ≡ true → UpToIf true limit whole s → UpToIf early limit whole s
+up_to_early_if early limit whole s t u = up_to_if early limit (up_to_early early limit whole s t (up_to_then true limit u))
+
+-- the same of a number that is the same
+pub up_to_same_if : (early : Bool) (limit : ℕ) {v w s : ℕ} → v ≡ w → UpToIf early limit v s → UpToIf early limit w s
+up_to_same_if early limit e u = up_to_if early limit (up_to_same (then_some early limit) e (up_to_then early limit u))
 
 module _ (f : ℕ → ℕ) (n : ℕ) where
   -- f a + .. + f (n - 1)
@@ -84,6 +111,10 @@ module _ (f : ℕ → ℕ) (n : ℕ) where
         within = omega (arith, e, tail_part a h);
         all = λ l. e ∙ ap tail (z l) ∙ tail_whole;
       }
+
+  -- the same, where a bool says that there is a limit
+  pub tail_done_if : (limit a s : ℕ) → a ≤ n → s ≡ tail a → (s < limit → a ≡ 0) → UpToIf true limit (total f n) s
+  tail_done_if limit a s h e z = up_to_if true limit (tail_done limit a s h e z)
 
 -- a row of a block whose sample in row y and column x is g y x: its sum of absolute differences
 unfoldable pub row_apart : ℕ → List ℕ → (ℕ → ℕ → ℕ) → ℕ → ℕ
@@ -133,6 +164,74 @@ group_sum n first k source g d h =
 
 of_size : {n : ℕ} → Size n → size_ok n ≡ true
 of_size {n} s = at_size (λ (m : ℕ). size_ok m ≡ true) refl refl refl refl n s
+
+-- What adding up from the last rows asks for, of any numbers: a block of more than eight rows, a vertical mode that is not 26, whose edge
+-- is filtered, and enough of all that is lent: a entries above, l to the left, s of the source, p of the buffer, r of references.
+pub record UpwardOf (n mode a l s p r : ℕ) : Type 0 where
+  pub size : Size n
+  pub wide : 8 < n
+  pub low : 18 ≤ mode
+  pub high : mode ≤ 34
+  pub bent : mode ≡ 26 → ⊥
+  pub above : 65 ≤ a
+  pub left : 65 ≤ l
+  pub source : n * n ≤ s
+  pub room : n * n ≤ p
+  pub refs : 193 ≤ r
+
+module _ {n mode a l s p r : ℕ} (u : UpwardOf n mode a l s p r) where
+  -- neither the references nor the rows are refused
+  pub refs_serve_of : refs_no n mode a l r ≡ 0
+  unfolding refs_no
+  refs_serve_of =
+      let h = size_small n u.size in
+      let b = u.above in
+      let c = u.left in
+      rw (
+        of_size u.size,
+        le-leb 18 mode u.low,
+        le-leb mode 34 u.high,
+        le-leb (2 * n) a (omega arith),
+        le-leb (2 * n) l (omega arith),
+        le-leb 193 r u.refs,
+      )
+
+  pub rows_serve_of : (first end : ℕ) → first ≤ end → end ≤ n → rows_no n mode first end a r p ≡ 0
+  unfolding rows_no
+  rows_serve_of first end h k =
+      let z = size_small n u.size in
+      let b = u.above in
+      rw (
+        of_size u.size,
+        le-leb 18 mode u.low,
+        le-leb mode 34 u.high,
+        le-leb (2 * n) a (omega arith),
+        le-leb 193 r u.refs,
+        le-leb (n * n) p u.room,
+        le-leb first end h,
+        le-leb end n k,
+      )
+
+  -- eight rows at a time come to row 0
+  pub by_eights_of : n % 8 ≡ 0
+  by_eights_of =
+      at_size (λ (m : ℕ). 8 < m → m % 8 ≡ 0) (λ h. absurd (omega arith)) (λ h. refl) (λ h. refl) (λ h. refl) n u.size u.wide
+
+  -- where others of the same lengths are lent
+  pub as_lent_of : {p' r' : ℕ} → p' ≡ p → r' ≡ r → UpwardOf n mode a l s p' r'
+  as_lent_of e f =
+      record {
+        size = u.size;
+        wide = u.wide;
+        low = u.low;
+        high = u.high;
+        bent = u.bent;
+        above = u.above;
+        left = u.left;
+        source = u.source;
+        room = omega (arith, u.room, e);
+        refs = omega (arith, u.refs, f);
+      }
 
 -- no row is left where the sum is below the limit still
 pub none_left : (first : ℕ) (below : Bool) → below ≡ true → (ltb 0 first && below) ≡ false → first ≡ 0

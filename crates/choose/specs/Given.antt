@@ -1,13 +1,12 @@
 -- What a search is given, as contracts name it. Rests on the sum of a mode.
-use Rattle.std.specs.Prelude.{◌≡◌, refl, ℕ, ◌*◌, ◌%◌, ◌≤◌, ◌<◌, length}
-use Rattle.std.proofs.Math.Bool.{true}
+use Rattle.std.specs.Prelude.{◌≡◌, true, ℕ, ◌*◌, ◌%◌, ◌≤◌, ◌<◌, length}
 use Rattle.std.proofs.Common.{arith}
-use borrow.Author.Tests.{le-leb}
-use Rattle.domain.specs.Facts.{Size, size_of, at_size, size_small}
+use Rattle.domain.specs.Facts.{Size, size_of}
 use Rattle.h265.specs.Notation.{Neighbours, from_rows}
 use Rattle.predict.specs.refusals.Refusals.{refs_no, rows_no}
 use Rattle.predict.specs.modes.Modes.{predicted_by_mode}
 use Rattle.choose.specs.Choose.{differences, source_at, mode_sum}
+use Rattle.choose.specs.Early.{UpwardOf, refs_serve_of, rows_serve_of, by_eights_of}
 use Rattle.choose.specs.declared.Border.{Border}
 use Rattle.choose.specs.declared.Trial.{Trial}
 use Rattle.choose.specs.declared.Search.{Search}
@@ -38,42 +37,33 @@ module _ {t : Trial} {p r : ℕ} (u : Upward t p r) where
   pub side : Size t.block.n
   side = size_of t.block.n t.block.size
 
+  -- what is asked for, of a trial's numbers alone
+  pub upward_of : UpwardOf t.block.n t.mode (length t.border.above.now) (length t.border.left.now) (length t.block.samples.now) p r
+  upward_of =
+      record {
+        size = side;
+        wide = u.wide;
+        low = u.low;
+        high = t.known;
+        bent = u.bent;
+        above = t.border.long.0;
+        left = t.border.long.1;
+        source = t.block.room;
+        room = u.room;
+        refs = u.refs;
+      }
+
   -- neither the references nor the rows are refused
   pub refs_serve : refs_no t.block.n t.mode (length t.border.above.now) (length t.border.left.now) r ≡ 0
-  unfolding refs_no
-  refs_serve =
-      let h = size_small t.block.n side in
-      let b = t.border.long in
-      rw (
-        t.block.size,
-        le-leb 18 t.mode u.low,
-        le-leb t.mode 34 t.known,
-        le-leb (2 * t.block.n) (length t.border.above.now) (omega (arith, b.0, h)),
-        le-leb (2 * t.block.n) (length t.border.left.now) (omega (arith, b.1, h)),
-        le-leb 193 r u.refs,
-      )
+  refs_serve = refs_serve_of upward_of
 
   pub rows_serve : (first end : ℕ) → first ≤ end → end ≤ t.block.n
       → rows_no t.block.n t.mode first end (length t.border.above.now) r p ≡ 0
-  unfolding rows_no
-  rows_serve first end h k =
-      let z = size_small t.block.n side in
-      let b = t.border.long in
-      rw (
-        t.block.size,
-        le-leb 18 t.mode u.low,
-        le-leb t.mode 34 t.known,
-        le-leb (2 * t.block.n) (length t.border.above.now) (omega (arith, b.0, z)),
-        le-leb 193 r u.refs,
-        le-leb (t.block.n * t.block.n) p u.room,
-        le-leb first end h,
-        le-leb end t.block.n k,
-      )
+  rows_serve = rows_serve_of upward_of
 
   -- eight rows at a time come to row 0
   pub by_eights : t.block.n % 8 ≡ 0
-  by_eights =
-      at_size (λ (m : ℕ). 8 < m → m % 8 ≡ 0) (λ h. absurd (omega arith)) (λ h. refl) (λ h. refl) (λ h. refl) t.block.n side u.wide
+  by_eights = by_eights_of upward_of
 
   -- where others of the same lengths are lent
   pub as_lent : {p' r' : ℕ} → p' ≡ p → r' ≡ r → Upward t p' r'

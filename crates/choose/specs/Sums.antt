@@ -10,7 +10,7 @@ use Rattle.laws.specs.Fill.{block}
 use Rattle.laws.specs.FillLaws.{length_rows, rows_at}
 use Rattle.laws.specs.Sum.{total_same, total_turned}
 use Rattle.domain.specs.Facts.{Size, size_small}
-use Rattle.h265.specs.Notation.{Neighbours}
+use Rattle.h265.specs.Notation.{Neighbours, from_rows}
 use Rattle.h265.specs.Setting.{luma_at, first_edition_strong}
 use Rattle.h265.specs.Filtering.{min_dist_ver_hor, filter_flag, filtered}
 use Rattle.h265.specs.Prediction.{filters, prepared}
@@ -76,6 +76,17 @@ mirrored_sum bits n mode nb source turned s low high t =
 -- smoothed neighbours beside neighbours as they are: the standard's, as far as any mode asks for them
 pub record Smooths (bits n : ℕ) (nb smoothed : Neighbours) : Type 0 where
   pub smooth : (mode : ℕ) → filter_flag n mode ≡ true → Agree n smoothed (filtered true bits n nb)
+
+-- smoothed rows of 65 entries and more beside neighbours as they are: the standard's, as far as any mode asks for them
+pub record SmoothRows (bits n : ℕ) (nb : Neighbours) (corner : ℕ) (above left : List ℕ) : Type 0 where
+  pub above_long : 65 ≤ length above
+  pub left_long : 65 ≤ length left
+  pub smooth : (mode : ℕ) → filter_flag n mode ≡ true → Agree n (from_rows corner above left) (filtered true bits n nb)
+
+-- rows that are long enough, and that such neighbours are read from
+pub smooth_rows : (bits n : ℕ) (nb : Neighbours) (corner : ℕ) (above left : List ℕ) → 65 ≤ length above → 65 ≤ length left
+    → Smooths bits n nb (from_rows corner above left) → SmoothRows bits n nb corner above left
+smooth_rows bits n nb corner above left h k s = record { above_long = h; left_long = k; smooth = s.smooth }
 
 -- no mode of side 4 asks for them
 pub never_smoothed : (n mode : ℕ) → n ≡ 4 → filter_flag n mode ≡ true → ⊥

@@ -3,6 +3,7 @@
 #![tactic(auto)]
 
 pub mod on_bytes;
+mod plane;
 pub mod record;
 
 ghost use Rattle.std.specs.Prelude.{◌≡◌, ◌&&◌, ℕ, ◌+◌, ◌-◌, ◌*◌, ◌≤◌, ◌<◌, cond, length, get_or};
@@ -20,6 +21,7 @@ ghost use Rattle.errors.specs.Answers.{counted_of, whole_of};
 ghost use Rattle.domain.specs.Refusal.{no_of};
 ghost use Rattle.plan.specs.Answers.{verdict_of};
 
+use crate::plane::Plane;
 use domain::refusal::Refusal;
 use fmt::depth;
 use octets::lent;
@@ -58,7 +60,7 @@ fn square_apart(x: u16, y: u16) -> u32
 
 // The squares of a row of a block, whose first sample is `at`.
 #[tactic(auto, using(laws::specs::Sum::total_none, laws::specs::Sum::total_more))]
-fn row_squares<S: Samples>(a: S, b: S, at: usize, n: usize) -> u32
+fn row_squares<S: Plane>(a: S, b: S, at: usize, n: usize) -> u32
     requires within { (at + n ≤ length (S.list a)) × (at + n ≤ length (S.list b)) }
     requires small { (at ≤ 16781312) × (n ≤ 32) }
     requires low { SamplesLow (S.list a) × SamplesLow (S.list b) }
@@ -67,13 +69,13 @@ fn row_squares<S: Samples>(a: S, b: S, at: usize, n: usize) -> u32
 {
     let mut sum = 0;
     for i in 0..n {
-        sum += square_apart(a.sample(at + i), b.sample(at + i));
+        sum += square_apart(a.there(at + i), b.there(at + i));
     }
     sum
 }
 
 // The squares of the n rows of a block of side n.
-fn rows_squares<S: Samples>(a: S, b: S, width: u32, t: Block, n: usize) -> u64
+fn rows_squares<S: Plane>(a: S, b: S, width: u32, t: Block, n: usize) -> u64
     requires { (n ≡ t.side) × BlockPair (S.list a) (S.list b) width t }
     ensures { result ≡ squares_in (S.list a) (S.list b) width t }
 {
@@ -89,7 +91,7 @@ fn rows_squares<S: Samples>(a: S, b: S, width: u32, t: Block, n: usize) -> u64
 }
 
 // The squares of a block. Loops for each side, so that the compiler knows how long they are.
-fn block_squares<S: Samples>(a: S, b: S, width: u32, t: Block) -> u64
+fn block_squares<S: Plane>(a: S, b: S, width: u32, t: Block) -> u64
     requires { BlockPair (S.list a) (S.list b) width t }
     ensures { result ≡ squares_in (S.list a) (S.list b) width t }
 {
@@ -264,6 +266,7 @@ impl Report {
     }
 
     // The checks on a pair: those before the plan's, then the plan's, then 15.
+    #[tactic(auto, using(crate::proofs::Counted::checked), unfolding(crate::specs::Errors::settle_full))]
     #[inline(always)]
     fn check_pair<S: Samples, P: Blocks>(self, a: S, b: S, plan: P) -> Result<(), Fault>
         ensures { verdict_of result ≡ pair_verdict self (S.exactly a (plane_area self) && S.exactly b (plane_area self))
@@ -275,8 +278,9 @@ impl Report {
     }
 
     // Counts a pair of planes under a plan, in whatever form they are lent: unless it is refused, its blocks, each under its mode.
+    #[tactic(auto, using(crate::proofs::Counted::handed_back, domain::specs::Refused::never_0))]
     #[inline(always)]
-    pub(crate) fn count_pair<S: Samples, P: Blocks>(
+    pub(crate) fn count_pair<S: Plane, P: Blocks>(
         self,
         a: S,
         b: S,

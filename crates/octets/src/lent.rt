@@ -16,8 +16,8 @@ pub trait Samples: Copy {
     fn count(self) -> usize
         ensures { result ≡ length (list self) };
 
+    // A sample; 0 where there is none.
     fn sample(self, i: usize) -> u16
-        requires { i < length (list self) }
         ensures { result ≡ get_or (list self) i 0 };
 
     fn exactly(self, samples: usize) -> bool
@@ -38,7 +38,7 @@ impl<'a> Samples for &'a [u16] {
     }
 
     fn sample(self, i: usize) -> u16 {
-        self[i]
+        if i < self.len() { self[i] } else { 0 }
     }
 
     fn exactly(self, samples: usize) -> bool {
@@ -61,7 +61,11 @@ impl<'a> Samples for &'a [u8] {
 
     #[tactic(auto, using(crate::specs::Laws::length_samples))]
     fn sample(self, i: usize) -> u16 {
-        crate::sample(self[2 * i], self[2 * i + 1])
+        if i < self.len() / 2 {
+            crate::sample(self[2 * i], self[2 * i + 1])
+        } else {
+            0
+        }
     }
 
     fn exactly(self, samples: usize) -> bool {

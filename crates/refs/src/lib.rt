@@ -192,6 +192,8 @@ fn area(height: u32, width: u32) -> usize
     (height as usize) * (width as usize)
 }
 
+// Built into the gathers: as a call it copies the layout once more, and a gather takes more stack.
+#[inline(always)]
 pub fn luma_layout(geo: LumaRefGeometry) -> Layout
     ensures { laid result ≡ luma_layout geo }
 {

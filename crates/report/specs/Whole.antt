@@ -15,7 +15,7 @@ use Rattle.report.specs.declared.file.Trailer.{Trailer}
 use Rattle.report.specs.file.File.{trailer_of, area_of, regions_ok, file_ok, tabulated, source_of, block_in, plan_in}
 use Rattle.plan.specs.Answers.{Verdict}
 use Rattle.plan.specs.declared.tiling.Block.{Block}
-use Rattle.plan.specs.tiling.Plan.{Plan, listed, no_block}
+use Rattle.plan.specs.tiling.Plan.{Plan, plan_of, listed, no_block}
 use Rattle.plan.specs.tiling.Cover.{area as plan-area}
 use Rattle.walk.specs.declared.checks.Still.{Still}
 use Rattle.walk.specs.declared.Progress.{Progress}
@@ -28,6 +28,7 @@ use Rattle.walk.specs.Door.{stepped_by}
 use Rattle.walk.specs.Lent.{scratch_tables}
 use Rattle.report.specs.sums.Sums.{agree}
 use Rattle.report.specs.text.Text.{laid, refusal, ending}
+use Rattle.report.specs.text.Laid.{Laid}
 use Rattle.report.specs.declared.Printout.{Printout}
 use Rattle.report.specs.Told.{Job, still_in, job_of, none_done, zeros, blank, verdict, residuals, replayed_plane, lines, told}
 use Rattle.report.specs.Told.{printed, report_of}
@@ -38,6 +39,13 @@ pub record Blank (s : Still) (blocks : ℕ) (w : World) (plane : List ℕ) : Typ
   pub few : blocks ≤ 512
   pub world : w ≡ blank s
   pub plane_zero : plane ≡ zeros s
+
+-- the same, and room for the text in a buffer
+pub record BlankRoom (s : Still) (blocks : ℕ) (w : World) (plane : List ℕ) (room : ℕ) : Type 0 where
+  pub few : blocks ≤ 512
+  pub world : w ≡ blank s
+  pub plane_zero : plane ≡ zeros s
+  pub roomy : 65536 ≤ room
 
 -- a call's number is its verdict's, and so is a refused call's block
 stepped_no : (v : Verdict) (plan : Plan) (p : Progress) (grant : ℕ) → (stepped_by v plan p grant).no ≡ v.no
@@ -149,20 +157,30 @@ fill_room f k m n z {d} e h = omega (arith, ap length e ∙ length_fill f k (rep
 take_zeros : {A : Type 0} (n m : ℕ) (z : A) → n ≤ m → take n (replicate m z) ≡ replicate n z
 take_zeros n m z h = take-replicate n m z h
 
-pub blank_part : {f : List ℕ} (s : Still) (t : Trailer) (n blocks : ℕ) → GoodFile f t → s ≡ still_in t → n ≡ area_of t → blocks ≡ t.blocks
-    → let plane : List ℕ = take n (replicate 8192 0) in
-    Blank s blocks (record { work = plane; residuals = take n (replicate 8192 (pos 0)) }) plane
-blank_part s t n blocks h i m k =
+-- so what the program lends is blank, with room for the text or without
+pub blank_part : {f : List ℕ} (s : Still) (t : Trailer) (n blocks : ℕ) (d e : List ℕ) (v : List ℤ) → GoodFile f t → s ≡ still_in t
+    → n ≡ area_of t → blocks ≡ t.blocks
+    → d ≡ replicate 8192 0 → v ≡ replicate 8192 (pos 0) → e ≡ replicate 8192 0
+    → Blank s blocks (record { work = take n d; residuals = take n v }) (take n e)
+blank_part s t n blocks d e v h i m k p q u =
     let l : n ≤ 8192 = omega (arith, h.samples_few) in
     let g : n ≡ s.frame.height * s.frame.width = m ∙ sym (ap (λ (x : Still). x.frame.height * x.frame.width) i) in
-    let a : take n (replicate 8192 0) ≡ zeros s = take-replicate n 8192 0 l ∙ ap (λ (x : ℕ). replicate x 0) g in
-    let b : take n (replicate 8192 (pos 0)) ≡ (blank s).residuals = take-replicate n 8192 (pos 0) l
-    ∙ ap (λ (x : ℕ). replicate x (pos 0)) g in
-    record { few = omega (arith, k, h.blocks_few); world = λ x. record { work = a x; residuals = b x }; plane_zero = a }
+    let a : take n d ≡ zeros s = ap (take n) p ∙ take_zeros n 8192 0 l ∙ ap (λ (x : ℕ). replicate x 0) g in
+    let b : take n v ≡ (blank s).residuals = ap (take n) q ∙ take_zeros n 8192 (pos 0) l ∙ ap (λ (x : ℕ). replicate x (pos 0)) g in
+    let c : take n e ≡ zeros s = ap (take n) u ∙ take_zeros n 8192 0 l ∙ ap (λ (x : ℕ). replicate x 0) g in
+    record { few = omega (arith, k, h.blocks_few); world = λ x. record { work = a x; residuals = b x }; plane_zero = c }
+
+pub blank_room : {f : List ℕ} (s : Still) (t : Trailer) (n blocks room : ℕ) (d e : List ℕ) (v : List ℤ) → GoodFile f t
+    → s ≡ still_in t → n ≡ area_of t → blocks ≡ t.blocks → 65536 ≤ room
+    → d ≡ replicate 8192 0 → v ≡ replicate 8192 (pos 0) → e ≡ replicate 8192 0
+    → BlankRoom s blocks (record { work = take n d; residuals = take n v }) (take n e) room
+blank_room s t n blocks room d e v h i m k r p q u =
+    let b = blank_part s t n blocks d e v h i m k p q u in
+    record { few = b.few; world = b.world; plane_zero = b.plane_zero; roomy = r }
 
 -- what is read of the file, without the zeros after it
 read_is : {A : Type 0} (f : ℕ → A) (n m : ℕ) (z : A) (d : List A) → n ≤ m → d ≡ fill f n (replicate m z) → take n d ≡ tabulated f n z
-read_is f n m z d h p = ap (take n) p ∙ take_fill f n m z h
+read_is f n m z d h p = ap (take n) p ∙ take_fill f n n m z (omega arith) h
 
 -- a plan of block records is one of four fields
 long : {A : Type 0} (f : ℕ → A) (n : ℕ) (z : A) → length (tabulated f n z) ≡ n
@@ -223,6 +241,26 @@ job_is b t s n plan source h e m p q =
     (λ i. record { still = e i; plan = x i; source = y i })
     ∙ ap (λ (u : Trailer). record { still = still_in u; plan = plan_in b u; source = source_of b u }) h.trailer
 
+-- the same, the plan read as four slices of numbers
+pub job_of_numbers : (b : List ℕ) (t : Trailer) (s : Still) (n : ℕ) (rows cols sides modes source : List ℕ) → GoodFile b t
+    → s ≡ still_in t → n ≡ area_of t
+    → rows ≡ fill (λ (k : ℕ). le_at 2 b (t.plan + 6 * k)) t.blocks (replicate 512 0)
+    → cols ≡ fill (λ (k : ℕ). le_at 2 b (t.plan + 2 + 6 * k)) t.blocks (replicate 512 0)
+    → sides ≡ fill (λ (k : ℕ). get_or b (t.plan + 4 + 6 * k) 0) t.blocks (replicate 512 0)
+    → modes ≡ fill (λ (k : ℕ). get_or b (t.plan + 5 + 6 * k) 0) t.blocks (replicate 512 0)
+    → source ≡ fill (λ (i : ℕ). le_at 2 b (t.samples + 2 * i)) n (replicate 8192 0)
+    → let m = t.blocks in
+    record { still = s; plan = plan_of (take m rows) (take m cols) (take m sides) (take m modes); source = take n source } ≡ job_of b
+job_of_numbers b t s n rows cols sides modes source h e m p₀ p₁ p₂ p₃ q =
+    let x₀ = read_is _ t.blocks 512 0 rows h.blocks_few p₀ in
+    let x₁ = read_is _ t.blocks 512 0 cols h.blocks_few p₁ in
+    let x₂ = read_is _ t.blocks 512 0 sides h.blocks_few p₂ in
+    let x₃ = read_is _ t.blocks 512 0 modes h.blocks_few p₃ in
+    let y : take n source ≡ source_of b t = read_is _ n 8192 0 source (omega (arith, h.samples_few)) q
+    ∙ ap (λ (k : ℕ). tabulated (λ (i : ℕ). le_at 2 b (t.samples + 2 * i)) k 0) m in
+    (λ i. record { still = e i; plan = plan_of (x₀ i) (x₁ i) (x₂ i) (x₃ i); source = y i })
+    ∙ ap (λ (u : Trailer). record { still = still_in u; plan = plan_in b u; source = source_of b u }) h.trailer
+
 -- the whole text of an input
 pub printed_is : (b : List ℕ) (t : Bool) → file_ok b ≡ t → cond t (told (job_of b)) (refusal 12 0) ≡ printed b
 unfolding printed
@@ -236,6 +274,14 @@ report_is b s d n q p e =
     let x : s ++ drop n d ≡ laid 0 (printed b) (replicate 65536 0) = ap (λ (m : ℕ). s ++ drop m d) z
     ∙ ap₂ (λ (u v : List ℕ). laid 0 u v) q p in
     let y : n ≡ length (printed b) = e ∙ ap length q in
+    λ i. record { text = x i; length = y i }
+
+-- the same of a text that lies over the zeros from their start on
+pub report_laid : (b s d e : List ℕ) (upto room : ℕ) → Laid 0 s d e upto room → s ≡ printed b → d ≡ replicate 65536 0
+    → record { text = e; length = upto } ≡ report_of b
+report_laid b s d e upto room h q p =
+    let x : e ≡ laid 0 (printed b) (replicate 65536 0) = h.over ∙ ap₂ (λ (u v : List ℕ). laid 0 u v) q p in
+    let y : upto ≡ length (printed b) = omega (arith, h.ends, ap length q) in
     λ i. record { text = x i; length = y i }
 
 -- the text is within its buffer

@@ -28,11 +28,13 @@ pub fn raised(r: i32) -> u32
     r.cast_unsigned().wrapping_add(2147483648)
 }
 
-// Whether a residual's size is at most a limit, of any i32; one test, so that many are tested at once.
+// Whether a residual's size is at most a limit, of any i32: a sum that wraps and one test, so that many are tested at once.
+#[tactic(auto, using(crate::specs::deltas::Raised::within_is))]
 pub fn residual_within(r: i32, limit: u16) -> bool
     ensures { result ≡ residual_within limit r }
 {
-    r.unsigned_abs() <= (limit as u32)
+    let most = limit as u32;
+    raised(r).wrapping_add(2147483648 + most) <= 2 * most
 }
 
 // Number 8: whether a residual is in its range.

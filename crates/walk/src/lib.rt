@@ -192,6 +192,7 @@ fn walk_blocks<P: Blocks>(
 }
 
 // How far a call goes, before its first write: the checks before the plan's, in hand, then the plan's, then number 11.
+#[tactic(auto, using(crate::proofs::Found::told), unfolding(crate::specs::checks::Checks::settle, crate::specs::calls::Steps::step_of))]
 pub fn granted<P: Blocks>(
     p: Progress,
     frame: Frame,

@@ -48,6 +48,12 @@ use Rattle.octets.proofs.sample.Reads as bytes-sample
 use Rattle.octets.proofs.whole_in.Reads as bytes-whole-in
 use Rattle.octets.proofs.residual.Reads as bytes-residual
 use Rattle.octets.proofs.lent.samples_ok.Reads as lent-samples-ok
+use Rattle.octets.proofs.lent.RefSliceU16Samples.count.Reads as lent-count
+use Rattle.octets.proofs.lent.RefSliceU16Samples.sample.Reads as lent-sample
+use Rattle.octets.proofs.lent.RefSliceU16Samples.exactly.Reads as lent-exactly
+use Rattle.octets.proofs.lent.RefSliceU8Samples.count.Reads as lent-bytes-count
+use Rattle.octets.proofs.lent.RefSliceU8Samples.sample.Reads as lent-bytes-sample
+use Rattle.octets.proofs.lent.RefSliceU8Samples.exactly.Reads as lent-bytes-exactly
 use Rattle.domain.proofs.depth_ok.Reads as domain-depth-ok
 use Rattle.domain.proofs.size_ok.Reads as domain-size-ok
 use Rattle.domain.proofs.mode_ok.Reads as domain-mode-ok
@@ -125,6 +131,13 @@ use Rattle.plan.proofs.records.record_at.Reads as records-record-at
 use Rattle.plan.proofs.check.Reads as plan-check
 use Rattle.plan.proofs.blocks.NumbersBlocks.block.Reads as plan-block-at
 use Rattle.plan.proofs.blocks.NumbersBlocks.whole.Reads as plan-is-whole
+use Rattle.plan.proofs.blocks.NumbersBlocks.count.Reads as plan-count
+use Rattle.plan.proofs.blocks.RefSliceBlockBlocks.block.Reads as plan-records-block
+use Rattle.plan.proofs.blocks.RefSliceBlockBlocks.whole.Reads as plan-records-whole
+use Rattle.plan.proofs.blocks.RefSliceBlockBlocks.count.Reads as plan-records-count
+use Rattle.plan.proofs.blocks.RefSliceU8Blocks.block.Reads as plan-bytes-block
+use Rattle.plan.proofs.blocks.RefSliceU8Blocks.whole.Reads as plan-bytes-whole
+use Rattle.plan.proofs.blocks.RefSliceU8Blocks.count.Reads as plan-bytes-count
 use Rattle.plan.proofs.check_plan_bytes.Reads as plan-check-plan-bytes
 use Rattle.plan.proofs.check_plan_numbers.Reads as plan-check-plan-numbers
 use Rattle.plan.specs.contracts.check_plan as plan-check-plan
@@ -342,6 +355,26 @@ bytes_residual_once a x y s t p q = p ∙ sym q
 lent_samples_ok_once : (S : _) (laws : _) (copy : _) (samples : _) (methods : _) (clone : _) (cloned : _) (κs : Lfts 1)
     → Once (lent-samples-ok.Post S laws copy samples methods clone cloned κs)
 lent_samples_ok_once S laws copy samples methods clone cloned κs a x y s t p q = p ∙ sym q
+
+-- of a list of samples
+lent_count_once : (κs : Lfts 1) → Once (lent-count.Post κs)
+lent_count_once κs a x y s t p q = p ∙ sym q
+
+lent_sample_once : (κs : Lfts 1) → Once (lent-sample.Post κs)
+lent_sample_once κs a x y s t p q = p ∙ sym q
+
+lent_exactly_once : (κs : Lfts 1) → Once (lent-exactly.Post κs)
+lent_exactly_once κs a x y s t p q = p ∙ sym q
+
+-- of samples' bytes
+lent_bytes_count_once : (κs : Lfts 1) → Once (lent-bytes-count.Post κs)
+lent_bytes_count_once κs a x y s t p q = p ∙ sym q
+
+lent_bytes_sample_once : (κs : Lfts 1) → Once (lent-bytes-sample.Post κs)
+lent_bytes_sample_once κs a x y s t p q = p ∙ sym q
+
+lent_bytes_exactly_once : (κs : Lfts 1) → Once (lent-bytes-exactly.Post κs)
+lent_bytes_exactly_once κs a x y s t p q = p ∙ sym q
 
 pairs_read_once : (κs : Lfts 2) → OnceLeft (λ s. s.1.1.0.now) (pairs-read.Post κs)
 pairs_read_once κs a x y s t p q = (refl, p ∙ sym q)
@@ -587,6 +620,29 @@ plan_block_at_once κs a x y s t p q = p ∙ sym q
 
 plan_is_whole_once : (κs : Lfts 1) → Once (plan-is-whole.Post κs)
 plan_is_whole_once κs a x y s t p q = p ∙ sym q
+
+plan_count_once : (κs : Lfts 1) → Once (plan-count.Post κs)
+plan_count_once κs a x y s t p q = p ∙ sym q
+
+-- of a plan of block records
+plan_records_block_once : (κs : Lfts 1) → Once (plan-records-block.Post κs)
+plan_records_block_once κs a x y s t p q = p ∙ sym q
+
+plan_records_whole_once : (κs : Lfts 1) → Once (plan-records-whole.Post κs)
+plan_records_whole_once κs a x y s t p q = p ∙ sym q
+
+plan_records_count_once : (κs : Lfts 1) → Once (plan-records-count.Post κs)
+plan_records_count_once κs a x y s t p q = p ∙ sym q
+
+-- of a plan of bytes
+plan_bytes_block_once : (κs : Lfts 1) → Once (plan-bytes-block.Post κs)
+plan_bytes_block_once κs a x y s t p q = p ∙ sym q
+
+plan_bytes_whole_once : (κs : Lfts 1) → Once (plan-bytes-whole.Post κs)
+plan_bytes_whole_once κs a x y s t p q = p ∙ sym q
+
+plan_bytes_count_once : (κs : Lfts 1) → Once (plan-bytes-count.Post κs)
+plan_bytes_count_once κs a x y s t p q = p ∙ sym q
 
 -- of a plan in any form
 plan_check_once : (P : _) (laws : _) (copy : _) (blocks : _) (methods : _) (clone : _) (cloned : _) (κs : Lfts 1)

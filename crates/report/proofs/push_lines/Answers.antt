@@ -22,11 +22,13 @@ split_at-requires c =
     let p = listed c.args.plan.now in
     let v = c.args.residuals.now in
     let k = c.loop-b.b-index in
-    omega (arith, among p v c.requires.plan k c.loop-b-test.true, ap length c.loop-b.invariant.rest_is, length-drop (place p.block k) v)
+    let part = among p v c.requires.plan k _ _ c.loop-b-test.true refl refl in
+    omega (arith, part, ap length c.loop-b.invariant.rest_is, length-drop (place p.block k) v)
 
 pub sum_of-requires : goal.sum_of-requires
 sum_of-requires c =
-    let few = square (listed c.args.plan.now) c.args.residuals.now c.requires.plan c.loop-b.b-index c.loop-b-test.true in
+    let p = listed c.args.plan.now in
+    let few = square p c.args.residuals.now c.requires.plan c.loop-b.b-index _ _ c.loop-b-test.true refl refl in
     omega (arith, c.split_at.ensures.front_len, few)
 
 pub loop-b-preserved : goal.loop-b-preserved
@@ -37,7 +39,7 @@ loop-b-preserved c =
     let k = l.b-index in
     let n = (p.block k).side * (p.block k).side in
     let e = l.invariant.rest_is in
-    let part = among p v c.requires.plan k c.loop-b-test.true in
+    let part = among p v c.requires.plan k _ _ c.loop-b-test.true refl refl in
     let sum = c.sum_of.ensures ∙ ap (sum_by nat_abs) (c.split_at.ensures.front ∙ ap (take n) e) ∙ sum_is v (place p.block k) n part in
     record {
       rest_is = c.split_at.ensures.back ∙ ap (drop n) e ∙ drop-drop n (place p.block k) v

@@ -1,5 +1,5 @@
 -- `report::tell_file` meets its contract. The parts of the arrays are what the file asks to be walked, and zeros.
-use Rattle.std.proofs.Common.{◌∙◌, sym, ap}
+use Rattle.std.proofs.Common.{◌∙◌, refl, sym, ap}
 use Rattle.plan.specs.tiling.Plan.{no_block}
 use Rattle.report.specs.Told.{told}
 use Rattle.report.specs.Whole.{fill_long, blank_part, job_is}
@@ -8,7 +8,7 @@ use Rattle.report.proofs.tell_file.Goals as goal
 pub tell-requires-clause-blank : goal.tell-requires-clause-blank
 tell-requires-clause-blank c =
     let blocks = sym (fill_long _ _ 512 no_block c.read_plan-plan.ensures c.requires.good.blocks_few) in
-    blank_part _ _ _ _ c.requires.good c.still.ensures c.area-samples.ensures.0 blocks
+    blank_part _ _ _ _ _ _ _ c.requires.good c.still.ensures c.area-samples.ensures.0 blocks refl refl refl
 
 pub returns : goal.returns
 returns c =
