@@ -24,7 +24,8 @@ pub overflow_add-next : goal.overflow_add-next
 overflow_add-next g c =
     let a = c.args in
     let s = g.S.Samples in
-    let k = begun a.self (s.exactly a.a (plane_area a.self) && s.exactly a.b (plane_area a.self)) (s.list a.a) (s.list a.b) (g.P.Blocks.plan a.plan)
+    let plan = g.P.Blocks.plan a.plan in
+    let k = begun a.self (s.exactly a.a (plane_area a.self) && s.exactly a.b (plane_area a.self)) (s.list a.a) (s.list a.b) plan
     (grind (arith, common_steps)) in
     record { fits = omega (arith, k.few) }
 
@@ -32,8 +33,9 @@ pub block_squares-squares-requires : goal.block_squares-squares-requires
 block_squares-squares-requires g c = let a = c.args in
     let e = c.loop-k.invariant.0 in
     let f = both_true _ _ e.fits in
-    pair_of e c.loop-k.k _ c.block-t.ensures (omega (arith, c.loop-k-test.true, c.count-k-end.ensures)) (g.met.S.Samples.whole a.a (plane_area a.self) f.0)
-    (g.met.S.Samples.whole a.b (plane_area a.self) f.1)
+    let n = plane_area a.self in
+    let whole = g.met.S.Samples.whole in
+    pair_of e c.loop-k.k _ c.block-t.ensures (omega (arith, c.loop-k-test.true, c.count-k-end.ensures)) (whole a.a n f.0) (whole a.b n f.1)
 
 pub add_block-requires : goal.add_block-requires
 add_block-requires g c =
@@ -54,5 +56,7 @@ pub returns-after-loop-k : goal.returns-after-loop-k
 returns-after-loop-k g c =
     let a = c.args in
     let plan = g.P.Blocks.plan a.plan in
-    let n : c.loop-k.k ≡ plan.count = omega (arith, c.loop-k-test.false, c.count-k-end.ensures, c.loop-k.auto.k-end) in
-    ended a.self (g.S.Samples.list a.a) (g.S.Samples.list a.b) plan _ c.loop-k.next c.loop-k.k (grind (arith, common_steps)) c.loop-k.invariant.1 n
+    let l = c.loop-k in
+    let list = g.S.Samples.list in
+    let n : l.k ≡ plan.count = omega (arith, c.loop-k-test.false, c.count-k-end.ensures, l.auto.k-end) in
+    ended a.self (list a.a) (list a.b) plan _ l.next l.k (grind (arith, common_steps)) l.invariant.1 n
